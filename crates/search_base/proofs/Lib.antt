@@ -1,0 +1,5 @@
+pub mod AnyLemmas
+pub mod CostOrderLemmas
+pub mod Members
+pub mod PathLemmas
+pub mod TallyWalks
