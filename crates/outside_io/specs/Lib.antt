@@ -1,0 +1,4 @@
+-- What the outside means, for contracts.
+pub mod Faults
+pub mod Bytes
+pub mod MemoryLink
