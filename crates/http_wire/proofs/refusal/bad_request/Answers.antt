@@ -1,0 +1,8 @@
+use Rattle.std.proofs.Common.{refl}
+use Rattle.http_wire.specs.Reply.{reply_head}
+use Rattle.std.specs.Fmt.{digits}
+use Rattle.http_wire.proofs.refusal.bad_request.Goals as goal
+
+pub returns : goal.returns
+unfolding reply_head digits
+returns c = refl
