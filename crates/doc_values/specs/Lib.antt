@@ -1,0 +1,10 @@
+pub mod DataCode
+pub mod Walk
+pub mod Whole
+pub mod Stored
+pub mod Ids
+pub mod Bodies
+pub mod Changes
+pub mod Answers
+pub mod Texts
+pub mod Leaves

@@ -1,0 +1,149 @@
+-- The walk of a document, and what is read off it: its paths, its first number that is not whole, and its rows.
+use Rattle.std.specs.Prelude.{ℕ, ℤ, pos, List, [], ◌∷◌, ◌++◌, map, Bool, false, ◌||◌, if◌then◌else◌, Option, Some, None, Result, Ok, Err}
+use Rattle.serde_json.specs.Data.{Num, unsigned, negative, float, Data, null, boolean, number, string, array, object, Items, no_items, item, Members, no_members, member}
+use Rattle.serde_json.specs.Find.{is_float}
+use Rattle.search_base.specs.declared.document.MarkKind.{MarkKind}
+use Rattle.search_base.specs.declared.document.MarkKind.TheVariants.{Exists, Null, Empty}
+use Rattle.doc_values.specs.declared.rows.FlatRow.{FlatRow}
+use Rattle.doc_values.specs.declared.rows.Flat.{Flat}
+use Rattle.doc_values.specs.declared.rows.Flat.TheVariants.{Text, Number, Bool as Truth, Mark}
+use Rattle.doc_values.specs.declared.document.DocumentFault.{DocumentFault}
+use Rattle.doc_values.specs.declared.document.DocumentFault.TheVariants.{NotObject, NumberNotWhole}
+
+-- the path of a member: its name, or below a path the path, a dot and the name
+abbrev pub path_of : Option (List ℕ) → List ℕ → List ℕ
+path_of None name = name
+path_of (Some above) name = above ++ 46 ∷ name
+
+-- the members of a value; of one that is no object none
+abbrev pub members_in : Data → Members
+members_in null = no_members
+members_in (boolean b) = no_members
+members_in (number n) = no_members
+members_in (string s) = no_members
+members_in (array ds) = no_members
+members_in (object ms) = ms
+
+-- ---- the walk
+
+-- a visited member
+pub record Visit : Type 0 where
+  pub path : List ℕ
+  pub value : Data
+
+-- Each member, and then the members inside its value: those of an object, and of the objects in an array, at any
+-- nesting, under the array's path.
+abbrev mutual
+  pub walk_of_members : Option (List ℕ) → Members → List Visit
+  walk_of_members above no_members = []
+  walk_of_members above (member name d ms) =
+      let path = path_of above name in record { path = path; value = d } ∷ (walk_inside path d ++ walk_of_members above ms)
+
+  pub walk_inside : List ℕ → Data → List Visit
+  walk_inside path null = []
+  walk_inside path (boolean b) = []
+  walk_inside path (number n) = []
+  walk_inside path (string s) = []
+  walk_inside path (array ds) = walk_inside_items path ds
+  walk_inside path (object ms) = walk_of_members (Some path) ms
+
+  pub walk_inside_items : List ℕ → Items → List Visit
+  walk_inside_items path no_items = []
+  walk_inside_items path (item d ds) = walk_inside path d ++ walk_inside_items path ds
+
+abbrev pub walk : Data → List Visit
+walk d = walk_of_members None (members_in d)
+
+abbrev pub visited : List Visit → List (List ℕ)
+visited visits = map (λ visit. visit.path) visits
+
+-- the path of each visited member, in the order of the walk
+abbrev pub paths_of : Data → List (List ℕ)
+paths_of d = visited (walk d)
+
+-- ---- numbers that are not whole
+
+-- whether a value holds a number that is not whole directly: through arrays, and not through objects
+abbrev mutual
+  pub holds_float : Data → Bool
+  holds_float null = false
+  holds_float (boolean b) = false
+  holds_float (number n) = is_float n
+  holds_float (string s) = false
+  holds_float (array ds) = items_hold_float ds
+  holds_float (object ms) = false
+
+  pub items_hold_float : Items → Bool
+  items_hold_float no_items = false
+  items_hold_float (item d ds) = holds_float d || items_hold_float ds
+
+-- the path of the first visited member whose value holds such a number
+abbrev pub first_broken : List Visit → Option (List ℕ)
+first_broken [] = None
+first_broken (visit ∷ later) = if holds_float visit.value then Some visit.path else first_broken later
+
+abbrev pub unless_broken : Members → Option (List ℕ) → Result Data DocumentFault
+unless_broken ms None = Ok (object ms)
+unless_broken ms (Some path) = Err (NumberNotWhole path)
+
+-- the document that a value is
+abbrev pub document_of : Data → Result Data DocumentFault
+document_of null = Err NotObject
+document_of (boolean b) = Err NotObject
+document_of (number n) = Err NotObject
+document_of (string s) = Err NotObject
+document_of (array ds) = Err NotObject
+document_of (object ms) = unless_broken ms (first_broken (walk_of_members None ms))
+
+-- ---- rows
+
+abbrev pub row : List ℕ → Flat → FlatRow
+row path value = record { path = path; value = value }
+
+-- the mark that holds of a value beside `Exists`
+abbrev pub mark_of : Data → Option MarkKind
+mark_of null = Some Null
+mark_of (boolean b) = None
+mark_of (number n) = None
+mark_of (string []) = Some Empty
+mark_of (string (x ∷ s)) = None
+mark_of (array no_items) = Some Empty
+mark_of (array (item d ds)) = None
+mark_of (object no_members) = Some Empty
+mark_of (object (member k d ms)) = None
+
+abbrev pub second_row : List ℕ → Option MarkKind → List FlatRow
+second_row path None = []
+second_row path (Some kind) = row path (Mark kind) ∷ []
+
+abbrev pub mark_rows : List ℕ → Data → List FlatRow
+mark_rows path d = row path (Mark Exists) ∷ second_row path (mark_of d)
+
+-- a document holds whole numbers alone
+abbrev pub whole_number : Num → ℤ
+whole_number (unsigned n) = pos n
+whole_number (negative z) = z
+whole_number (float x) = pos 0
+
+-- The leaves of a value at a path and the rows of the members in it, as they stand in the value.
+abbrev mutual
+  pub rows_in : List ℕ → Data → List FlatRow
+  rows_in path null = []
+  rows_in path (boolean b) = row path (Truth b) ∷ []
+  rows_in path (number n) = row path (Number (whole_number n)) ∷ []
+  rows_in path (string s) = row path (Text s) ∷ []
+  rows_in path (array ds) = rows_in_items path ds
+  rows_in path (object ms) = rows_of_members (Some path) ms
+
+  pub rows_in_items : List ℕ → Items → List FlatRow
+  rows_in_items path no_items = []
+  rows_in_items path (item d ds) = rows_in path d ++ rows_in_items path ds
+
+  pub rows_of_members : Option (List ℕ) → Members → List FlatRow
+  rows_of_members above no_members = []
+  rows_of_members above (member name d ms) =
+      let path = path_of above name in mark_rows path d ++ (rows_in path d ++ rows_of_members above ms)
+
+-- the rows of a document
+abbrev pub flat_rows : Data → List FlatRow
+flat_rows d = rows_of_members None (members_in d)

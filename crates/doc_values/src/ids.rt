@@ -1,0 +1,80 @@
+ghost use Rattle.std.specs.Prelude.{◌≡◌, ◌≢◌, Ok, Err, IfOk, MatchResult};
+ghost use Rattle.std.specs.List.{list_all};
+ghost use Rattle.serde_json.specs.View.{view};
+ghost use Rattle.doc_values.specs.Ids.{external_id_of, id_in, is_id as is_id_text, is_id_byte};
+ghost use Rattle.doc_values.specs.declared.ids.IdFault.TheVariants.{NoMemory as Memory};
+
+use crate::document::Document;
+use search_base::{NoMemory, Word};
+use serde_json::Value;
+use std::alloc::Global;
+
+/// Why a document has no id under a key.
+#[derive(Debug, Drop)]
+pub enum IdFault {
+    /// It has no member of that name at its top.
+    MissingId,
+    /// The member's value is no id.
+    BadId,
+    /// Memory ran out.
+    NoMemory,
+}
+
+impl From<NoMemory> for IdFault {
+    ghost from_gives = { λ _ fault. fault ≡ Memory };
+
+    fn from(_refused: NoMemory) -> IdFault {
+        IdFault::NoMemory
+    }
+}
+
+/// The external id of a document: what its top member named `key` holds, where that is an id.
+pub fn external_id(alloc: Global, document: &Document, key: &str) -> Result<Word, IdFault>
+    ensures { MatchResult result (λ id. external_id_of key.now document.now ≡ Ok id)
+        (λ fault. fault ≢ Memory → external_id_of key.now document.now ≡ Err fault) }
+{
+    match document.as_json().get(key) {
+        None => Err(IdFault::MissingId),
+        Some(value) => match id_of(alloc, value)? {
+            Some(id) => Ok(id),
+            None => Err(IdFault::BadId),
+        },
+    }
+}
+
+/// The external id that a value gives: a whole number's decimal text, or a text of 1 to 511 bytes that are ASCII
+/// letters, digits, `-` or `_`. None where it is neither.
+pub fn id_of(alloc: Global, value: &Value) -> Result<Option<Word>, NoMemory>
+    ensures { IfOk result (λ id. id ≡ id_in (view value.now)) }
+{
+    if let Some(n) = value.as_u64() {
+        let text = n.to_string(alloc)?;
+        return Ok(Some(Word::new(alloc, text.as_str())?));
+    }
+    if let Some(n) = value.as_i64() {
+        let text = n.to_string(alloc)?;
+        return Ok(Some(Word::new(alloc, text.as_str())?));
+    }
+    match value {
+        Value::String(text) => if is_id(text.as_str()) {
+            Ok(Some(Word::new(alloc, text.as_str())?))
+        } else {
+            Ok(None)
+        },
+        _ => Ok(None),
+    }
+}
+
+fn is_id(text: &str) -> bool
+    ensures { result ≡ is_id_text text.now }
+{
+    !text.is_empty() && text.len() <= 511 && are_id_bytes(text.as_bytes())
+}
+
+fn are_id_bytes(bytes: &[u8]) -> bool
+    ensures { result ≡ list_all is_id_byte bytes.now }
+{
+    bytes
+        .iter()
+        .all(|b| b.is_ascii_alphanumeric() || *b == b'-' || *b == b'_')
+}

@@ -1,0 +1,34 @@
+//! Documents: JSON objects whose numbers are all whole, and what is read off them.
+//!
+//! Promises the walk of a document (its paths and rows), its id and primary key, the documents of a body, the merge
+//! of an update, and a canonical text that gives the document back. A fault names its cause exactly.
+//! Contracts see a `Document` as its JSON data, a `Word` as its bytes, and a `Change` as a `ChangeData`.
+//! Stands on `search_base` for words and on `serde_json` for JSON as RFC 8259 has it.
+#![tactic(auto)]
+
+mod bodies;
+mod change;
+mod document;
+mod floats;
+mod ids;
+mod keys;
+mod laws;
+mod merge;
+mod rows;
+mod stored;
+#[cfg(test)]
+mod tests;
+mod text;
+mod walk;
+
+pub use bodies::{BodyFault, documents_of};
+pub use change::{Change, ChangeKind};
+pub use document::{Document, DocumentFault};
+pub use ids::{IdFault, external_id, id_of};
+pub use keys::{KeyFault, infer_key};
+pub use laws::rows_say_the_walk;
+pub use merge::merged;
+pub use rows::{Flat, FlatRow, flatten};
+pub use stored::DocumentText;
+pub use text::{document_at, document_text};
+pub use walk::paths;
