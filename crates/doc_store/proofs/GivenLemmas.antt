@@ -1,0 +1,74 @@
+-- Internal ids that are given one after the other.
+use Rattle.std.proofs.Common.{◌≡◌, ℕ, ◌+◌, ◌<◌, cond, List, [], ◌∷◌, ◌++◌, length, map, drop, get_or, None, Some, refl, sym, ap, subst, ◌∙◌, arith, append_assoc}
+use Rattle.std.specs.Prelude.{bytes_eq}
+use Rattle.std.specs.Option.{is_some, unwrap_or}
+use Rattle.search_base.specs.declared.DocId.{DocId}
+use Rattle.doc_store.specs.declared.rows.StoreRow.{StoreRow}
+use Rattle.doc_store.specs.Names.{Names}
+use Rattle.doc_store.specs.Given.{known_id}
+use Rattle.doc_store.specs.Store.{Store, id_of, next_after, stored, all_stored, id_given, ids_given}
+use Rattle.doc_store.proofs.ReserveLemmas.{drop-item}
+use Rattle.doc_store.proofs.RowLemmas.{id_of-put, next_id-grows}
+
+-- The ids so far, and the store that the documents so far make of s.
+pub record Reached (all left : List StoreRow) (s : Store) (ids fresh : Names) (next : ℕ) (so_far : List ℕ) : Type 0 where
+  pub at : Store
+  pub free : at.next_id ≡ next
+  pub index : (q : List ℕ) → known_id ids fresh q ≡ id_of q at.rows
+  pub rest : all_stored left at ≡ all_stored all s
+  pub given : so_far ++ ids_given left at ≡ ids_given all s
+
+pub reached_none : (all : List StoreRow) (s : Store) (ids fresh : Names) (free : ℕ) → s.next_id ≡ free → ((q : List ℕ) → known_id ids fresh q ≡ id_of q s.rows) → Reached all all s ids fresh free []
+reached_none all s ids fresh free f h = record { at = s; free = f; index = h; rest = refl; given = refl }
+
+pub reached_one : (all : List StoreRow) (r : StoreRow) (left : List StoreRow) (s : Store) (ids fresh fresh' : Names) (free free' : ℕ) (given : List ℕ) (id : ℕ)
+    → Reached all (r ∷ left) s ids fresh free given
+    → id ≡ unwrap_or (known_id ids fresh r.external) free
+    → free' ≡ cond (is_some (known_id ids fresh r.external)) free (free + 1)
+    → ((q : List ℕ) → known_id ids fresh' q ≡ cond (bytes_eq r.external q) (Some id) (known_id ids fresh q))
+    → Reached all left s ids fresh' free' (given ++ id ∷ [])
+reached_one all r left s ids fresh fresh' free free' given id h is next known = record {
+  at = stored r h.at;
+  free = ap (λ o. cond (is_some o) h.at.next_id (h.at.next_id + 1)) (sym (h.index r.external)) ∙ ap (λ n. cond (is_some (known_id ids fresh r.external)) n (n + 1)) h.free ∙ sym next;
+  index = λ q. known q ∙ ap (λ v. cond (bytes_eq r.external q) v (known_id ids fresh q)) (ap Some is_given) ∙ ap (λ v. cond (bytes_eq r.external q) (Some (id_given r h.at)) v) (h.index q) ∙ sym (id_of-put r h.at.next_id h.at.rows q);
+  rest = h.rest;
+  given = append_assoc given (id ∷ []) (ids_given left (stored r h.at)) ∙ ap (λ v. given ++ v ∷ ids_given left (stored r h.at)) is_given ∙ h.given;
+}
+  where
+    is_given : id ≡ id_given r h.at
+    is_given = is ∙ ap (λ o. unwrap_or o free) (h.index r.external) ∙ ap (unwrap_or (id_of r.external h.at.rows)) (sym h.free)
+
+-- a new document where no id is left
+pub reached_spent : (all : List StoreRow) (r : StoreRow) (left : List StoreRow) (s : Store) (ids fresh : Names) (free : ℕ) (given : List ℕ)
+    → Reached all (r ∷ left) s ids fresh free given → known_id ids fresh r.external ≡ None → free < (all_stored all s).next_id
+reached_spent all r left s ids fresh free given h none =
+    let new : next_after r h.at.next_id h.at.rows ≡ h.at.next_id + 1 = ap (λ o. cond (is_some o) h.at.next_id (h.at.next_id + 1)) (sym (h.index r.external) ∙ none) in
+    let grows = next_id-grows left (stored r h.at) in
+    let same : (all_stored left (stored r h.at)).next_id ≡ (all_stored all s).next_id = ap (λ t. t.next_id) h.rest in
+    omega (arith, h.free)
+
+map-append : {A B : Type 0} (f : A → B) (xs ys : List A) → map f (xs ++ ys) ≡ map f xs ++ map f ys
+map-append f [] ys = refl
+map-append f (x ∷ xs) ys = ap (λ v. f x ∷ v) (map-append f xs ys)
+
+-- the same at the document that a loop has come to
+pub reached_item : (all : List StoreRow) (i : ℕ) (r : StoreRow) (external : List ℕ) (s : Store) (ids fresh fresh' : Names) (free free' : ℕ) (given given' : List DocId) (id : ℕ)
+    → i < length all → r ≡ get_or all i r → external ≡ r.external
+    → Reached all (drop i all) s ids fresh free (map (λ d. d.0) given)
+    → id ≡ unwrap_or (known_id ids fresh external) free
+    → free' ≡ cond (is_some (known_id ids fresh external)) free (free + 1)
+    → ((q : List ℕ) → known_id ids fresh' q ≡ cond (bytes_eq external q) (Some id) (known_id ids fresh q))
+    → given' ≡ given ++ record { 0 = id } ∷ []
+    → Reached all (drop (i + 1) all) s ids fresh' free' (map (λ d. d.0) given')
+reached_item all i r external s ids fresh fresh' free free' given given' id within is same h given_as next known more =
+    let here = subst (λ left. Reached all left s ids fresh free (map (λ d. d.0) given)) (drop-item all i r within is) h in
+    let next' = subst (λ e. free' ≡ cond (is_some (known_id ids fresh e)) free (free + 1)) same next in
+    let id_is = subst (λ e. id ≡ unwrap_or (known_id ids fresh e) free) same given_as in
+    let known' = subst (λ e. (q : List ℕ) → known_id ids fresh' q ≡ cond (bytes_eq e q) (Some id) (known_id ids fresh q)) same known in
+    subst (λ l. Reached all (drop (i + 1) all) s ids fresh' free' l) (sym (ap (map (λ d. d.0)) more ∙ map-append (λ d. d.0) given (record { 0 = id } ∷ [])))
+    (reached_one all r (drop (i + 1) all) s ids fresh fresh' free free' (map (λ d. d.0) given) id here id_is next' known')
+
+pub spent_item : (all : List StoreRow) (i : ℕ) (r : StoreRow) (external : List ℕ) (s : Store) (ids fresh : Names) (free : ℕ) (given : List ℕ)
+    → i < length all → r ≡ get_or all i r → external ≡ r.external → Reached all (drop i all) s ids fresh free given → known_id ids fresh external ≡ None → free < (all_stored all s).next_id
+spent_item all i r external s ids fresh free given within is same h none =
+    reached_spent all r (drop (i + 1) all) s ids fresh free given (subst (λ left. Reached all left s ids fresh free given) (drop-item all i r within is) h) (ap (known_id ids fresh) (sym same) ∙ none)

@@ -1,0 +1,14 @@
+pub mod NameLemmas
+pub mod RowLemmas
+pub mod SlotLemmas
+pub mod PathLemmas
+pub mod GivenLemmas
+pub mod PutLemmas
+pub mod StoreLemmas
+pub mod GoneLemmas
+pub mod SoundLemmas
+pub mod ChangeLemmas
+pub mod PageLemmas
+pub mod RestoreLemmas
+pub mod LawLemmas
+pub mod ReserveLemmas

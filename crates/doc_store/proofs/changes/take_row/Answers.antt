@@ -1,0 +1,59 @@
+use Rattle.std.proofs.Common.{◌≡◌, ◌<◌, ◌≤◌, ◌∙◌, sym, ap, subst, arith, rules, length, Some, None, cond}
+use Rattle.std.proofs.Math.ListN.{set}
+use Rattle.std.specs.Prelude.{bytes_eq, vec_len}
+use Rattle.std.specs.Option.{is_some}
+use Rattle.doc_store.specs.Names.{number_at}
+use Rattle.doc_store.specs.Slots.{rows_of, IsIndex}
+use Rattle.doc_store.proofs.GoneLemmas.{absent-row}
+use Rattle.doc_store.proofs.SlotLemmas.{slot-got, slot-past, slot-emptied, index-emptied}
+use Rattle.doc_store.proofs.changes.take_row.Goals as goal
+
+pub returns-then-at-len-clause-rows : goal.returns-then-at-len-clause-rows
+returns-then-at-len-clause-rows c =
+    let len : vec_len c.args.slots.now ≡ length c.args.slots.now.items = search rules in
+    let past : length c.args.slots.now.items ≤ c.args.id.0 = omega arith in
+    sym (absent-row c.args.id.0 (rows_of c.args.slots.now.items) (slot-past c.args.slots.now.items c.args.id.0 past))
+
+pub returns-then-at-len-clause-found : goal.returns-then-at-len-clause-found
+returns-then-at-len-clause-found c =
+    let len : vec_len c.args.slots.now ≡ length c.args.slots.now.items = search rules in
+    let past : length c.args.slots.now.items ≤ c.args.id.0 = omega arith in
+    sym (ap is_some (slot-past c.args.slots.now.items c.args.id.0 past))
+
+pub returns-in-Some-clause-rows : goal.returns-in-Some-clause-rows
+returns-in-Some-clause-rows c = ap (λ v. rows_of (set c.args.slots.now.items c.args.id.0 v)) c.replace.ensures.after ∙ slot-emptied c.args.slots.now.items c.args.id.0
+
+pub returns-in-Some-clause-index : goal.returns-in-Some-clause-index
+returns-in-Some-clause-index c =
+    let slots = c.args.slots.now.items in
+    let len : vec_len c.args.slots.now ≡ length slots = search rules in
+    let within : c.args.id.0 < length slots = omega arith in
+    let here = slot-got slots c.args.id.0 c.index_mut.result.now (Some c.in-Some.row) within c.index_mut.ensures.value (sym c.in-Some.ensures.value) in
+    subst (λ v. IsIndex c.take_out.new.self (rows_of (set slots c.args.id.0 v))) (sym c.replace.ensures.after)
+    (index-emptied slots c.args.id.0 c.in-Some.row c.args.ids.now c.take_out.new.self c.requires.index c.requires.apart here
+    (λ q. c.take_out.ensures q ∙ ap (λ e. cond (bytes_eq e q) None (number_at q c.args.ids.now)) c.external.ensures))
+
+pub returns-in-Some-clause-found : goal.returns-in-Some-clause-found
+returns-in-Some-clause-found c =
+    let slots = c.args.slots.now.items in
+    let len : vec_len c.args.slots.now ≡ length slots = search rules in
+    let within : c.args.id.0 < length slots = omega arith in
+    sym (ap is_some (slot-got slots c.args.id.0 c.index_mut.result.now (Some c.in-Some.row) within c.index_mut.ensures.value (sym c.in-Some.ensures.value)))
+
+pub returns-in-None-clause-rows : goal.returns-in-None-clause-rows
+returns-in-None-clause-rows c = ap (λ v. rows_of (set c.args.slots.now.items c.args.id.0 v)) c.replace.ensures.after ∙ slot-emptied c.args.slots.now.items c.args.id.0
+
+pub returns-in-None-clause-index : goal.returns-in-None-clause-index
+returns-in-None-clause-index c =
+    let slots = c.args.slots.now.items in
+    let len : vec_len c.args.slots.now ≡ length slots = search rules in
+    let within : c.args.id.0 < length slots = omega arith in
+    let none = slot-got slots c.args.id.0 c.index_mut.result.now None within c.index_mut.ensures.value (sym c.in-None.ensures.value) in
+    subst (IsIndex c.args.ids.now) (sym (ap (λ v. rows_of (set slots c.args.id.0 v)) c.replace.ensures.after ∙ slot-emptied slots c.args.id.0 ∙ absent-row c.args.id.0 (rows_of slots) none)) c.requires.index
+
+pub returns-in-None-clause-found : goal.returns-in-None-clause-found
+returns-in-None-clause-found c =
+    let slots = c.args.slots.now.items in
+    let len : vec_len c.args.slots.now ≡ length slots = search rules in
+    let within : c.args.id.0 < length slots = omega arith in
+    sym (ap is_some (slot-got slots c.args.id.0 c.index_mut.result.now None within c.index_mut.ensures.value (sym c.in-None.ensures.value)))

@@ -1,0 +1,10 @@
+pub mod Names
+pub mod Paths
+pub mod Store
+pub mod Sound
+pub mod Given
+pub mod Restored
+pub mod Laws
+pub mod Slots
+pub mod StoreView
+pub mod Codes

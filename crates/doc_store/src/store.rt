@@ -1,0 +1,218 @@
+ghost use Rattle.std.specs.Prelude.{◌≡◌, ◌≢◌, ◌↔◌, ℕ, ◌+◌, ◌-◌, [], None, Some, map, length, take, drop, IsTrue, IfOk, IfErr};
+ghost use Rattle.std.specs.Option.{option_map, is_some};
+ghost use Rattle.doc_store.specs.declared.rows.StoreFault.TheVariants.{NoMemory as Memory};
+ghost use Rattle.doc_store.specs.Store.{all_stored, id_of, spent, row_at, removed};
+ghost use Rattle.doc_store.specs.Sound.{IsSound};
+ghost use Rattle.doc_store.specs.Restored.{restored};
+ghost use Rattle.doc_store.specs.StoreView.{IsPlanFor};
+
+use crate::changes::{push_paths, put_rows, reserve, take_row};
+use crate::given::give_ids;
+use crate::places::Places;
+use crate::registry::Registry;
+use crate::restore::put_back;
+use crate::rows::{StoreFault, StoreRow, StoredRow};
+use crate::slots::{Slots, document_at, documents_between};
+use crate::texts::{TextRow, text_rows};
+use crate::walked::new_paths;
+use doc_values::DocumentText;
+use search_base::{DocId, NoMemory, Steps, Word};
+use std::alloc::Global;
+use std::marker::Model;
+
+/// The documents of one index with their internal ids, and its registry of paths.
+#[derive(Drop)]
+pub struct DocStore {
+    ids: Places,
+    slots: Slots,
+    paths: Registry,
+    count: u64,
+}
+
+impl Model for DocStore {
+    ghost use Rattle.std.specs.Prelude.{◌-◌};
+    ghost use Rattle.std.specs.Vec.{vec_len, vec_capacity};
+    ghost use Rattle.doc_store.specs.StoreView.{StoreView};
+    ghost use Rattle.doc_store.specs.Codes.{view_code};
+    ghost use Rattle.doc_store.specs.Slots.{content_of, IsStore};
+
+    ghost Value = { StoreView };
+
+    ghost coded = { view_code };
+
+    ghost view = { λ s. record { content = content_of s.paths.paths s.slots.items; row_room = vec_capacity s.slots - vec_len s.slots; ids = s.ids; path_room = s.paths.room; path_places = s.paths.places } };
+
+    ghost invariant = { λ s. IsStore s.ids s.slots.items s.paths.paths s.count };
+}
+
+/// Documents to store, for which all memory is there. A plan is for the store as it was when the plan was made.
+#[derive(Drop)]
+pub struct StorePlan {
+    rows: Vec<TextRow>,
+    ids: Vec<DocId>,
+    added: Vec<Word>,
+}
+
+impl Model for StorePlan {
+    ghost use Rattle.std.specs.Prelude.{map};
+    ghost use Rattle.doc_store.specs.StoreView.{PlanView};
+    ghost use Rattle.doc_store.specs.Codes.{plan_code};
+
+    ghost Value = { PlanView };
+
+    ghost coded = { plan_code };
+
+    ghost view = { λ p. record { rows = p.rows.items; ids = map (λ id. id.0) p.ids.items; added = p.added.items } };
+}
+
+impl DocStore {
+    /// The empty store.
+    pub fn new(alloc: Global) -> Result<DocStore, NoMemory>
+        ensures { IfOk result (λ store. store.content ≡ record { paths = []; next_id = 0; rows = [] }) }
+    {
+        Ok(DocStore {
+            ids: Places::new(alloc),
+            slots: Vec::new(alloc),
+            paths: Registry::new(alloc),
+            count: 0,
+        })
+    }
+
+    /// The store with exactly these paths and documents, in the order of their internal ids.
+    pub fn restore(
+        alloc: Global,
+        paths: Vec<Word>,
+        next_id: u32,
+        documents: Vec<StoredRow>,
+    ) -> Result<DocStore, NoMemory>
+        requires { IsSound (restored paths.items next_id documents.items) }
+        ensures { IfOk result (λ store. store.content ≡ restored paths.items next_id documents.items) }
+    {
+        let count = documents.len() as u64;
+        let mut ids = Places::new(alloc);
+        let mut slots = Vec::with_capacity(alloc, next_id as usize)?;
+        put_back(alloc, &mut ids, &mut slots, next_id, documents)?;
+        Ok(DocStore {
+            ids,
+            slots,
+            paths: Registry::from_paths(alloc, paths)?,
+            count,
+        })
+    }
+
+    /// The internal id of the document with an external id. It takes no memory.
+    pub fn id_of(&self, external: &str) -> Option<DocId>
+        ensures { option_map (λ id. id.0) result ≡ id_of external.now self.now.content.rows }
+    {
+        match self.ids.find(external) {
+            Some(id) => Some(DocId(id)),
+            None => None,
+        }
+    }
+
+    /// How many documents there are.
+    pub fn len(&self) -> u64
+        ensures count { result ≡ length self.now.content.rows }
+        ensures sound { IsSound self.now.content }
+    {
+        self.count
+    }
+
+    pub fn is_empty(&self) -> bool
+        ensures { IsTrue result ↔ (self.now.content.rows ≡ []) }
+    {
+        self.count == 0
+    }
+
+    /// The document with an internal id. It takes one step and no memory.
+    pub fn fetch<F>(&self, id: DocId, fetches: &mut Steps<F>) -> Option<&DocumentText>
+        ensures document { option_map (λ document. document.now) result ≡ option_map (λ row. row.document) (row_at id.0 self.now.content.rows) }
+        ensures step { fetches.new ≡ fetches.old + 1 }
+    {
+        fetches.tick();
+        document_at(self.slots.as_slice(), id)
+    }
+
+    /// The documents from number `offset` to before number `end`, from 0, in the order of their internal ids.
+    pub fn page(&self, alloc: Global, offset: u64, end: u64) -> Result<Vec<&DocumentText>, NoMemory>
+        ensures { IfOk result (λ page. map (λ document. document.now) page.items ≡ map (λ row. row.document) (take (end - offset) (drop offset self.now.content.rows))) }
+    {
+        documents_between(alloc, self.slots.as_slice(), offset, end)
+    }
+
+    /// The internal id that the next new document takes, at most 1,000,000.
+    pub fn next_id(&self) -> u32
+        ensures { result ≡ self.now.content.next_id }
+    {
+        self.slots.len() as u32
+    }
+
+    /// The paths of the registry in order of arrival. A path's number is its place, from 0.
+    pub fn paths(&self) -> &[Word]
+        ensures { result.now ≡ self.now.content.paths }
+    {
+        self.paths.paths()
+    }
+
+    /// Takes all memory that it takes to store documents one after the other, and changes nothing of what the store holds.
+    /// A refusal changes nothing either. `IdsSpent` comes where an internal id would be 1,000,000, and else `PathsSpent`
+    /// where the registry would have more than 1,000 paths. There are fewer than 2^32 documents.
+    pub fn prepare(&mut self, alloc: Global, rows: Vec<StoreRow>) -> Result<StorePlan, StoreFault>
+        ensures content { self.new.content ≡ self.old.content }
+        ensures rows { IfOk result (λ plan. plan.rows ≡ rows.items) }
+        ensures plan { IfOk result (λ plan. IsPlanFor self.new plan) }
+        ensures fault { IfErr result (λ fault. fault ≢ Memory → spent (all_stored rows.items self.old.content) ≡ Some fault) }
+    {
+        let come = rows.as_slice();
+        let ids = give_ids(alloc, &self.ids, self.slots.len() as u32, come)?;
+        let added = new_paths(alloc, &self.paths, come)?;
+        reserve(alloc, &mut self.ids, &mut self.slots, come)?;
+        self.paths.reserve(alloc, added.as_slice())?;
+        let rows = text_rows(alloc, rows)?;
+        Ok(StorePlan { rows, ids, added })
+    }
+
+    /// Stores the documents of a plan that was made for the store as it is. It takes no memory.
+    pub fn commit(&mut self, plan: StorePlan)
+        requires { IsPlanFor self.old plan }
+        ensures { self.new.content ≡ all_stored plan.rows self.old.content }
+    {
+        let StorePlan {
+            rows,
+            ids: _,
+            added,
+        } = plan;
+        let before = self.slots.len();
+        put_rows(&mut self.ids, &mut self.slots, rows);
+        self.count += (self.slots.len() - before) as u64;
+        push_paths(&mut self.paths, added);
+    }
+
+    /// Takes a document out, and tells whether it was there. Its internal id is never given again. It takes no memory.
+    pub fn remove(&mut self, id: DocId) -> bool
+        ensures content { self.new.content ≡ removed id.0 self.old.content }
+        ensures found { result ≡ is_some (row_at id.0 self.old.content.rows) }
+    {
+        let found = take_row(&mut self.ids, &mut self.slots, id);
+        if found {
+            self.count -= 1;
+        }
+        found
+    }
+}
+
+impl StorePlan {
+    /// The internal id of each document, in order.
+    pub fn ids(&self) -> &[DocId]
+        ensures { map (λ id. id.0) result.now ≡ self.now.ids }
+    {
+        self.ids.as_slice()
+    }
+
+    /// The paths that the registry gains, in order.
+    pub fn added(&self) -> &[Word]
+        ensures { result.now ≡ self.now.added }
+    {
+        self.added.as_slice()
+    }
+}

@@ -1,0 +1,112 @@
+use crate::{DocStore, StoreFault, StoreRow};
+use doc_values::documents_of;
+use search_base::{DocId, Steps, Word};
+use serde_json::Value;
+use std::alloc::Global;
+use std::process::Abort;
+
+// The documents of a body, each under the external id at its place.
+fn rows(rt: &impl Abort, alloc: Global, externals: &[&str], body: &str) -> Vec<StoreRow> {
+    let value = Value::from_str(alloc, body).expect(rt, "JSON");
+    let documents = documents_of(alloc, value).expect(rt, "documents");
+    let mut rows = Vec::new(alloc);
+    for (document, external) in documents.into_iter().zip(externals.iter()) {
+        let external = Word::new(alloc, external).expect(rt, "memory");
+        rows.push(StoreRow { external, document })
+            .expect(rt, "memory");
+    }
+    rows
+}
+
+#[test]
+fn documents_come_and_go(rt: HostRuntime) {
+    let alloc = rt.alloc();
+    let mut store = DocStore::new(alloc).expect(&rt, "memory");
+    let come = rows(
+        &rt,
+        alloc,
+        &["7", "a"],
+        "[{\"id\":7,\"t\":1},{\"id\":\"a\"}]",
+    );
+    let plan = store.prepare(alloc, come).expect(&rt, "a plan");
+    assert_eq!(rt;
+        (plan.ids().len(), plan.added().len(), store.next_id()),
+        (2, 2, 0)
+    );
+    store.commit(plan);
+    assert_eq!(rt;
+        (store.id_of("a"), store.id_of("b")),
+        (Some(DocId(1)), None)
+    );
+    assert_eq!(rt;
+        (store.next_id(), store.len(), store.paths().len()),
+        (2, 2, 2)
+    );
+    assert!(rt; store.remove(DocId(0)));
+    assert!(rt; !store.remove(DocId(0)));
+    assert_eq!(rt;
+        (store.id_of("7"), store.next_id(), store.len()),
+        (None, 2, 1)
+    );
+}
+
+#[test]
+fn later_documents_replace_earlier_ones(rt: HostRuntime) {
+    let alloc = rt.alloc();
+    let mut store = DocStore::new(alloc).expect(&rt, "memory");
+    let body = "[{\"old\":1},{\"b\":2},{\"new\":{\"old\":3}}]";
+    let come = rows(&rt, alloc, &["1", "2", "1"], body);
+    let plan = store.prepare(alloc, come).expect(&rt, "a plan");
+    assert_eq!(rt; plan.ids(), [DocId(0), DocId(1), DocId(0)].as_slice());
+    store.commit(plan);
+    assert_eq!(rt;
+        (store.len(), store.next_id(), store.paths().len()),
+        (2, 2, 4)
+    );
+    let mut fetches = Steps::<u8>::new();
+    let first = store
+        .fetch(DocId(0), &mut fetches)
+        .expect(&rt, "a document");
+    assert_eq!(rt; first.text(), "{\"new\":{\"old\":3}}");
+    assert!(rt; store.fetch(DocId(2), &mut fetches).is_none());
+    let page = store.page(alloc, 1, 9).expect(&rt, "memory");
+    assert_eq!(rt; page.len(), 1);
+    assert_eq!(rt; page[0].text(), "{\"b\":2}");
+}
+
+#[test]
+fn internal_ids_end(rt: HostRuntime) {
+    let alloc = rt.alloc();
+    let none = Vec::new(alloc);
+    let mut store = DocStore::restore(alloc, Vec::new(alloc), 1_000_000, none).expect(
+        &rt, "memory",
+    );
+    let spent = store.prepare(alloc, rows(&rt, alloc, &["n"], "[{}]"));
+    assert!(rt; matches!(spent, Err(StoreFault::IdsSpent)));
+    assert_eq!(rt; (store.next_id(), store.len()), (1_000_000, 0));
+}
+
+// A body of one document with that many members.
+fn wide(rt: &impl Abort, alloc: Global, members: u32) -> String {
+    let mut body = String::from_str(alloc, "[{\"p\":0").expect(rt, "memory");
+    for number in 1..members {
+        write!(body, ",\"p{number}\":0").expect(rt, "memory");
+    }
+    body.push_str("}]").expect(rt, "memory");
+    body
+}
+
+#[test]
+fn paths_end(rt: HostRuntime) {
+    let alloc = rt.alloc();
+    let mut store = DocStore::new(alloc).expect(&rt, "memory");
+    let body = wide(&rt, alloc, 1_001);
+    let spent = store.prepare(alloc, rows(&rt, alloc, &["w"], body.as_str()));
+    assert!(rt; matches!(spent, Err(StoreFault::PathsSpent)));
+    assert_eq!(rt; store.paths().len(), 0);
+    let body = wide(&rt, alloc, 1_000);
+    let plan = store
+        .prepare(alloc, rows(&rt, alloc, &["w"], body.as_str()))
+        .expect(&rt, "a plan");
+    assert_eq!(rt; plan.added().len(), 1_000);
+}

@@ -1,0 +1,74 @@
+ghost use Rattle.std.specs.Prelude.{◌≡◌, ◌≢◌, ℕ, ◌+◌, ◌≤◌, ◌<◌, List, ◌++◌, length, IfOk, OnOk, IfErr};
+ghost use Rattle.doc_store.specs.declared.rows.StoreFault.TheVariants.{NoMemory as Memory, PathsSpent};
+ghost use Rattle.doc_store.specs.Paths.{has_path, with_path, registered};
+ghost use Rattle.doc_store.specs.Store.{paths_after};
+
+use crate::registry::Registry;
+use crate::rows::{MAX_PATHS, StoreFault, StoreRow};
+use doc_values::paths;
+use search_base::Word;
+use std::alloc::Global;
+
+/// The paths that a registry gains by documents that come, in the order in which it gains them.
+pub(crate) fn new_paths(
+    alloc: Global,
+    registry: &Registry,
+    rows: &[StoreRow],
+) -> Result<Vec<Word>, StoreFault>
+    requires { length registry.now.paths ≤ MAX_PATHS }
+    ensures added { IfOk result (λ added. registry.now.paths ++ added.items ≡ paths_after rows.now registry.now.paths) }
+    ensures within { IfOk result (λ added. length registry.now.paths + length added.items ≤ MAX_PATHS) }
+    ensures spent { IfErr result (λ fault. fault ≢ Memory → (fault ≡ PathsSpent) × (MAX_PATHS < length (paths_after rows.now registry.now.paths))) }
+{
+    let mut fresh = Registry::new(alloc);
+    for row in rows {
+        let walk = paths(alloc, &row.document)?;
+        note_paths(alloc, registry, &mut fresh, walk)?;
+    }
+    Ok(fresh.into_paths())
+}
+
+fn note_paths(
+    alloc: Global,
+    registry: &Registry,
+    fresh: &mut Registry,
+    walk: Vec<Word>,
+) -> Result<(), StoreFault>
+    requires { length registry.now.paths + length fresh.old.paths ≤ MAX_PATHS }
+    ensures noted { OnOk result (registry.now.paths ++ fresh.new.paths ≡ registered walk.items (registry.now.paths ++ fresh.old.paths)) }
+    ensures within { OnOk result (length registry.now.paths + length fresh.new.paths ≤ MAX_PATHS) }
+    ensures spent { IfErr result (λ fault. fault ≢ Memory → (fault ≡ PathsSpent) × (MAX_PATHS < length (registered walk.items (registry.now.paths ++ fresh.old.paths)))) }
+{
+    for path in walk {
+        note_path(alloc, registry, fresh, path)?;
+    }
+    Ok(())
+}
+
+/// Adds a path to the fresh ones where it is neither registered nor among them.
+fn note_path(
+    alloc: Global,
+    registry: &Registry,
+    fresh: &mut Registry,
+    path: Word,
+) -> Result<(), StoreFault>
+    requires { length registry.now.paths + length fresh.old.paths ≤ MAX_PATHS }
+    ensures noted { OnOk result (registry.now.paths ++ fresh.new.paths ≡ with_path path (registry.now.paths ++ fresh.old.paths)) }
+    ensures within { OnOk result (length registry.now.paths + length fresh.new.paths ≤ MAX_PATHS) }
+    ensures spent { IfErr result (λ fault. fault ≢ Memory → (fault ≡ PathsSpent) × (MAX_PATHS < length (with_path path (registry.now.paths ++ fresh.old.paths)))) }
+{
+    if is_known(registry, fresh, path.as_str()) {
+        return Ok(());
+    }
+    if registry.len() + fresh.len() == MAX_PATHS {
+        return Err(StoreFault::PathsSpent);
+    }
+    fresh.add(alloc, path)?;
+    Ok(())
+}
+
+fn is_known(registry: &Registry, fresh: &Registry, path: &str) -> bool
+    ensures { result ≡ has_path path.now (registry.now.paths ++ fresh.now.paths) }
+{
+    registry.find(path).is_some() || fresh.find(path).is_some()
+}
