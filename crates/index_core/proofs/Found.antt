@@ -1,0 +1,14 @@
+-- Rows found before the rest.
+use Rattle.std.proofs.Common.{◌≡◌, List, [], ◌∷◌, ◌++◌, Result, Ok, Err, refl, ap, sym, append_assoc}
+use Rattle.doc_store.specs.declared.rows.StoreRow.{StoreRow}
+use Rattle.index_core.specs.declared.fault.CoreFault.{CoreFault}
+use Rattle.index_core.specs.Plans.{◌>>=◌}
+
+abbrev pub after_these : List StoreRow → Result (List StoreRow) CoreFault → Result (List StoreRow) CoreFault
+after_these found (Ok more) = Ok (found ++ more)
+after_these found (Err fault) = Err fault
+
+pub after_these_more : (found : List StoreRow) (r : StoreRow) (rest : Result (List StoreRow) CoreFault) →
+    after_these found (rest >>= (λ more. Ok (r ∷ more))) ≡ after_these (found ++ r ∷ []) rest
+after_these_more found r (Ok more) = simp append_assoc
+after_these_more found r (Err fault) = refl

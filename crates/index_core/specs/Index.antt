@@ -1,0 +1,22 @@
+-- An index: its primary key, and what it holds.
+use Rattle.std.specs.Prelude.{ℕ, List, [], map, Option, None, refl}
+use Rattle.std.specs.Coded.{Coded, code_by, coded×, coded_ℕ, coded_list, coded_option}
+use Rattle.serde_json.specs.Data.{Data}
+use Rattle.doc_store.specs.Store.{Row, Store}
+use Rattle.doc_store.specs.Codes.{store_code}
+
+pub record Index : Type 0 where
+  pub key : Option (List ℕ)
+  pub store : Store
+
+-- no key, and nothing stored
+abbrev pub empty_index : Index
+empty_index = record { key = None; store = record { paths = []; next_id = 0; rows = [] } }
+
+-- the documents, in the order of their internal ids
+abbrev pub documents : Index → List Data
+documents index = map (λ r. r.document) index.store.rows
+
+-- how the logic stores an index
+abbrev pub index_code : Coded Index
+index_code = code_by (Option (List ℕ) × Store) (coded× (coded_option (coded_list coded_ℕ)) store_code) (λ i. (i.key, i.store)) (λ p. record { key = p.0; store = p.1 }) (λ _. refl)

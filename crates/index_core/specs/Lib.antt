@@ -1,0 +1,5 @@
+pub mod Index
+pub mod Faults
+pub mod PlanView
+pub mod Plans
+pub mod Laws
