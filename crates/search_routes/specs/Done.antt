@@ -1,0 +1,70 @@
+-- What the code does, beside the steps of the machine.
+use Rattle.std.specs.Prelude.{◌≡◌, ℕ, Bool, List, Result, Ok, Err}
+use Rattle.doc_values.specs.Changes.{change_view}
+use Rattle.http_wire.specs.Reply.{Answer}
+use Rattle.http_wire.specs.Sent.{IsSentAs}
+use Rattle.http_wire.specs.declared.reply.Reply.{Reply}
+use Rattle.http_wire.specs.declared.reply.Reply.TheVariants.{Memory}
+use Rattle.index_core.specs.declared.fault.CoreFault.{CoreFault}
+use Rattle.index_core.specs.declared.fault.CoreFault.TheVariants as core
+use Rattle.search_routes.specs.declared.refusal.Refusal.{Refusal}
+use Rattle.search_routes.specs.declared.refusal.Fault.{Fault}
+use Rattle.search_routes.specs.declared.refusal.Fault.TheVariants as fault
+use Rattle.search_routes.specs.declared.call.Call.{Call}
+use Rattle.search_routes.specs.declared.call.Call.TheVariants as call
+use Rattle.search_routes.specs.Gives.{Fails}
+use Rattle.search_routes.specs.State.{State}
+use Rattle.search_routes.specs.Refusals.{refused}
+use Rattle.search_routes.specs.Calls.{CallData, write, read}
+use Rattle.search_routes.specs.Machine.{Step, performed, core_refusal}
+use Rattle.search_routes.specs.Chosen.{or_memory, answer_in, state_in}
+
+-- the call is that of the definition; a refused one comes with its reply
+abbrev pub IsCall : Call → Result CallData Refusal → Type 0
+IsCall (call.Refused reply) defined = (r : Refusal) × (defined ≡ Err r) × IsSentAs reply (refused r)
+IsCall (call.Write change) defined = defined ≡ Ok (write (change_view change))
+IsCall (call.Read c) defined = defined ≡ Ok (read c)
+
+-- the step was made, or there was no memory
+abbrev pub Makes : Step → State → Reply → State → Type 0
+Makes t old reply new = (starved : Bool) × IsSentAs reply (answer_in t starved) × (new ≡ state_in old t starved)
+
+-- the call was performed, or there was no memory; a refused one has its reply
+abbrev pub Performs : State → Call → Reply → State → Type 0
+Performs old (call.Refused given) reply new = (reply ≡ given) × (new ≡ old)
+Performs old (call.Write change) reply new = Makes (performed old (write (change_view change))) old reply new
+Performs old (call.Read c) reply new = Makes (performed old (read c)) old reply new
+
+-- ---- inside
+
+-- a step, or why there is none
+abbrev pub Steps : State → Result Step Refusal → Result Reply Fault → State → Type 0
+Steps old defined (Ok reply) new = (t : Step) × (defined ≡ Ok t) × IsSentAs reply t.answer × (new ≡ t.state)
+Steps old defined (Err f) new = Fails f defined × (new ≡ old)
+
+-- what changes to what a definition says, with this reply, or why it does not
+abbrev pub Grows : {A : Type 0} → Result A Refusal → Answer → A → Result Reply Fault → A → Type 0
+Grows defined answer old (Ok reply) new = (defined ≡ Ok new) × IsSentAs reply answer
+Grows defined answer old (Err f) new = Fails f defined × (new ≡ old)
+
+-- the reply to what was done, or to why it was not
+abbrev pub Answers : Result Reply Fault → Reply → Type 0
+Answers (Ok given) reply = reply ≡ given
+Answers (Err fault.NoMemory) reply = reply ≡ Memory
+Answers (Err (fault.Refused r)) reply = (starved : Bool) × IsSentAs reply (or_memory (refused r) starved)
+
+-- why a change is not made, by its index's fault
+abbrev pub fault_of : List ℕ → CoreFault → Fault
+fault_of key core.KeyDiffers = fault.Refused (core_refusal key core.KeyDiffers)
+fault_of key core.NoCandidate = fault.Refused (core_refusal key core.NoCandidate)
+fault_of key core.SeveralCandidates = fault.Refused (core_refusal key core.SeveralCandidates)
+fault_of key (core.MissingId k) = fault.Refused (core_refusal key (core.MissingId k))
+fault_of key (core.BadId k) = fault.Refused (core_refusal key (core.BadId k))
+fault_of key core.IdsSpent = fault.Refused (core_refusal key core.IdsSpent)
+fault_of key core.PathsSpent = fault.Refused (core_refusal key core.PathsSpent)
+fault_of key core.NoMemory = fault.NoMemory
+
+-- it is this fault, or want of memory
+abbrev pub Turns : Fault → Fault → Type 0
+Turns why fault.NoMemory = Unit {0}
+Turns why (fault.Refused r) = why ≡ fault.Refused r

@@ -1,0 +1,14 @@
+pub mod Trying
+pub mod Refusals
+pub mod Routes
+pub mod Query
+pub mod Bodies
+pub mod Calls
+pub mod Replies
+pub mod Machine
+pub mod Chosen
+pub mod State
+pub mod Gives
+pub mod Held
+pub mod Done
+pub mod Laws

@@ -1,0 +1,16 @@
+ghost use Rattle.search_routes.specs.Laws.{OneRouteAtMost, AcceptedIsCounted, NoneAnswers503};
+
+/// No two rows of the table of routes have the method and the path of one request.
+pub fn one_route_at_most()
+    ensures { OneRouteAtMost }
+{}
+
+/// A request that is answered by 202 was counted as a change, and one that is answered otherwise changed nothing.
+pub fn what_is_accepted_is_counted()
+    ensures { AcceptedIsCounted }
+{}
+
+/// No step of the machine answers 503: that status says that memory was wanting, and nothing else does.
+pub fn none_answers_503()
+    ensures { NoneAnswers503 }
+{}
