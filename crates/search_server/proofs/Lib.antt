@@ -1,0 +1,6 @@
+-- From calls to turns, and from turns to what serving a link did.
+pub mod Progress
+pub mod Turning
+pub mod Runs
+pub mod Serving
+pub mod Words

@@ -1,0 +1,6 @@
+-- What serving a link is.
+pub mod Run
+pub mod Served
+pub mod Statuses
+pub mod Turns
+pub mod Words

@@ -1,0 +1,44 @@
+-- A run of the machine: requests one after the other, each of which may find no memory.
+use Rattle.std.specs.Prelude.{ℕ, ◌-◌, ◌==◌, ◌||◌, Bool, true, List, [], ◌∷◌, ◌++◌, map}
+use Rattle.http_wire.specs.Stream.{Request, End, between, closed, spent, rest, bad, most_requests}
+use Rattle.http_wire.specs.Reply.{wire, refusal_answer}
+use Rattle.search_routes.specs.State.{State}
+use Rattle.search_routes.specs.Chosen.{answer_of, state_after}
+
+-- a request, and whether it finds no memory
+pub record Event : Type 0 where
+  pub request : Request
+  pub starved : Bool
+
+abbrev pub requests_of : List Event → List Request
+requests_of events = map (λ e. e.request) events
+
+-- the reply says that the link closes where the request asks for that, or where it is the last of so many that may come
+abbrev pub says_close : ℕ → Request → Bool
+says_close left q = q.closes || left == 1
+
+-- the reply to an event, where so many requests may still come, that one included
+abbrev pub reply_to : ℕ → State → Event → List ℕ
+reply_to left s e = wire (answer_of s e.request e.starved) (says_close left e.request)
+
+-- the replies to a run of events, one after the other, where so many requests may still come
+abbrev pub replies : ℕ → State → List Event → List (List ℕ)
+replies left s [] = []
+replies left s (e ∷ events) = reply_to left s e ∷ replies (left - 1) (state_after s e.request e.starved) events
+
+-- the state after a run
+abbrev pub after : State → List Event → State
+after s [] = s
+after s (e ∷ events) = after (state_after s e.request e.starved) events
+
+-- the reply to what ends a link, if there is one
+abbrev pub end_replies : End → List (List ℕ)
+end_replies (bad kind number) = wire (refusal_answer kind) true ∷ []
+end_replies between = []
+end_replies closed = []
+end_replies spent = []
+end_replies (rest n) = []
+
+-- all that is written on a link, reply by reply
+abbrev pub written : State → List Event → End → List (List ℕ)
+written s events end = replies most_requests s events ++ end_replies end

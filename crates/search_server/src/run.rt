@@ -1,0 +1,57 @@
+// The words of the command line.
+ghost use Rattle.std.specs.Prelude.{◌≡◌, ◌↔◌, ◌≤◌, ℕ, List, Some, IsTrue};
+ghost use Rattle.search_routes.specs.State.{State};
+ghost use Rattle.search_routes.specs.Machine.{empty_state};
+ghost use Rattle.search_server.specs.Served.{Served};
+ghost use Rattle.search_server.specs.Statuses.{IsCaused};
+ghost use Rattle.search_server.specs.Words.{IsPipe};
+
+use crate::{Status, serve_link};
+use outside_io::Link;
+use search_routes::Machine;
+use std::alloc::Global;
+
+// Whether the words are the one word `pipe`.
+fn is_pipe(words: &[String]) -> bool
+    ensures { IsTrue result ↔ IsPipe words.now }
+{
+    match words {
+        [word] => word.as_str() == "pipe",
+        _ => false,
+    }
+}
+
+// Serves a link from a machine that holds nothing.
+fn serve_anew<P: Link>(alloc: Global, pipe: &mut P) -> Status
+    ensures promise { (bytes : List ℕ) → P.left pipe.old ≡ Some bytes → (end : State) × (requests : ℕ)
+        × Served bytes (P.told pipe.old) empty_state (P.left pipe.new) (P.told pipe.new) end result requests }
+    ensures cause { IsCaused (P.read_faults pipe.old) (P.read_faults pipe.new) (P.write_faults pipe.old) (P.write_faults pipe.new) result }
+    ensures read_later { P.read_faults pipe.old ≤ P.read_faults pipe.new }
+    ensures write_later { P.write_faults pipe.old ≤ P.write_faults pipe.new }
+{
+    match Machine::new(alloc) {
+        Err(_) => Status::NoMemory,
+        Ok(mut machine) => serve_link(alloc, &mut machine, pipe).status,
+    }
+}
+
+/// Does what the words of the command line, after the program's own name, ask for.
+///
+/// The one word `pipe` serves the link from a machine that holds nothing, as `serve_link` says.
+/// `BadWords` comes exactly for every other list of words, and then the link is left as it was.
+pub fn run_search_server<P: Link>(alloc: Global, words: &[String], pipe: &mut P) -> Status
+    ensures bad_words { (result ≡ Status.BadWords) ↔ ¬ (IsPipe words.now) }
+    ensures untouched { ¬ (IsPipe words.now) → pipe.new ≡ pipe.old }
+    ensures promise { IsPipe words.now → (bytes : List ℕ) → P.left pipe.old ≡ Some bytes → (end : State) × (requests : ℕ)
+        × Served bytes (P.told pipe.old) empty_state (P.left pipe.new) (P.told pipe.new) end result requests }
+    ensures cause { IsPipe words.now
+        → IsCaused (P.read_faults pipe.old) (P.read_faults pipe.new) (P.write_faults pipe.old) (P.write_faults pipe.new) result }
+    ensures read_later { P.read_faults pipe.old ≤ P.read_faults pipe.new }
+    ensures write_later { P.write_faults pipe.old ≤ P.write_faults pipe.new }
+{
+    if is_pipe(words) {
+        serve_anew(alloc, pipe)
+    } else {
+        Status::BadWords
+    }
+}

@@ -1,0 +1,52 @@
+ghost use Rattle.std.specs.Prelude.{◌≡◌};
+ghost use Rattle.search_server.specs.Statuses.{number_of};
+
+use http_wire::HeadKind;
+
+/// How the program ended, or serving a link.
+#[derive(Clone, Copy, Debug, PartialEq, Eq)]
+pub enum Status {
+    /// The input ended between two requests, or a request asked to close.
+    Done,
+    /// The words are none that the program knows. Serving a link never ends so.
+    BadWords,
+    /// The link's count of read faults rose.
+    ReadFault,
+    /// The link's count of write faults rose.
+    WriteFault,
+    /// The input ended inside a request, `rest` bytes, above 0, after the last whole one.
+    CutShort { rest: u64 },
+    /// A head was refused, and the answer to it was written whole.
+    BadHead { kind: HeadKind, number: u64 },
+    /// 1,000,000 requests were served, and the last did not ask to close.
+    RequestsSpent,
+    NoMemory,
+}
+
+impl Status {
+    /// The number with which the program ends: 0, 2, 3, 4, 8, 9, 10 or 11, in the order in which
+    /// the statuses are declared.
+    pub fn number(&self) -> u8
+        ensures { result ≡ number_of self.now }
+    {
+        match self {
+            Status::Done => 0,
+            Status::BadWords => 2,
+            Status::ReadFault => 3,
+            Status::WriteFault => 4,
+            Status::CutShort { .. } => 8,
+            Status::BadHead { .. } => 9,
+            Status::RequestsSpent => 10,
+            Status::NoMemory => 11,
+        }
+    }
+}
+
+/// How serving a link ended.
+#[derive(Clone, Copy, Debug, PartialEq, Eq)]
+pub struct LinkEnd {
+    pub status: Status,
+    /// How many whole requests were read, from 0 to 1,000,000. One whose reply could not be
+    /// written is among them.
+    pub requests: u64,
+}
