@@ -1,0 +1,108 @@
+#!/usr/bin/env python3
+"""Loads documents through `rank_server pipe` and prints ratios.
+
+    bench/load.py [BIN] [--rounds N]
+
+Small documents (about 80 bytes) in bodies of 1,000: 1,000, 10,000 and 100,000 of them; then one body of nearly 16 MiB
+of catalogue-like documents (about 1 KiB). For each it prints documents a second, the time a document against that of the
+first load, and the peak memory against the bytes of JSON sent. The best of the rounds counts. Nothing tests these numbers.
+"""
+import argparse
+import os
+import random
+import subprocess
+import sys
+import threading
+import time
+
+WORDS = ("amber bridge cloud delta ember forest garden harbor island jungle kettle lantern meadow north ocean "
+         "pebble quartz river saddle timber umber valley willow yonder zephyr").split()
+TAGS = "red green blue white".split()
+MOST_BODY = 16 * 1024 * 1024
+
+
+def words(draw, count):
+    return " ".join(draw.choice(WORDS) for _ in range(count))
+
+
+def small(draw, number):
+    return '{"id":%d,"tags":["%s"],"title":"%s","year":%d}' % (
+        number, draw.choice(TAGS), words(draw, 4), 1990 + draw.randrange(30))
+
+
+def catalogue(draw, number):
+    return '{"description":"%s","id":%d,"price":%d,"tags":["%s","%s"],"title":"%s"}' % (
+        words(draw, 150), number, draw.randrange(100000), draw.choice(TAGS), draw.choice(TAGS), words(draw, 5))
+
+
+def request(body):
+    return b"POST /indexes/shop/documents HTTP/1.1\r\ncontent-length: %d\r\n\r\n" % len(body) + body
+
+
+def bodies(count, size):
+    draw = random.Random(7)
+    for first in range(1, count + 1, size):
+        rows = [small(draw, number) for number in range(first, min(first + size, count + 1))]
+        yield ("[" + ",".join(rows) + "]").encode()
+
+
+def large_body():
+    draw = random.Random(7)
+    rows, size, number = [], 2, 0
+    while True:
+        number += 1
+        row = catalogue(draw, number)
+        if size + len(row) + 1 > MOST_BODY:
+            break
+        size += len(row) + 1
+        rows.append(row)
+    return len(rows), ("[" + ",".join(rows) + "]").encode()
+
+
+def run(binary, sent):
+    """(seconds, peak bytes) until the last of the replies has come."""
+    server = subprocess.Popen([binary, "pipe"], stdin=subprocess.PIPE, stdout=subprocess.PIPE)
+    begun = time.monotonic()
+    writer = threading.Thread(target=server.stdin.write, args=(b"".join(request(body) for body in sent),))
+    writer.start()
+    replies = b""
+    while replies.count(b"HTTP/1.1 ") < len(sent) or not replies.endswith(b"}"):
+        piece = os.read(server.stdout.fileno(), 1 << 16)
+        if not piece:
+            sys.exit("load.py: the server ended early")
+        replies += piece
+    seconds = time.monotonic() - begun
+    writer.join()
+    # Its input is still open, so it waits for more and its peak can be read.
+    with open(f"/proc/{server.pid}/status") as status:
+        peak = next(int(line.split()[1]) * 1024 for line in status if line.startswith("VmHWM"))
+    server.stdin.close()
+    if server.wait() != 0 or replies.count(b"HTTP/1.1 202 ") != len(sent):
+        sys.exit("load.py: a request was not accepted")
+    return seconds, peak
+
+
+def measure(binary, rounds, name, count, sent):
+    size = sum(len(body) for body in sent)
+    best = min(run(binary, sent) for _ in range(rounds))
+    return name, count, size, best[0], best[1]
+
+
+def main():
+    parser = argparse.ArgumentParser()
+    parser.add_argument("binary", nargs="?", default=os.path.join(
+        os.path.dirname(__file__), "..", "crates", "rank_server", "out", "rank_server"))
+    parser.add_argument("--rounds", type=int, default=3)
+    asked = parser.parse_args()
+    loads = [measure(asked.binary, asked.rounds, f"{count} small", count, list(bodies(count, 1000)))
+             for count in (1000, 10000, 100000)]
+    count, body = large_body()
+    loads.append(measure(asked.binary, asked.rounds, "one 16 MiB body", count, [body]))
+    base = loads[0][3] / loads[0][1]
+    print(f"{'load':>16} {'documents':>10} {'MB':>7} {'docs/s':>9} {'MB/s':>7} {'time/doc':>9} {'peak/JSON':>10}")
+    for name, count, size, seconds, peak in loads:
+        print(f"{name:>16} {count:>10} {size / 1e6:>7.2f} {count / seconds:>9.0f} {size / 1e6 / seconds:>7.1f}"
+              f" {seconds / count / base:>9.2f} {peak / size:>10.2f}")
+
+
+main()

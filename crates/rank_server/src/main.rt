@@ -1,0 +1,32 @@
+//! The program: it hands its standard streams and the words of its command line to the server, prints nothing of its
+//! own, and ends with the number of the status.
+#![tactic(auto)]
+
+use outside_io::StdLink;
+use search_server::{Status, run_search_server};
+use std::env;
+use std::io::{self, ErrorKind};
+use std::process::ExitCode;
+
+// The words after the program's own name.
+fn words(rt: &HostRuntime) -> io::Result<Vec<String>> {
+    let mut words = Vec::new(rt.alloc());
+    for word in env::args(rt)?.skip(1) {
+        words.push(word)?;
+    }
+    Ok(words)
+}
+
+fn main(rt: HostRuntime) -> ExitCode {
+    let mut pipe = StdLink::new(&rt);
+    let status = match words(&rt) {
+        Ok(words) => run_search_server(rt.alloc(), &words, &mut pipe),
+        // A word that is no UTF-8 is none that the server knows.
+        Err(e) => if e.kind() == ErrorKind::InvalidData {
+            Status::BadWords
+        } else {
+            Status::NoMemory
+        },
+    };
+    ExitCode::from(status.number())
+}
