@@ -1,0 +1,14 @@
+//! What a search sees of a document: the words of its paths, with their positions.
+//!
+//! `rows` is exactly its definition in `specs/`, which reads a document path by path. Contracts
+//! see a `Document` as its JSON data, a path as its bytes and `DocRows` as a record of lists. The
+//! crate stands on `doc_values`, which walks the document, and on `token_words`, which cuts texts.
+#![tactic(auto)]
+
+mod path_texts;
+mod path_words;
+mod row_list;
+#[cfg(test)]
+mod tests;
+
+pub use row_list::rows;

@@ -1,0 +1,67 @@
+ghost use Rattle.std.specs.Prelude.{◌≡◌, ◌+◌, ◌≤◌, ◌++◌, map, filter, min, OnOk};
+ghost use Rattle.doc_rows.specs.Rows.{place_of, next_start, is_searched, places_of};
+
+use search_base::{NoMemory, PathId, Place, Token, Word};
+use std::alloc::Global;
+use token_words::tokens;
+
+const LAST_SEARCHED: u128 = 65535;
+
+const TEXT_STEP: u128 = 8;
+
+// The words that are searched of the path with this number, which has these texts.
+pub fn add_path(
+    alloc: Global,
+    number: u16,
+    texts: &[Word],
+    places: &mut Vec<Place>,
+) -> Result<(), NoMemory>
+    ensures { OnOk result (places.new.items ≡ places.old.items ++ places_of number texts.now) }
+{
+    let mut start = 0;
+    for text in texts {
+        let words = tokens(alloc, text.as_str())?;
+        let words = words.as_slice();
+        add_words(number, start, words, places)?;
+        start = next_start(start, words);
+    }
+    Ok(())
+}
+
+// The words of a text that starts at `start`.
+fn add_words(
+    number: u16,
+    start: u128,
+    words: &[Token],
+    places: &mut Vec<Place>,
+) -> Result<(), NoMemory>
+    ensures { OnOk result (places.new.items
+        ≡ places.old.items ++ filter is_searched (map (place_of number start) words.now)) }
+{
+    for word in words {
+        let position = start.saturating_add(word.position);
+        if position <= LAST_SEARCHED {
+            places.push(Place {
+                path: PathId(number),
+                rank: number,
+                position: position as u16,
+                word: word.word.clone()?,
+            })?;
+        }
+    }
+    Ok(())
+}
+
+// Where the path's next text starts. All starts behind the last position that is searched are one.
+fn next_start(start: u128, words: &[Token]) -> u128
+    requires { start ≤ 65536 }
+    ensures { result ≡ min (next_start start words.now) 65536 }
+{
+    match words.last() {
+        None => start,
+        Some(last) => {
+            let position = last.position.min(LAST_SEARCHED + 1);
+            (start + position + TEXT_STEP).min(LAST_SEARCHED + 1)
+        }
+    }
+}
