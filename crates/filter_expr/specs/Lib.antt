@@ -1,0 +1,18 @@
+-- What a reader has to believe, from the grammar to the answer of `parse`.
+pub mod Grammar
+pub mod Text
+pub mod Tree
+pub mod Number
+pub mod Faults
+pub mod Texts
+pub mod View
+pub mod Parsed
+pub mod Answers
+-- The parser's own machines, which no public contract cites.
+pub mod Machine
+pub mod Scan
+pub mod Limit
+pub mod Steps
+pub mod Gives
+pub mod Held
+pub mod Reader
