@@ -1,7 +1,10 @@
+use crate::changes::add_documents;
+use crate::refusal::{Fault, Refusal, refusal_reply};
 use crate::{Machine, answer};
 use http_wire::{Reply, Wire};
 use search_base::Word;
 use std::alloc::Global;
+use std::collections::BTreeMap;
 use std::process::Abort;
 use std::test::Fail;
 
@@ -492,5 +495,47 @@ fn no_path_after_the_thousandth(rt: HostRuntime) -> Result<(), Fail> {
         "No more attributes.",
     )?;
     assert_eq!(rt; machine.changes(), 1);
+    Ok(())
+}
+
+// The limits on changes and on internal ids, which no test has the time to reach by requests.
+#[test]
+fn limits_that_lie_far_off(rt: HostRuntime) -> Result<(), Fail> {
+    let alloc = rt.alloc();
+    let mut indexes = BTreeMap::new(alloc);
+    let uid = Word::new(alloc, "m")?;
+    let none = Vec::new(alloc);
+    let spent = add_documents(alloc, &mut indexes, 1_000_000_000, uid, None, none);
+    assert!(rt;
+        matches!(
+            &spent,
+            Err(Fault::Refused {
+                refusal: Refusal::ChangesSpent,
+            },)
+        )
+    );
+    assert!(rt; indexes.is_empty());
+    refused_as(
+        &rt,
+        alloc,
+        &Refusal::ChangesSpent,
+        "{\"code\":\"changes_spent\",\"message\":\"No more changes.\",\"type\":\"invalid_request\"}",
+    )?;
+    refused_as(
+        &rt,
+        alloc,
+        &Refusal::IdsSpent,
+        "{\"code\":\"ids_spent\",\"message\":\"No more documents.\",\"type\":\"invalid_request\"}",
+    )
+}
+
+fn refused_as(rt: &impl Abort, alloc: Global, refusal: &Refusal, text: &str) -> Result<(), Fail> {
+    match &refusal_reply(alloc, refusal)? {
+        Reply::Made { status, body, .. } => {
+            assert_eq!(rt; *status, 400);
+            assert!(rt; body.as_slice() == text.as_bytes());
+        }
+        Reply::Memory => assert!(rt; false, "memory"),
+    }
     Ok(())
 }
