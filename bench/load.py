@@ -4,7 +4,7 @@
     bench/load.py [BIN] [--rounds N]
 
 Small documents (about 80 bytes) in bodies of 1,000: 1,000, 10,000 and 100,000 of them; then one body of nearly 16 MiB
-of catalogue-like documents (about 1 KiB). For each it prints documents a second, the time a document against that of the
+of catalogue-like documents (about 1 KiB), and one of nearly 16 MiB of small ones. For each it prints documents a second, the time a document against that of the
 first load, and the peak memory against the bytes of JSON sent. The best of the rounds counts. Nothing tests these numbers.
 """
 import argparse
@@ -46,12 +46,12 @@ def bodies(count, size):
         yield ("[" + ",".join(rows) + "]").encode()
 
 
-def large_body():
+def large_body(make):
     draw = random.Random(7)
     rows, size, number = [], 2, 0
     while True:
         number += 1
-        row = catalogue(draw, number)
+        row = make(draw, number)
         if size + len(row) + 1 > MOST_BODY:
             break
         size += len(row) + 1
@@ -96,12 +96,13 @@ def main():
     asked = parser.parse_args()
     loads = [measure(asked.binary, asked.rounds, f"{count} small", count, list(bodies(count, 1000)))
              for count in (1000, 10000, 100000)]
-    count, body = large_body()
-    loads.append(measure(asked.binary, asked.rounds, "one 16 MiB body", count, [body]))
+    for name, make in (("16 MiB, 1 KiB each", catalogue), ("16 MiB, small", small)):
+        count, body = large_body(make)
+        loads.append(measure(asked.binary, asked.rounds, name, count, [body]))
     base = loads[0][3] / loads[0][1]
-    print(f"{'load':>16} {'documents':>10} {'MB':>7} {'docs/s':>9} {'MB/s':>7} {'time/doc':>9} {'peak/JSON':>10}")
+    print(f"{'load':>18} {'documents':>10} {'MB':>7} {'docs/s':>9} {'MB/s':>7} {'time/doc':>9} {'peak/JSON':>10}")
     for name, count, size, seconds, peak in loads:
-        print(f"{name:>16} {count:>10} {size / 1e6:>7.2f} {count / seconds:>9.0f} {size / 1e6 / seconds:>7.1f}"
+        print(f"{name:>18} {count:>10} {size / 1e6:>7.2f} {count / seconds:>9.0f} {size / 1e6 / seconds:>7.1f}"
               f" {seconds / count / base:>9.2f} {peak / size:>10.2f}")
 
 
