@@ -2,3 +2,6 @@
 pub mod Faults
 pub mod Bytes
 pub mod MemoryLink
+pub mod Disks
+pub mod MemoryDisk
+pub mod Moments

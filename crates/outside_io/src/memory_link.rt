@@ -91,7 +91,7 @@ impl MemoryLink {
 }
 
 // Whether the call of this number is to fail.
-fn is_listed(failing: &[u64], call: u64) -> bool
+pub(crate) fn is_listed(failing: &[u64], call: u64) -> bool
     ensures { IsTrue result ↔ Contains failing.now call }
 {
     failing.contains(&call)

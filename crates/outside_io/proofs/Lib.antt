@@ -1,0 +1,3 @@
+pub mod Calls
+pub mod Crashed
+pub mod Pieces
