@@ -7,12 +7,17 @@
 #![tactic(auto)]
 
 mod call;
+mod candidate;
+mod change;
 mod fault;
 mod index;
 mod kept;
 mod key;
 mod plan;
+mod read;
 mod rows;
+mod search;
+mod update;
 
 pub use call::{Listing, SearchCall, SearchResult};
 pub use fault::CoreFault;
