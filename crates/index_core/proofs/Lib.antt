@@ -7,3 +7,4 @@ pub mod Finding
 pub mod Stable
 pub mod Putting
 pub mod Removing
+pub mod Updating

@@ -10,4 +10,3 @@ pub mod Kept
 pub mod Putting
 pub mod Removing
 pub mod Updating
-pub mod Laws

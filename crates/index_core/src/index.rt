@@ -126,7 +126,8 @@ impl IndexCore {
         fetches: &mut Steps<F>,
     ) -> Result<(), CoreFault>
         ensures key { self.new.key ≡ self.old.key }
-        ensures done { OnOk result ((self.new.store ≡ after_work (work_view work) self.old.store) × (spent self.new.store ≡ None)) }
+        ensures done { OnOk result (self.new.store ≡ after_work (work_view work) self.old.store) }
+        ensures within { OnOk result (spent (after_work (work_view work) self.old.store) ≡ None) }
         ensures fault { IfErr result (λ fault. fault ≢ Memory
             → option_map store_refusal (spent (after_work (work_view work) self.old.store)) ≡ Some fault) }
         ensures stays { OnErr result (self.new.store ≡ self.old.store) }
