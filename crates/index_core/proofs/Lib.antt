@@ -1,3 +1,11 @@
 pub mod Found
-pub mod Keyed
-pub mod Pages
+pub mod Order
+pub mod Placing
+pub mod Searching
+pub mod Collecting
+pub mod Finding
+pub mod Stable
+pub mod Putting
+pub mod Removing
+pub mod Updating
+pub mod LawLemmas

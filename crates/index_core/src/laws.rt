@@ -1,12 +1,14 @@
-ghost use Rattle.index_core.specs.Laws.{KeyStays, RowsStayUnderTheirIds};
+ghost use Rattle.index_core.specs.Laws.{KeyStays, PathsStay, IdsAreSpentOnce, NoWordFindsTheList};
 
-/// The primary key of an index is never changed by a change that it takes.
-pub fn key_stays()
-    ensures { KeyStays }
+/// What stays of an index whatever change it takes: its primary key, the paths of its registry, and that an internal id
+/// is given once. It does nothing.
+pub fn changes_keep_key_paths_and_ids()
+    ensures key { KeyStays }
+    ensures paths { PathsStay }
+    ensures ids { IdsAreSpentOnce }
 {}
 
-/// In an index that has taken any changes, each document stands under the external id that it gives under the
-/// primary key: this holds of an index with no documents, and each change keeps it.
-pub fn each_row_stays_under_its_id()
-    ensures { RowsStayUnderTheirIds }
+/// A search for no word finds the documents in the order of their internal ids. It does nothing.
+pub fn no_word_finds_the_list()
+    ensures { NoWordFindsTheList }
 {}
