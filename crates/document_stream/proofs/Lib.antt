@@ -1,0 +1,6 @@
+mod Enough
+mod Converted
+mod Turns
+mod Shallow
+mod Listed
+mod Refusals
