@@ -4,3 +4,4 @@ mod Turns
 mod Shallow
 mod Listed
 mod Refusals
+mod Texts

@@ -1,5 +1,5 @@
 -- The documents of a list, a member at a time.
-use Rattle.std.proofs.Common.{◌≡◌, ◌≢◌, ℕ, ◌+◌, List, [], ◌∷◌, ◌++◌, true, false, Option, Some, None, Result, Ok, Err, refl, sym, ap, ◌∙◌, append_assoc}
+use Rattle.std.proofs.Common.{◌≡◌, ◌≢◌, ℕ, ◌+◌, List, [], ◌∷◌, ◌++◌, true, false, Option, Some, None, Result, Ok, Err, refl, sym, ap, ◌∙◌, append_assoc, append-nil, arith}
 use Rattle.json.specs.Token.{Token}
 use Rattle.json.specs.Json.{parse_map}
 use Rattle.serde_json.specs.Data.{Data, array, Items, no_items, item}
@@ -7,9 +7,10 @@ use Rattle.doc_values.specs.Walk.{document_of}
 use Rattle.doc_values.specs.Bodies.{documents_in, placed_result, then_more}
 use Rattle.doc_values.specs.declared.bodies.BodyFault.{BodyFault}
 use Rattle.document_stream.specs.Bodies.{error_of, or_error}
-use Rattle.document_stream.specs.Reads.{is_whole, documents_left}
+use Rattle.document_stream.specs.Reads.{value_at, items_at, is_whole, documents_left}
 use Rattle.document_stream.specs.declared.fault.BodyError.{BodyError}
 use Rattle.document_stream.specs.declared.fault.BodyError.TheVariants.{NotJson}
+use Rattle.document_stream.proofs.Turns.{value_at-begin_array}
 
 -- documents found before the rest
 abbrev pub after_these : List Data → Result (List Data) BodyFault → Result (List Data) BodyError
@@ -66,3 +67,23 @@ pub is_whole-item : (d : Data) (o : Option (Items × List Token)) → is_whole (
 is_whole-item d None = refl
 is_whole-item d (Some (ds, [])) = refl
 is_whole-item d (Some (ds, t ∷ ts)) = refl
+
+pub is_whole-over : (ds : Items) (ts : List Token) → ts ≡ [] → is_whole {A = Items} (Some (ds, ts)) ≡ true
+is_whole-over ds [] e = refl
+is_whole-over ds (t ∷ ts) e = absurd (cc)
+
+pub is_whole-more : (ds : Items) (ts : List Token) → ts ≢ [] → is_whole {A = Items} (Some (ds, ts)) ≡ false
+is_whole-more ds [] more = absurd (more refl)
+is_whole-more ds (t ∷ ts) more = refl
+
+pub list_left-over : (found : List Data) (place : ℕ) (ts : List Token) → ts ≡ [] → list_left found place (Some (no_items, ts)) ≡ Ok found
+list_left-over found place [] e = ap Ok (append-nil found)
+list_left-over found place (t ∷ ts) e = absurd (cc)
+
+pub list_left-more : (found : List Data) (place : ℕ) (ts : List Token) → ts ≢ [] → list_left found place (Some (no_items, ts)) ≡ Err NotJson
+list_left-more found place [] more = absurd (more refl)
+list_left-more found place (t ∷ ts) more = refl
+
+-- the list behind its bracket
+pub listed : (ts : List Token) → documents_left (value_at 127 (Token.begin_array ∷ ts)) ≡ list_left [] 1 (items_at 126 ts)
+listed ts = ap documents_left (value_at-begin_array 127 ts (omega arith)) ∙ documents_left-array (items_at 126 ts)

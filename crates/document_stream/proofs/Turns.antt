@@ -1,9 +1,9 @@
 -- A turn of the loops over items and members: what is read is what comes next, before what is read behind it.
-use Rattle.std.proofs.Common.{◌≡◌, ℕ, zero, suc, ◌-◌, ◌<◌, ◌≤◌, List, [], ◌∷◌, ◌++◌, length, Option, Some, None, option_and_then, refl, ap, ◌∙◌, arith}
+use Rattle.std.proofs.Common.{◌≡◌, ℕ, zero, suc, ◌-◌, ◌<◌, List, [], ◌∷◌, ◌++◌, length, Option, Some, None, refl, ap, ◌∙◌, arith}
 use Rattle.json.specs.Token.{Token}
-use Rattle.json.specs.Json.{Json, parse_map, after_end_array, read_key, items_step, members_step, items, members, value}
+use Rattle.json.specs.Json.{parse_map, after_end_array, read_key, items_step, items, members, value}
 use Rattle.json.proofs.Grammar.{left, value-begin_array, value-begin_object, value_is, items_end, items_more, members_end, members_no_key, members_more, read_key-shorter, skip_value-shorter}
-use Rattle.serde_json.specs.Data.{Data, array, object, Items, no_items, item, Members, no_members, put}
+use Rattle.serde_json.specs.Data.{Data, array, object, Items, no_items, item, Members, put}
 use Rattle.serde_json.specs.Read.{of_json, of_items, of_members, converted}
 use Rattle.serde_json.specs.View.{view, items_view}
 use Rattle.serde_json.specs.declared.value.Value.{Value}
