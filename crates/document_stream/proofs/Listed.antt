@@ -7,9 +7,9 @@ use Rattle.doc_values.specs.Walk.{document_of}
 use Rattle.doc_values.specs.Bodies.{documents_in, placed_result, then_more}
 use Rattle.doc_values.specs.declared.bodies.BodyFault.{BodyFault}
 use Rattle.document_stream.specs.Bodies.{error_of, or_error}
-use Rattle.document_stream.specs.Reads.{value_at, items_at, is_whole, documents_left}
+use Rattle.document_stream.specs.Reads.{value_at, items_at, is_whole, fault_behind, documents_left}
 use Rattle.document_stream.specs.declared.fault.BodyError.{BodyError}
-use Rattle.document_stream.specs.declared.fault.BodyError.TheVariants.{NotJson}
+use Rattle.document_stream.specs.declared.fault.BodyError.TheVariants.{NotJson, NoMemory}
 use Rattle.document_stream.proofs.Turns.{value_at-begin_array}
 
 -- documents found before the rest
@@ -50,16 +50,13 @@ fault_at : (found : List Data) (r : Result Data BodyFault) (more : Result (List 
 fault_at found (Ok y) more fault e = absurd (cc)
 fault_at found (Err f) more fault e = let same : error_of f ≡ fault = cc in ap Err same
 
-pub fault_found : (found : List Data) (place : ℕ) (d : Data) (fault : BodyError) (o : Option (Items × List Token)) → or_error (placed_result place (document_of d)) ≡ Err fault → is_whole o ≡ true
-    → list_left found place (parse_map (item d) o) ≡ Err fault
-fault_found found place d fault None e w = absurd (cc)
-fault_found found place d fault (Some (ds, [])) e w = fault_at found (placed_result place (document_of d)) (documents_in (place + 1) ds) fault e
-fault_found found place d fault (Some (ds, t ∷ ts)) e w = absurd (cc)
-
-pub broken_behind : (found : List Data) (place : ℕ) (d : Data) (o : Option (Items × List Token)) → is_whole o ≡ false → list_left found place (parse_map (item d) o) ≡ Err NotJson
-broken_behind found place d None n = refl
-broken_behind found place d (Some (ds, [])) n = absurd (cc)
-broken_behind found place d (Some (ds, t ∷ ts)) n = refl
+-- the fault of a document, or no JSON where the rest is broken
+pub fault_found : (found : List Data) (place : ℕ) (d : Data) (fault result : BodyError) (o : Option (Items × List Token)) → (fault ≢ NoMemory → or_error (placed_result place (document_of d)) ≡ Err fault)
+    → result ≢ NoMemory → result ≡ fault_behind fault o → list_left found place (parse_map (item d) o) ≡ Err result
+fault_found found place d fault result None why other is = ap Err (sym is)
+fault_found found place d fault result (Some (ds, [])) why other is =
+    fault_at found (placed_result place (document_of d)) (documents_in (place + 1) ds) fault (why (λ e. other (is ∙ e))) ∙ ap Err (sym is)
+fault_found found place d fault result (Some (ds, t ∷ ts)) why other is = ap Err (sym is)
 
 -- ---- the end of a list, whatever its items
 

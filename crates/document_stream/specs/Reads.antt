@@ -1,5 +1,5 @@
 -- What is read off the tokens that are left. Only the crate's private clauses cite it.
-use Rattle.std.specs.Prelude.{◌≡◌, ◌≢◌, ℕ, List, [], ◌∷◌, length, Bool, true, false, Option, Some, None, Result, Ok, Err, MatchResult}
+use Rattle.std.specs.Prelude.{◌≡◌, ◌≢◌, ℕ, List, [], ◌∷◌, length, Bool, true, false, Option, Some, None, Result, Ok, Err, MatchResult, if◌then◌else◌}
 use Rattle.json.specs.Token.{Token}
 use Rattle.json.specs.Json.{items, members, value}
 use Rattle.serde_json.specs.Data.{Data, Items, Members, no_members}
@@ -35,6 +35,10 @@ abbrev pub is_whole : {A : Type 0} → Option (A × List Token) → Bool
 is_whole None = false
 is_whole (Some (a, [])) = true
 is_whole (Some (a, t ∷ ts)) = false
+
+-- a fault, where the rest of what is read is whole
+abbrev pub fault_behind : {A : Type 0} → BodyError → Option (A × List Token) → BodyError
+fault_behind fault rest = if is_whole rest then fault else NotJson
 
 -- the documents of the value that was read
 abbrev pub documents_left : Option (Data × List Token) → Result (List Data) BodyError

@@ -1,4 +1,4 @@
-ghost use Rattle.std.specs.Prelude.{◌≡◌, ◌≢◌, ◌≤◌, ◌∷◌, true, false, Ok, Err, MatchResult, IfOk};
+ghost use Rattle.std.specs.Prelude.{◌≡◌, ◌≢◌, ◌≤◌, [], ◌∷◌, true, false, Ok, Err, MatchResult, IfOk};
 ghost use Rattle.json.specs.Lex.{tokens};
 ghost use Rattle.json.specs.Token.{begin_array};
 ghost use Rattle.json.specs.Reads.{token_of};
@@ -8,7 +8,7 @@ ghost use Rattle.serde_json.specs.View.{view};
 ghost use Rattle.doc_values.specs.Walk.{document_of};
 ghost use Rattle.doc_values.specs.Bodies.{placed_result};
 ghost use Rattle.document_stream.specs.Bodies.{or_error, documents_read};
-ghost use Rattle.document_stream.specs.Reads.{value_at, items_at, Gives, documents_left, is_whole};
+ghost use Rattle.document_stream.specs.Reads.{value_at, items_at, Gives, documents_left, is_whole, fault_behind};
 ghost use Rattle.document_stream.specs.declared.fault.BodyError.TheVariants.{NotJson as Broken, NoMemory as Memory};
 
 use crate::fault::BodyError;
@@ -39,7 +39,8 @@ pub fn read_documents(alloc: Global, body: &[u8]) -> Result<Vec<DocumentText>, B
 }
 
 fn read_text(alloc: Global, text: &str) -> Result<Vec<DocumentText>, BodyError>
-    ensures { Gives (λ documents. documents.items) result (documents_left (value_at max_depth (tokens text.now))) }
+    ensures { Gives (λ documents. documents.items) result
+        (documents_left (value_at max_depth (tokens text.now))) }
 {
     let mut scratch = Scratch::new(alloc);
     let mut reader = Reader::new(text, &mut scratch)?;
@@ -50,18 +51,17 @@ fn read_text(alloc: Global, text: &str) -> Result<Vec<DocumentText>, BodyError>
     }
 }
 
-// The documents of a value that is no list, read whole.
+// The documents of the value that begins with the token `first`, read whole.
 fn read_single(
     alloc: Global,
     first: Token<'_>,
     reader: &mut Reader<'_>,
 ) -> Result<Vec<DocumentText>, BodyError>
-    ensures { Gives (λ documents. documents.items) result (documents_left (value_at max_depth (token_of first.entry ∷ reader.old))) }
+    ensures { Gives (λ documents. documents.items) result
+        (documents_left (value_at max_depth (token_of first.entry ∷ reader.old))) }
 {
     let value = value_from(alloc, first, reader, MAX_DEPTH)?;
-    if reader.next().is_some() {
-        return Err(BodyError::NotJson);
-    }
+    expect_end(reader)?;
     let documents = documents_of(alloc, value)?;
     Ok(texts_of(alloc, documents)?)
 }
@@ -76,10 +76,10 @@ fn texts_of(alloc: Global, documents: Vec<Document>) -> Result<Vec<DocumentText>
     Ok(texts)
 }
 
-// The documents of a list, behind the bracket that opens it. Behind the first fault the rest is read to see whether
-// it is JSON.
+// The documents of a list, behind the bracket that opens it.
 fn read_list(alloc: Global, reader: &mut Reader<'_>) -> Result<Vec<DocumentText>, BodyError>
-    ensures { Gives (λ documents. documents.items) result (documents_left (value_at max_depth (begin_array ∷ reader.old))) }
+    ensures { Gives (λ documents. documents.items) result
+        (documents_left (value_at max_depth (begin_array ∷ reader.old))) }
 {
     let mut documents = Vec::new(alloc);
     let mut before: u32 = 0;
@@ -90,16 +90,11 @@ fn read_list(alloc: Global, reader: &mut Reader<'_>) -> Result<Vec<DocumentText>
         }
         match document_text(alloc, value, before + 1) {
             Ok(document) => documents.push(document)?,
-            Err(fault) => {
-                pass_members(alloc, reader)?;
-                return Err(fault);
-            }
+            Err(fault) => return Err(fault_of_list(alloc, reader, fault)),
         }
         before += 1;
     }
-    if reader.next().is_some() {
-        return Err(BodyError::NotJson);
-    }
+    expect_end(reader)?;
     Ok(documents)
 }
 
@@ -119,16 +114,37 @@ fn document_text(alloc: Global, value: Value, place: u32) -> Result<DocumentText
     }
 }
 
+// The fault of a list whose first faulty document has `fault`: the rest is read, since a list that is broken behind
+// is no JSON.
+fn fault_of_list(alloc: Global, reader: &mut Reader<'_>, fault: BodyError) -> BodyError
+    ensures { result ≢ Memory → result ≡ fault_behind fault (items_at MEMBER_DEPTH reader.old) }
+{
+    match pass_members(alloc, reader) {
+        Ok(()) => fault,
+        Err(broken) => broken,
+    }
+}
+
 // Passes the members that are left of a list, and its end, behind which nothing may follow.
 fn pass_members(alloc: Global, reader: &mut Reader<'_>) -> Result<(), BodyError>
     ensures { MatchResult result (λ _. is_whole (items_at MEMBER_DEPTH reader.old) ≡ true)
-        (λ fault. fault ≢ Memory → (fault ≡ Broken) × (is_whole (items_at MEMBER_DEPTH reader.old) ≡ false)) }
+        (λ fault. fault ≢ Memory
+        → (fault ≡ Broken) × (is_whole (items_at MEMBER_DEPTH reader.old) ≡ false)) }
 {
     'members: while !reader.take_end_array() {
         drop(read_value(alloc, reader, MEMBER_DEPTH)?);
     }
-    if reader.next().is_some() {
-        return Err(BodyError::NotJson);
-    }
+    expect_end(reader)?;
     Ok(())
+}
+
+// No token is left.
+fn expect_end(reader: &mut Reader<'_>) -> Result<(), BodyError>
+    ensures { MatchResult result (λ _. reader.old ≡ [])
+        (λ fault. (fault ≡ Broken) × (reader.old ≢ [])) }
+{
+    match reader.next() {
+        None => Ok(()),
+        Some(_) => Err(BodyError::NotJson),
+    }
 }

@@ -1,8 +1,9 @@
-use Rattle.std.proofs.Common.{◌≡◌, ◌≢◌, [], None, Err, refl, ap, ◌∙◌, arith}
+use Rattle.std.proofs.Common.{◌≡◌, None, Err, refl, ap, ◌∙◌, arith}
 use Rattle.json.specs.Json.{after_end_array}
-use Rattle.serde_json.specs.Data.{no_items}
+use Rattle.serde_json.specs.Data.{Data, no_items}
 use Rattle.serde_json.specs.View.{view}
 use Rattle.document_stream.specs.Reads.{value_at, items_at, is_whole}
+use Rattle.document_stream.specs.declared.fault.BodyError.TheVariants.{NotJson}
 use Rattle.document_stream.proofs.Refusals.{broken_rest}
 use Rattle.document_stream.proofs.Turns.{items_over, item_read, item_refused}
 use Rattle.document_stream.proofs.Listed.{is_whole-item, is_whole-over, is_whole-more}
@@ -24,16 +25,16 @@ members-preserved c =
     let going : (after_end_array l.reader ≡ None) × (c.take_end_array.new.self ≡ l.reader) = grind arith in
     l.invariant ∙ ap is_whole (item_read 126 l.reader r d going.0 (rw (← going.1) c.in_ok-read_value.ensures.value)) ∙ is_whole-item d (items_at 126 r)
 
-pub returns-then-is_some : goal.returns-then-is_some
-returns-then-is_some c =
+pub returns-in_err-expect_end : goal.returns-in_err-expect_end
+returns-in_err-expect_end c =
     let l = c.members in
     let s = c.take_end_array.new.self in
-    let more : s ≢ [] = λ (none : s ≡ []). grind arith in
-    λ other. (refl, l.invariant ∙ ap is_whole (items_over 126 l.reader s (grind arith)) ∙ is_whole-more no_items s more)
+    let is : c.from_residual-in_err-expect_end.result ≡ Err NotJson = grind arith in
+    broken_rest {C = Data} _ (is_whole (items_at 126 c.args.reader.now)) NotJson None is (λ other. (refl, refl))
+    (λ none. l.invariant ∙ ap is_whole (items_over 126 l.reader s (grind arith)) ∙ is_whole-more no_items s c.in_err-expect_end.ensures.1)
 
 pub returns : goal.returns
 returns c =
     let l = c.members in
     let s = c.take_end_array.new.self in
-    let over : s ≡ [] = grind arith in
-    l.invariant ∙ ap is_whole (items_over 126 l.reader s (grind arith)) ∙ is_whole-over no_items s over
+    l.invariant ∙ ap is_whole (items_over 126 l.reader s (grind arith)) ∙ is_whole-over no_items s c.in_ok-expect_end.ensures
