@@ -88,7 +88,3 @@ items_push (w ∷ vs) v rest = ap (item (view w)) (items_push vs v rest)
 pub one_more_item : (vs : List Value) (v : Value) (o : Option (Items × List Token)) → parse_map (items_before vs) (parse_map (item (view v)) o) ≡ parse_map (items_before (vs ++ v ∷ [])) o
 one_more_item vs v None = refl
 one_more_item vs v (Some p) = ap (λ ds. Some (ds, p.1)) (items_push vs v p.0)
-
-pub none_before : (o : Option (Items × List Token)) → o ≡ parse_map (items_before []) o
-none_before None = refl
-none_before (Some p) = refl

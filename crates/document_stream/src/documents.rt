@@ -19,15 +19,17 @@ use search_base::NoMemory;
 use serde_json::Value;
 use std::alloc::Global;
 
+// How deep a body may nest.
 const MAX_DEPTH: usize = 127;
 
+// How deep a member of the list that a body is may nest.
 const MEMBER_DEPTH: usize = 126;
 
 /// The documents of a body, in order: the members of a list, or an object as the only one.
 ///
-/// A body that is no JSON is `NotJson` whatever else is wrong with it; else the first fault is the one that comes. A
-/// list of 2^32 members or more counts as one for which there is no memory. Beside the texts at most one member is
-/// held as a tree, and memory for one byte a byte of the body.
+/// A body that is no JSON is `NotJson` whatever else is wrong with it; else the first fault in the order of documents
+/// is the one that comes. A list of 2^32 members or more counts as one for which there is no memory. Beside the texts
+/// it takes room for as many bytes as the body has, and for one document at a time as a tree.
 pub fn read_documents(alloc: Global, body: &[u8]) -> Result<Vec<DocumentText>, BodyError>
     ensures { MatchResult result (λ documents. documents_read body.now ≡ Ok documents.items)
         (λ fault. fault ≢ Memory → documents_read body.now ≡ Err fault) }

@@ -96,27 +96,29 @@ fn bytes_that_are_no_text(rt: HostRuntime) {
     assert_eq!(rt; found.as_str(), "no JSON");
 }
 
-// A list of one object in which lists nest so that there are `depth` levels in all.
-fn nested(rt: &impl Abort, alloc: Global, depth: usize) -> String {
-    let mut text = String::new(alloc);
-    text.push_str("[{\"a\":").expect(rt, "memory");
-    for _ in 2..depth {
+// `levels` lists, each in the one before, with `first` before them and `last` behind.
+fn nested(rt: &impl Abort, alloc: Global, first: &str, levels: usize, last: &str) -> String {
+    let mut text = String::from_str(alloc, first).expect(rt, "memory");
+    for _ in 0..levels {
         text.push_str("[").expect(rt, "memory");
     }
-    for _ in 2..depth {
+    for _ in 0..levels {
         text.push_str("]").expect(rt, "memory");
     }
-    text.push_str("}]").expect(rt, "memory");
+    text.push_str(last).expect(rt, "memory");
     text
 }
 
 #[test]
 fn depth_of_127_in_all(rt: HostRuntime) {
     let alloc = rt.alloc();
-    let deepest = read_documents(alloc, nested(&rt, alloc, 127).as_bytes());
-    assert!(rt; matches!(&deepest, Ok(documents) if documents.len() == 1));
-    let too_deep = read_documents(alloc, nested(&rt, alloc, 128).as_bytes());
-    assert!(rt; matches!(&too_deep, Err(BodyError::NotJson)));
+    for (first, levels, last) in [("[{\"a\":", 125, "}]"), ("{\"a\":", 126, "}")] {
+        let deepest = read_documents(alloc, nested(&rt, alloc, first, levels, last).as_bytes());
+        assert!(rt; matches!(&deepest, Ok(documents) if documents.len() == 1));
+        let too_deep = nested(&rt, alloc, first, levels + 1, last);
+        let broken = read_documents(alloc, too_deep.as_bytes());
+        assert!(rt; matches!(&broken, Err(BodyError::NotJson)));
+    }
 }
 
 fn from_whole_value(
