@@ -1,0 +1,152 @@
+ghost use Rattle.std.specs.Prelude.{◌≡◌, ◌≢◌, ◌≤◌, [], ◌∷◌, true, false, Ok, Err, MatchResult, IfOk};
+ghost use Rattle.json.specs.Lex.{tokens};
+ghost use Rattle.json.specs.Token.{begin_array};
+ghost use Rattle.json.specs.Reads.{token_of};
+ghost use Rattle.serde_json.specs.Data.{depth};
+ghost use Rattle.serde_json.specs.Read.{max_depth};
+ghost use Rattle.serde_json.specs.View.{view};
+ghost use Rattle.doc_values.specs.Walk.{document_of};
+ghost use Rattle.doc_values.specs.Bodies.{placed_result};
+ghost use Rattle.document_stream.specs.Bodies.{or_error, documents_read};
+ghost use Rattle.document_stream.specs.Reads.{value_at, items_at, Gives, documents_left, is_whole, fault_behind};
+ghost use Rattle.document_stream.specs.declared.fault.BodyError.TheVariants.{NotJson as Broken, NoMemory as Memory};
+
+use crate::fault::BodyError;
+use crate::values::{read_value, value_from};
+use doc_values::{Document, DocumentFault, DocumentText, documents_of};
+use json::{Reader, Scratch, Token};
+use search_base::NoMemory;
+use serde_json::Value;
+use std::alloc::Global;
+
+// How deep a body may nest.
+const MAX_DEPTH: usize = 127;
+
+// How deep a member of the list that a body is may nest.
+const MEMBER_DEPTH: usize = 126;
+
+/// The documents of a body, in order: the members of a list, or an object as the only one.
+///
+/// A body that is no JSON is `NotJson` whatever else is wrong with it; else the first fault in the order of documents
+/// is the one that comes. A list of 2^32 members or more counts as one for which there is no memory. Beside the texts
+/// it takes room for as many bytes as the body has, and for one document at a time as a tree.
+pub fn read_documents(alloc: Global, body: &[u8]) -> Result<Vec<DocumentText>, BodyError>
+    ensures { MatchResult result (λ documents. documents_read body.now ≡ Ok documents.items)
+        (λ fault. fault ≢ Memory → documents_read body.now ≡ Err fault) }
+{
+    match simdutf8::compat::from_utf8(body) {
+        Ok(text) => read_text(alloc, text),
+        Err(_) => Err(BodyError::NotJson),
+    }
+}
+
+fn read_text(alloc: Global, text: &str) -> Result<Vec<DocumentText>, BodyError>
+    ensures { Gives (λ documents. documents.items) result
+        (documents_left (value_at max_depth (tokens text.now))) }
+{
+    let mut scratch = Scratch::new(alloc);
+    let mut reader = Reader::new(text, &mut scratch)?;
+    let first = reader.next().ok_or(BodyError::NotJson)?;
+    match first {
+        Token::BeginArray => read_list(alloc, &mut reader),
+        _ => read_single(alloc, first, &mut reader),
+    }
+}
+
+// The documents of the value that begins with the token `first`, read whole.
+fn read_single(
+    alloc: Global,
+    first: Token<'_>,
+    reader: &mut Reader<'_>,
+) -> Result<Vec<DocumentText>, BodyError>
+    ensures { Gives (λ documents. documents.items) result
+        (documents_left (value_at max_depth (token_of first.entry ∷ reader.old))) }
+{
+    let value = value_from(alloc, first, reader, MAX_DEPTH)?;
+    expect_end(reader)?;
+    let documents = documents_of(alloc, value)?;
+    Ok(texts_of(alloc, documents)?)
+}
+
+fn texts_of(alloc: Global, documents: Vec<Document>) -> Result<Vec<DocumentText>, NoMemory>
+    ensures { IfOk result (λ texts. texts.items ≡ documents.items) }
+{
+    let mut texts = Vec::with_capacity(alloc, documents.len())?;
+    for document in documents {
+        texts.push(DocumentText::of(alloc, &document)?)?;
+    }
+    Ok(texts)
+}
+
+// The documents of a list, behind the bracket that opens it.
+fn read_list(alloc: Global, reader: &mut Reader<'_>) -> Result<Vec<DocumentText>, BodyError>
+    ensures { Gives (λ documents. documents.items) result
+        (documents_left (value_at max_depth (begin_array ∷ reader.old))) }
+{
+    let mut documents = Vec::new(alloc);
+    let mut before: u32 = 0;
+    'members: while !reader.take_end_array() {
+        let value = read_value(alloc, reader, MEMBER_DEPTH)?;
+        if before == u32::MAX {
+            return Err(BodyError::NoMemory);
+        }
+        match document_text(alloc, value, before + 1) {
+            Ok(document) => documents.push(document)?,
+            Err(fault) => return Err(fault_of_list(alloc, reader, fault)),
+        }
+        before += 1;
+    }
+    expect_end(reader)?;
+    Ok(documents)
+}
+
+fn document_text(alloc: Global, value: Value, place: u32) -> Result<DocumentText, BodyError>
+    requires { depth (view value) ≤ max_depth }
+    ensures { Gives (λ document. document) result
+        (or_error (placed_result place (document_of (view value)))) }
+{
+    match Document::from_json(alloc, value) {
+        Ok(document) => Ok(DocumentText::of(alloc, &document)?),
+        Err(DocumentFault::NotObject) => Err(BodyError::NotObject { document: place }),
+        Err(DocumentFault::NumberNotWhole { path }) => Err(BodyError::NumberNotWhole {
+            document: place,
+            path,
+        }),
+        Err(DocumentFault::NoMemory) => Err(BodyError::NoMemory),
+    }
+}
+
+// The fault of a list whose first faulty document has `fault`: the rest is read, since a list that is broken behind
+// is no JSON.
+fn fault_of_list(alloc: Global, reader: &mut Reader<'_>, fault: BodyError) -> BodyError
+    ensures { result ≢ Memory → result ≡ fault_behind fault (items_at MEMBER_DEPTH reader.old) }
+{
+    match pass_members(alloc, reader) {
+        Ok(()) => fault,
+        Err(broken) => broken,
+    }
+}
+
+// Passes the members that are left of a list, and its end, behind which nothing may follow.
+fn pass_members(alloc: Global, reader: &mut Reader<'_>) -> Result<(), BodyError>
+    ensures { MatchResult result (λ _. is_whole (items_at MEMBER_DEPTH reader.old) ≡ true)
+        (λ fault. fault ≢ Memory
+        → (fault ≡ Broken) × (is_whole (items_at MEMBER_DEPTH reader.old) ≡ false)) }
+{
+    'members: while !reader.take_end_array() {
+        drop(read_value(alloc, reader, MEMBER_DEPTH)?);
+    }
+    expect_end(reader)?;
+    Ok(())
+}
+
+// No token is left.
+fn expect_end(reader: &mut Reader<'_>) -> Result<(), BodyError>
+    ensures { MatchResult result (λ _. reader.old ≡ [])
+        (λ fault. (fault ≡ Broken) × (reader.old ≢ [])) }
+{
+    match reader.next() {
+        None => Ok(()),
+        Some(_) => Err(BodyError::NotJson),
+    }
+}
