@@ -1,0 +1,3 @@
+mod Ordered
+mod Endings
+mod Printed
