@@ -1,3 +1,5 @@
 mod Ordered
 mod Endings
 mod Printed
+mod Bounds
+mod Lengths

@@ -35,11 +35,16 @@ put_last (first ∷ done) list more h =
 put_from : (done more : List SynonymView) → AreInOrder (done ++ more) → all_put more (synonym_members done) ≡ synonym_members (done ++ more)
 put_from done [] h = ap synonym_members (sym (append-nil done))
 put_from done (list ∷ more) h =
-    let apart : (done ++ list ∷ []) ++ more ≡ done ++ list ∷ more = append_assoc in
+    let apart : (done ++ list ∷ []) ++ more ≡ done ++ list ∷ more = append_assoc done (list ∷ []) more in
     ap (all_put more) (put_last done list more h) ∙ put_from (done ++ list ∷ []) more (rw apart h) ∙ ap synonym_members apart
 
 pub all_put_in_order : (lists : List SynonymView) → AreInOrder lists → all_put lists no_members ≡ synonym_members lists
 all_put_in_order lists h = put_from [] lists h
+
+-- no synonyms are in order
+pub in_order_none : AreInOrder []
+unfolding IsStrictlySortedBy
+in_order_none = tt
 
 above_later : (key : List ℕ) (es : List Entry) → AllByRecursion (λ k. slice_cmp nat_cmp key (string_bytes k) ≡ Less) (keys_of es)
     → AllByRecursion (λ k. slice_cmp nat_cmp key k ≡ Less) (map (λ l. l.key) (member_synonyms (members_view es)))

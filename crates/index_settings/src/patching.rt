@@ -27,69 +27,82 @@ pub fn patch(alloc: Global, old: &Settings, members: &Value) -> Result<Settings,
         (λ fault. fault ≢ Memory → patch_of old.now (data_of members.now) ≡ Err fault) }
 {
     check_patch(alloc, members)?;
-    Ok(patched(alloc, old, members)?)
+    let default = Settings::defaults(alloc)?;
+    Ok(patched(alloc, &default, old, members)?)
 }
 
-fn patched(alloc: Global, old: &Settings, members: &Value) -> Result<Settings, NoMemory>
+/// The settings after a patch that has no fault. Null gives the member of `default`.
+fn patched(
+    alloc: Global,
+    default: &Settings,
+    old: &Settings,
+    members: &Value,
+) -> Result<Settings, NoMemory>
     requires { patch_fault (data_of members.now) ≡ None }
-    ensures { IfOk result (λ settings. settings ≡ patched_view old.now (data_of members.now)) }
+    ensures { IfOk result (λ settings. settings
+        ≡ patched_view default.now old.now (data_of members.now)) }
 {
-    let new = Settings::defaults(alloc)?;
     Ok(Settings {
         displayed_attributes: texts_after(
             alloc,
             &old.displayed_attributes,
-            &new.displayed_attributes,
+            &default.displayed_attributes,
             members.get("displayedAttributes"),
         )?,
         distinct_attribute: attribute_after(
             alloc,
             &old.distinct_attribute,
+            &default.distinct_attribute,
             members.get("distinctAttribute"),
         )?,
         filterable_attributes: texts_after(
             alloc,
             &old.filterable_attributes,
-            &new.filterable_attributes,
+            &default.filterable_attributes,
             members.get("filterableAttributes"),
         )?,
         max_total_hits: number_inside_after(
             old.max_total_hits,
-            new.max_total_hits,
+            default.max_total_hits,
             "maxTotalHits",
             members.get("pagination"),
         ),
         max_values_per_facet: number_inside_after(
             old.max_values_per_facet,
-            new.max_values_per_facet,
+            default.max_values_per_facet,
             "maxValuesPerFacet",
             members.get("faceting"),
         ),
         ranking_rules: texts_after(
             alloc,
             &old.ranking_rules,
-            &new.ranking_rules,
+            &default.ranking_rules,
             members.get("rankingRules"),
         )?,
         searchable_attributes: texts_after(
             alloc,
             &old.searchable_attributes,
-            &new.searchable_attributes,
+            &default.searchable_attributes,
             members.get("searchableAttributes"),
         )?,
         sortable_attributes: texts_after(
             alloc,
             &old.sortable_attributes,
-            &new.sortable_attributes,
+            &default.sortable_attributes,
             members.get("sortableAttributes"),
         )?,
         stop_words: texts_after(
             alloc,
             &old.stop_words,
-            &new.stop_words,
+            &default.stop_words,
             members.get("stopWords"),
         )?,
-        synonyms: synonyms_after(alloc, &old.synonyms, &new.synonyms, members.get("synonyms"))?,
+        synonyms: synonyms_after(
+            alloc,
+            &old.synonyms,
+            &default.synonyms,
+            members.get("synonyms"),
+        )?,
     })
 }
 
@@ -140,17 +153,28 @@ fn synonyms_after(
 fn attribute_after(
     alloc: Global,
     old: &Option<Word>,
+    default: &Option<Word>,
     value: Option<&Value>,
 ) -> Result<Option<Word>, NoMemory>
     ensures { IfOk result (λ attribute. attribute
-        ≡ chosen old.now None as_str (option_map (λ v. data_of v.now) value.entry)) }
+        ≡ chosen old.now default.now as_str (option_map (λ v. data_of v.now) value.entry)) }
 {
     match value {
         None => Ok(old.clone()?),
-        Some(value) => match value.as_str() {
-            Some(text) => Ok(Some(Word::new(alloc, text)?)),
-            None => Ok(None),
+        Some(value) => if value.is_null() {
+            Ok(default.clone()?)
+        } else {
+            named(alloc, value.as_str())
         },
+    }
+}
+
+fn named(alloc: Global, text: Option<&str>) -> Result<Option<Word>, NoMemory>
+    ensures { IfOk result (λ name. name ≡ option_map (λ t. t.now) text.entry) }
+{
+    match text {
+        Some(text) => Ok(Some(Word::new(alloc, text)?)),
+        None => Ok(None),
     }
 }
 

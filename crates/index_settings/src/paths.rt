@@ -14,10 +14,12 @@ pub fn rank_of(settings: &Settings, path: &str, number: u16) -> Option<u16>
     if names(entries, "*") {
         return Some(number);
     }
-    let place = entries
-        .iter()
-        .position(|entry| covers(path, entry.as_str()))?;
-    Some(place as u16)
+    for (place, entry) in entries.iter().enumerate() {
+        if covers(path, entry.as_str()) {
+            return Some(place as u16);
+        }
+    }
+    None
 }
 
 /// Whether some attribute is the path or, with a dot, begins it. Takes no memory.

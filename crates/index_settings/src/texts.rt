@@ -1,4 +1,5 @@
-ghost use Rattle.std.specs.Prelude.{◌≡◌, IfOk};
+ghost use Rattle.std.specs.Prelude.{◌≡◌, ◌&&◌, nat_le, IfOk};
+ghost use Rattle.serde_json.specs.Events.{items_len};
 ghost use Rattle.serde_json.specs.View.{view as data_of, items_view, members_view};
 ghost use Rattle.index_settings.specs.Values.{items_are_texts, are_texts as are_texts_in, are_texts_up_to as are_texts_up_to_in, members_are_texts, are_synonyms as are_synonyms_in, item_texts, texts_in, is_number_up_to as is_number_in};
 
@@ -31,9 +32,16 @@ pub(crate) fn are_texts_up_to(value: &Value, most: usize) -> bool
     ensures { result ≡ are_texts_up_to_in most (data_of value.now) }
 {
     match value {
-        Value::Array(items) => items.len() <= most && items_are_text(items),
+        Value::Array(items) => are_few_texts(items, most),
         _ => false,
     }
+}
+
+#[tactic(auto, using(crate::proofs::Lengths::items_len_of_view))]
+fn are_few_texts(items: &Vec<Value>, most: usize) -> bool
+    ensures { result ≡ (nat_le (items_len (items_view items.now.items)) most && items_are_texts (items_view items.now.items)) }
+{
+    items.len() <= most && items_are_text(items)
 }
 
 fn items_are_text(items: &Vec<Value>) -> bool
