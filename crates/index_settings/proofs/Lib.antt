@@ -3,3 +3,5 @@ mod Endings
 mod Printed
 mod Bounds
 mod Lengths
+mod Once
+mod RuleTexts

@@ -21,7 +21,7 @@ mod texts;
 
 pub use fault::SettingsFault;
 pub use json::to_json;
-pub use laws::printed_gives_back;
+pub use laws::{patch_is_done_once, printed_gives_back, texts_name_rules};
 pub use patching::patch;
 pub use paths::{is_covered, is_displayed, rank_of};
 pub use rule::{RankingRule, ranking_rule};
