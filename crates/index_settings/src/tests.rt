@@ -96,6 +96,14 @@ fn a_patch_replaces_what_it_names(rt: HostRuntime) {
     assert_eq!(rt; printed(&rt, alloc, &back).as_str(), DEFAULTS);
 }
 
+// The one text of a list, or `not one`.
+fn only(list: &[Word]) -> &str {
+    match list {
+        [text] => text.as_str(),
+        _ => "not one",
+    }
+}
+
 #[test]
 fn the_members_of_the_settings(rt: HostRuntime) {
     let alloc = rt.alloc();
@@ -115,15 +123,18 @@ fn the_members_of_the_settings(rt: HostRuntime) {
     ];
     let wants = ["a", "b", "c:asc", "d", "e", "f"];
     for (list, want) in lists.iter().zip(wants) {
-        assert_eq!(rt; list.len(), 1);
-        assert_eq!(rt; list[0].as_str(), want);
+        assert_eq!(rt; only(list), want);
     }
     assert_eq!(rt; all.max_values_per_facet(), 7);
     assert_eq!(rt; all.max_total_hits(), 8);
     assert!(rt; all.distinct_attribute().is_none());
-    assert_eq!(rt; all.synonyms().len(), 1);
-    assert_eq!(rt; all.synonyms()[0].key.as_str(), "g");
-    assert_eq!(rt; all.synonyms()[0].texts[0].as_str(), "h");
+    match all.synonyms() {
+        [list] => {
+            assert_eq!(rt; list.key.as_str(), "g");
+            assert_eq!(rt; only(&list.texts), "h");
+        }
+        _ => panic!(rt; "not one list"),
+    }
 }
 
 #[test]
