@@ -1,6 +1,6 @@
 -- What a patch that has no fault leaves within the limits.
-use Rattle.std.proofs.Common.{◌≡◌, ℕ, suc, ◌≤◌, List, [], ◌∷◌, length, codes, Bool, true, false, ◌&&◌, ◌||◌, Option, Some, None, Ordering, Less, Equal, Greater, nat_cmp, refl, sym, ap, ◌∙◌, ◌++◌, arith, true≢false}
-use Rattle.std.proofs.lemmas.Bool.{and_parts, leb-true, cond_both, cond-false}
+use Rattle.std.proofs.Common.{◌≡◌, ℕ, suc, ◌≤◌, List, ◌∷◌, length, codes, Bool, true, false, ◌||◌, Option, Some, None, Ordering, Less, Equal, Greater, nat_cmp, refl, sym, ap, ◌∙◌, ◌++◌, arith, true≢false}
+use Rattle.std.proofs.lemmas.Bool.{and_parts, leb-true, cond_both}
 use Rattle.std.proofs.lemmas.Map.Text.{is_eq-slice_cmp}
 use Rattle.std.proofs.lemmas.Slice.Eq.{bytes_eq-Decides}
 use Rattle.std.specs.Cmp.Lexicographic.{slice_cmp}
@@ -12,7 +12,7 @@ use Rattle.serde_json.specs.Find.{get, get_member, as_str, as_number, as_u64}
 use Rattle.index_settings.specs.declared.fault.SettingsFault.{SettingsFault}
 use Rattle.index_settings.specs.declared.fault.SettingsFault.TheVariants.{WrongShape, NotBuilt}
 use Rattle.index_settings.specs.View.{SettingsView}
-use Rattle.index_settings.specs.Values.{is_null, is_within, is_number_up_to, number_in, with_text, item_texts, texts_in, are_texts_up_to, synonyms_in}
+use Rattle.index_settings.specs.Values.{is_null, is_within, is_number_up_to, number_in, with_text, item_texts, texts_in, are_texts_up_to}
 use Rattle.index_settings.specs.Rules.{bad_rule}
 use Rattle.index_settings.specs.Table.{or_later, wrong_unless, inner_fault, first_inner, nested_fault, member_fault, first_fault, patch_fault, defaults}
 use Rattle.index_settings.specs.Patch.{chosen, patched}

@@ -7,7 +7,7 @@ use Rattle.index_settings.specs.declared.fault.SettingsFault.{SettingsFault}
 use Rattle.index_settings.specs.View.{SettingsView}
 use Rattle.index_settings.specs.Values.{is_null, number_in, texts_in, synonyms_in}
 use Rattle.index_settings.specs.Table.{defaults, patch_fault}
-use Rattle.index_settings.specs.Patch.{chosen, patched, unless_wrong, patch_of}
+use Rattle.index_settings.specs.Patch.{chosen, patched, unless_wrong}
 use Rattle.index_settings.specs.Laws.{PatchIsDoneOnce}
 
 -- a value that does not depend on the old one stays where it is chosen again

@@ -1,13 +1,13 @@
 -- Synonyms in order: put member by member, and read from a map.
-use Rattle.std.proofs.Common.{◌≡◌, ℕ, List, [], ◌∷◌, ◌++◌, map, String, Global, string_cmp, string_bytes, Ordering, Less, Greater, nat_cmp, refl, sym, ap, ◌∙◌, subst, append-nil, append_assoc}
+use Rattle.std.proofs.Common.{◌≡◌, ℕ, List, [], ◌∷◌, ◌++◌, map, string_cmp, string_bytes, Less, Greater, nat_cmp, refl, sym, ap, ◌∙◌, append-nil, append_assoc}
 use Rattle.std.proofs.lemmas.Cmp.{nat_list_cmp_total}
 use Rattle.std.specs.Cmp.Lexicographic.{slice_cmp}
 use Rattle.std.specs.List.{AllByRecursion}
 use Rattle.std.specs.List.Sorted.{IsStrictlySortedBy}
 use Rattle.std.specs.Map.{keys_of}
-use Rattle.std.specs.Ordering.{match_ordering, ordering_reverse}
-use Rattle.serde_json.specs.Data.{Data, Members, no_members, member, put}
-use Rattle.serde_json.specs.View.{view, members_view}
+use Rattle.std.specs.Ordering.{ordering_reverse}
+use Rattle.serde_json.specs.Data.{Members, no_members, member, put}
+use Rattle.serde_json.specs.View.{members_view}
 use Rattle.serde_json.proofs.Views.{Entry}
 use Rattle.index_settings.specs.View.{SynonymView}
 use Rattle.index_settings.specs.Values.{member_synonyms}

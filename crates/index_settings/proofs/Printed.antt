@@ -1,5 +1,5 @@
 -- What is printed of settings, taken as a patch, gives them back.
-use Rattle.std.proofs.Common.{◌≡◌, ℕ, suc, ◌≤◌, List, [], ◌∷◌, length, map, true, false, ◌&&◌, Ok, Option, None, Some, refl, sym, ap, ap₂, ◌∙◌, arith}
+use Rattle.std.proofs.Common.{◌≡◌, ℕ, suc, ◌≤◌, List, [], ◌∷◌, length, map, true, false, Ok, Option, None, Some, refl, sym, ap, ◌∙◌, arith}
 use Rattle.std.proofs.lemmas.Bool.{le-leb, and_from}
 use Rattle.std.specs.Prelude.{nat_le}
 use Rattle.serde_json.specs.Data.{string, depth, items_depth, members_depth}
@@ -8,10 +8,8 @@ use Rattle.serde_json.specs.Read.{max_depth}
 use Rattle.serde_json.specs.View.{items_of}
 use Rattle.serde_json.specs.Written.{has_float, items_have_float, members_have_float}
 use Rattle.index_settings.specs.View.{SynonymView, SettingsView}
-use Rattle.index_settings.specs.Values.{is_null, items_are_texts, item_texts, members_are_texts, member_synonyms, are_texts_up_to, are_texts, texts_in}
+use Rattle.index_settings.specs.Values.{is_null, items_are_texts, item_texts, members_are_texts, member_synonyms, are_texts_up_to}
 use Rattle.index_settings.specs.Json.{texts_data, text_or_null, synonym_members, settings_data}
-use Rattle.index_settings.specs.Patch.{patch_of}
-use Rattle.index_settings.specs.Limits.{IsSettings}
 use Rattle.index_settings.specs.Laws.{PrintedGivesBack}
 
 pub are_texts-printed : (texts : List (List ℕ)) → items_are_texts (items_of (map string texts)) ≡ true

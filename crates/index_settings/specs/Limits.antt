@@ -1,5 +1,5 @@
 -- What holds of all settings.
-use Rattle.std.specs.Prelude.{◌≡◌, ◌≤◌, ℕ, List, map, length, None}
+use Rattle.std.specs.Prelude.{◌≡◌, ◌≤◌, List, map, length, None}
 use Rattle.std.specs.Ordering.{nat_cmp}
 use Rattle.std.specs.Cmp.Lexicographic.{slice_cmp}
 use Rattle.std.specs.List.Sorted.{IsStrictlySortedBy}

@@ -1,5 +1,5 @@
 -- Ranking rules and their texts.
-use Rattle.std.specs.Prelude.{ℕ, ◌-◌, List, [], ◌∷◌, ◌++◌, length, take, drop, ◌&&◌, nat_lt, is_some, if◌then◌else◌, codes, Option, Some, None}
+use Rattle.std.specs.Prelude.{ℕ, ◌-◌, List, [], ◌∷◌, length, take, drop, ◌&&◌, nat_lt, is_some, if◌then◌else◌, codes, Option, Some, None}
 use Rattle.std.specs.Str.{bytes_eq}
 use Rattle.index_settings.specs.declared.rule.RankingRule.{RankingRule}
 use Rattle.index_settings.specs.declared.rule.RankingRule.TheVariants.{Words, Typo, Proximity, Attribute, Sort, Exactness, Up, Down}

@@ -1,4 +1,4 @@
-use Rattle.std.proofs.Common.{◌≡◌, codes, subst, ap, ◌∙◌}
+use Rattle.std.proofs.Common.{codes, subst, ap, ◌∙◌}
 use Rattle.std.specs.Rc.{rc_slice_items}
 use Rattle.serde_json.specs.Find.{get, as_str}
 use Rattle.serde_json.specs.View.{view}
