@@ -1,0 +1,2 @@
+-- What the order of keys is.
+pub mod KeyLemmas

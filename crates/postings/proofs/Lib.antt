@@ -1,0 +1,8 @@
+-- How tables of sets change.
+pub mod TableLemmas
+pub mod RoomLemmas
+pub mod CountLemmas
+pub mod LookupLemmas
+pub mod RangeLemmas
+pub mod FreshLemmas
+pub mod EventLemmas
