@@ -1,3 +1,5 @@
+pub mod PrintLemmas
+pub mod ShownLemmas
 pub mod Splits
 pub mod RouteLemmas
 pub mod JsonBodies

@@ -4,6 +4,7 @@ pub mod Routes
 pub mod Query
 pub mod Bodies
 pub mod Calls
+pub mod Shown
 pub mod Replies
 pub mod Machine
 pub mod Chosen

@@ -127,7 +127,7 @@ window call ds = take (min (call.offset + call.limit) most_hits - call.offset) (
 abbrev pub searched : State → List ℕ → SearchCall → Result Step Refusal
 searched s uid call = do
   index ← or_refuse (NoIndex uid) (index_at uid s)
-  Ok (told s (hits call (min (length (documents index)) most_hits) (window call (documents index))))
+  Ok (told s (hits [] call.offset call.limit (min (length (documents index)) most_hits) (window call (documents index))))
 
 -- ---- one equation a call
 

@@ -14,6 +14,7 @@ mod machine;
 mod performing;
 mod query;
 mod refusal;
+mod printing;
 mod replies;
 mod routes;
 #[cfg(test)]

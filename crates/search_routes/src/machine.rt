@@ -76,7 +76,14 @@ impl Machine {
         let total = index.len().min(MOST_HITS);
         let end = call.offset.saturating_add(call.limit).min(MOST_HITS);
         let documents = index.page(alloc, call.offset, end)?;
-        Ok(hits_reply(alloc, &call, total, &documents)?)
+        Ok(hits_reply(
+            alloc,
+            "",
+            call.offset,
+            call.limit,
+            total,
+            &documents,
+        )?)
     }
 }
 

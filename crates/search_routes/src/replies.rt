@@ -1,15 +1,18 @@
-ghost use Rattle.std.specs.Prelude.{◌≡◌, IfOk, map, false};
+// The replies to calls that are not refused.
+ghost use Rattle.std.specs.Prelude.{◌≡◌, IfOk, map, string_bytes};
+ghost use Rattle.std.specs.Option.{option_copied};
 ghost use Rattle.serde_json.specs.Data.{array};
 ghost use Rattle.serde_json.specs.View.{view, items_of};
-ghost use Rattle.serde_json.specs.Written.{has_float};
+ghost use Rattle.serde_json.specs.Written.{compact_text};
 ghost use Rattle.http_wire.specs.Sent.{IsSentAs};
-ghost use Rattle.search_routes.specs.Replies.{accepted, change_data, hits, hits_data};
+ghost use Rattle.search_routes.specs.Shown.{all_shown};
+ghost use Rattle.search_routes.specs.Replies.{accepted, change_data, health, health_data, index_data, one_index, one_document, listing, documents_listing, hits};
 
-use crate::call::SearchCall;
+use crate::printing::{hits_text, listing_text, shown_text};
 use doc_values::DocumentText;
 use http::StatusCode;
 use http_wire::{Reply, make_reply};
-use search_base::NoMemory;
+use search_base::{NoMemory, Word};
 use serde_json::{Value, json};
 use std::alloc::{AllocError, Global};
 
@@ -33,47 +36,84 @@ fn change_value(alloc: Global, uid: &str, kind: &str, before: u64) -> Result<Val
     json!(in alloc; {"indexUid": uid, "status": "succeeded", "taskUid": before, "type": kind})
 }
 
-/// The reply to a search, with its hits out of so many in all.
-pub(crate) fn hits_reply(
-    alloc: Global,
-    call: &SearchCall,
-    total: u64,
-    documents: &[&DocumentText],
-) -> Result<Reply, NoMemory>
-    ensures { IfOk result (λ reply. IsSentAs reply (hits call.now total (map (λ d. d.now) documents.now))) }
+/// The reply that the server is there.
+pub(crate) fn health_reply(alloc: Global) -> Result<Reply, NoMemory>
+    ensures { IfOk result (λ reply. IsSentAs reply health) }
 {
-    let hits = documents_value(alloc, documents)?;
-    let value = hits_value(alloc, call, total, hits)?;
+    let value = health_value(alloc)?;
     let body = value.to_vec(alloc)?;
     make_reply(alloc, StatusCode::OK, body)
 }
 
-fn hits_value(
-    alloc: Global,
-    call: &SearchCall,
-    total: u64,
-    hits: Value,
-) -> Result<Value, AllocError>
-    ensures { IfOk result (λ value. view value ≡ hits_data call.now total (view hits)) }
+fn health_value(alloc: Global) -> Result<Value, AllocError>
+    ensures { IfOk result (λ value. view value ≡ health_data) }
 {
-    json!(in alloc; {
-        "estimatedTotalHits": total,
-        "hits": hits,
-        "limit": call.limit,
-        "offset": call.offset,
-        "query": ""
-    })
+    json!(in alloc; {"status": "available"})
 }
 
-fn documents_value(alloc: Global, documents: &[&DocumentText]) -> Result<Value, NoMemory>
-    ensures value { IfOk result (λ value. view value
-        ≡ array (items_of (map (λ d. d.now) documents.now))) }
-    ensures whole { IfOk result (λ value. has_float (view value) ≡ false) }
+/// The reply that shows an index by its uid, with its primary key.
+pub(crate) fn index_reply(alloc: Global, uid: &str, key: Option<&Word>) -> Result<Reply, NoMemory>
+    ensures { IfOk result (λ reply. IsSentAs reply (one_index uid.now (option_copied key.entry))) }
 {
-    let mut items = Vec::new(alloc);
-    for text in documents {
-        let document = text.document(alloc)?;
-        items.push(document.as_json().clone()?)?;
+    let value = index_value(alloc, uid, key)?;
+    let body = value.to_vec(alloc)?;
+    make_reply(alloc, StatusCode::OK, body)
+}
+
+/// An index as JSON.
+pub(crate) fn index_value(
+    alloc: Global,
+    uid: &str,
+    key: Option<&Word>,
+) -> Result<Value, AllocError>
+    ensures { IfOk result (λ value. view value ≡ index_data uid.now (option_copied key.entry)) }
+{
+    match key {
+        Some(key) => json!(in alloc; {"primaryKey": key.as_str(), "uid": uid}),
+        None => json!(in alloc; {"primaryKey": null, "uid": uid}),
     }
-    Ok(Value::Array(items))
+}
+
+/// The reply that shows some of `total` documents, by the members that `fields` names.
+pub(crate) fn documents_reply(
+    alloc: Global,
+    offset: u64,
+    limit: u64,
+    fields: &[Word],
+    documents: &[&DocumentText],
+    total: u64,
+) -> Result<Reply, NoMemory>
+    ensures { IfOk result (λ reply. IsSentAs reply
+        (documents_listing offset limit fields.now (map (λ d. d.now) documents.now) total)) }
+{
+    let body = listing_text(alloc, offset, limit, fields, documents, total)?;
+    make_reply(alloc, StatusCode::OK, body.into_bytes())
+}
+
+/// The reply that shows one document, by the members that `fields` names.
+pub(crate) fn document_reply(
+    alloc: Global,
+    fields: &[Word],
+    document: &DocumentText,
+) -> Result<Reply, NoMemory>
+    ensures { IfOk result (λ reply. IsSentAs reply (one_document fields.now document.now)) }
+{
+    let body = shown_text(alloc, fields, document)?;
+    make_reply(alloc, StatusCode::OK, body.into_bytes())
+}
+
+/// The reply to a search for this text, with its hits out of `total`.
+pub(crate) fn hits_reply(
+    alloc: Global,
+    q: &str,
+    offset: u64,
+    limit: u64,
+    total: u64,
+    documents: &[&DocumentText],
+) -> Result<Reply, NoMemory>
+    ensures { IfOk result (λ reply. IsSentAs reply
+        (hits q.now offset limit total (map (λ d. d.now) documents.now))) }
+{
+    let body = hits_text(alloc, q, offset, limit, total, documents)?;
+    make_reply(alloc, StatusCode::OK, body.into_bytes())
 }
