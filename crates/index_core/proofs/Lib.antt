@@ -1,3 +1,1 @@
 pub mod Found
-pub mod Keyed
-pub mod Pages

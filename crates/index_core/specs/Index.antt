@@ -1,5 +1,5 @@
 -- An index: its primary key, and what it holds.
-use Rattle.std.specs.Prelude.{ℕ, List, [], map, Option, None, refl}
+use Rattle.std.specs.Prelude.{ℕ, List, [], ◌∷◌, map, Option, None, Some, refl, bytes_eq, if◌then◌else◌}
 use Rattle.std.specs.Coded.{Coded, code_by, coded×, coded_ℕ, coded_list, coded_option}
 use Rattle.serde_json.specs.Data.{Data}
 use Rattle.doc_store.specs.Store.{Row, Store}
@@ -16,6 +16,11 @@ empty_index = record { key = None; store = record { paths = []; next_id = 0; row
 -- the documents, in the order of their internal ids
 abbrev pub documents : Index → List Data
 documents index = map (λ r. r.document) index.store.rows
+
+-- the document with an external id
+abbrev pub document_under : List ℕ → List Row → Option Data
+document_under external [] = None
+document_under external (r ∷ rows) = if bytes_eq external r.external then Some r.document else document_under external rows
 
 -- how the logic stores an index
 abbrev pub index_code : Coded Index

@@ -1,23 +1,37 @@
 -- What holds of an index whatever changes it takes.
-use Rattle.std.specs.Prelude.{◌≡◌, ℕ, List, Option, Some, None, Ok}
+use Rattle.std.specs.Prelude.{◌≡◌, ◌<◌, ◌≤◌, ℕ, ◌-◌, List, [], ◌++◌, take, drop, map, Option, Some, None, Ok}
 use Rattle.std.specs.List.{AllByRecursion}
 use Rattle.serde_json.specs.Data.{Data}
+use Rattle.doc_values.specs.Changes.{KindData}
 use Rattle.doc_values.specs.Ids.{external_id_of}
-use Rattle.doc_store.specs.Store.{Row}
+use Rattle.doc_store.specs.Store.{Row, Store, row_at}
+use Rattle.doc_store.specs.Sound.{IsSound}
+use Rattle.index_core.specs.declared.call.SearchCall.{SearchCall}
+use Rattle.index_core.specs.Hits.{found, window_end}
 use Rattle.index_core.specs.Index.{Index, empty_index}
 use Rattle.index_core.specs.PlanView.{PlanView}
 use Rattle.index_core.specs.Plans.{planned, applied}
 
--- the index took the documents, under a given key or none, and became the other one
-pub record Takes (index : Index) (given : Option (List ℕ)) (ds : List Data) (after : Index) : Type 0 where
+-- the index took the change, and became the other one
+pub record Takes (index : Index) (change : KindData) (after : Index) : Type 0 where
   pub plan : PlanView
-  pub is_planned : planned index given ds ≡ Ok plan
+  pub is_planned : planned index change ≡ Ok plan
   pub is_applied : applied plan index ≡ Ok after
 
 -- an index that has a key keeps it
 abbrev pub KeyStays : Type 0
-KeyStays = (index after : Index) (given : Option (List ℕ)) (ds : List Data) (key : List ℕ) →
-    index.key ≡ Some key → Takes index given ds after → after.key ≡ Some key
+KeyStays = (index after : Index) (change : KindData) (key : List ℕ) → index.key ≡ Some key → Takes index change after → after.key ≡ Some key
+
+-- the registry of paths only grows, at its end
+abbrev pub PathsStay : Type 0
+PathsStay = (index after : Index) (change : KindData) → Takes index change after →
+    (more : List (List ℕ)) × (after.store.paths ≡ index.store.paths ++ more)
+
+-- an internal id that was given and whose document is gone is never given again
+abbrev pub IdsAreSpentOnce : Type 0
+IdsAreSpentOnce = (index after : Index) (change : KindData) (id : ℕ) → Takes index change after →
+    id < index.store.next_id → row_at id index.store.rows ≡ None →
+    (index.store.next_id ≤ after.store.next_id) × (row_at id after.store.rows ≡ None)
 
 -- the row stands under the external id that its document gives under the key
 abbrev pub IsUnder : Option (List ℕ) → Row → Type 0
@@ -30,4 +44,9 @@ pub record IsKeyed (index : Index) : Type 0 where
 
 pub record RowsStayUnderTheirIds : Type 0 where
   pub at_first : IsKeyed empty_index
-  pub kept : (index after : Index) (given : Option (List ℕ)) (ds : List Data) → IsKeyed index → Takes index given ds after → IsKeyed after
+  pub kept : (index after : Index) (change : KindData) → IsKeyed index → Takes index change after → IsKeyed after
+
+-- a search without words finds the documents in the order of their internal ids
+abbrev pub EmptySearchIsTheList : Type 0
+EmptySearchIsTheList = (s : Store) (call : SearchCall) → IsSound s → call.q ≡ [] →
+    (found s call).hits ≡ map (λ r. r.document) (take (window_end call - call.offset) (drop call.offset s.rows))

@@ -2,4 +2,8 @@ pub mod Index
 pub mod Faults
 pub mod PlanView
 pub mod Plans
+pub mod Matching
+pub mod Hits
+pub mod Fetches
+pub mod Kept
 pub mod Laws

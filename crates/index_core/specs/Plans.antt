@@ -1,12 +1,16 @@
 -- What a change of documents does to an index.
-use Rattle.std.specs.Prelude.{ℕ, ◌+◌, List, [], ◌∷◌, Option, Some, None, Result, Ok, Err, bytes_eq, if◌then◌else◌}
+use Rattle.std.specs.Prelude.{ℕ, ◌+◌, Bool, not, List, [], ◌∷◌, filter, Option, Some, None, Result, Ok, Err, bytes_eq, if◌then◌else◌}
+use Rattle.std.specs.List.{list_any}
 use Rattle.serde_json.specs.Data.{Data}
+use Rattle.doc_values.specs.Changes.{KindData}
+use Rattle.doc_values.specs.Changes as kind
 use Rattle.doc_values.specs.Ids.{external_id_of, key_of}
+use Rattle.doc_values.specs.Stored.{merge}
 use Rattle.doc_store.specs.declared.rows.StoreRow.{StoreRow}
 use Rattle.doc_store.specs.declared.rows.StoreFault.{StoreFault}
-use Rattle.doc_store.specs.Store.{Store, all_stored, spent}
-use Rattle.index_core.specs.Index.{Index}
-use Rattle.index_core.specs.PlanView.{PlanView}
+use Rattle.doc_store.specs.Store.{Row, Store, stored, all_stored, spent}
+use Rattle.index_core.specs.Index.{Index, document_under}
+use Rattle.index_core.specs.PlanView.{PlanView, Work, replace, update, remove, clear}
 use Rattle.index_core.specs.Faults.{key_result, id_result, store_refusal}
 use Rattle.index_core.specs.declared.fault.CoreFault.{CoreFault}
 use Rattle.index_core.specs.declared.fault.CoreFault.TheVariants.{KeyDiffers}
@@ -15,6 +19,8 @@ infixl 10 ◌>>=◌
 abbrev pub ◌>>=◌ : {A B : Type 0} → Result A CoreFault → (A → Result B CoreFault) → Result B CoreFault
 (Ok x) >>= f = f x
 (Err fault) >>= f = Err fault
+
+-- ---- what is tried before anything changes
 
 -- The key after a change: that of the index, of which the given one may not differ, or else the given one, or else
 -- the one that the first document gives.
@@ -38,19 +44,62 @@ abbrev pub rows_for : Option (List ℕ) → List Data → Result (List StoreRow)
 rows_for None ds = Ok []
 rows_for (Some key) ds = rows_under key 1 ds
 
+abbrev pub plan_of : Option (List ℕ) → Work → PlanView
+plan_of key work = record { key = key; work = work }
+
 -- the key of a change is tried, and then the id of each document
-abbrev pub planned : Index → Option (List ℕ) → List Data → Result PlanView CoreFault
-planned index given ds = do
-  key ← key_for index.key given ds
+abbrev pub documents_planned : Option (List ℕ) → Option (List ℕ) → List Data → (List StoreRow → Work) → Result PlanView CoreFault
+documents_planned own given ds work = do
+  key ← key_for own given ds
   rows ← rows_for key ds
-  Ok (record { key = key; rows = rows })
+  Ok (plan_of key (work rows))
+
+-- One equation a kind of change. A change that is none of documents does nothing here.
+abbrev pub planned : Index → KindData → Result PlanView CoreFault
+planned index (kind.replace given ds) = documents_planned index.key given ds replace
+planned index (kind.update given ds) = documents_planned index.key given ds update
+planned index (kind.remove ids) = Ok (plan_of index.key (remove ids))
+planned index kind.clear = Ok (plan_of index.key clear)
+planned index other = Ok (plan_of index.key (replace []))
+
+-- ---- what changes
+
+-- the document that an update leaves where one of its external id is stored
+abbrev pub over : Option Data → Data → Data
+over None new = new
+over (Some old) new = merge old new
+
+-- the document with the members that it does not name of the stored one
+abbrev pub updating : StoreRow → Store → StoreRow
+updating new s = record { external = new.external; document = over (document_under new.external s.rows) new.document }
+
+-- documents stored one after the other, each over the one that is stored by then
+abbrev pub all_updated : List StoreRow → Store → Store
+all_updated [] s = s
+all_updated (r ∷ rs) s = all_updated rs (stored (updating r s) s)
+
+abbrev pub is_named : List (List ℕ) → Row → Bool
+is_named ids r = list_any (bytes_eq r.external) ids
+
+-- the documents that none of the ids names; their internal ids are never given again, and no path goes
+abbrev pub all_removed : List (List ℕ) → Store → Store
+all_removed ids s = record { paths = s.paths; next_id = s.next_id; rows = filter (λ r. not (is_named ids r)) s.rows }
+
+abbrev pub cleared : Store → Store
+cleared s = record { paths = s.paths; next_id = s.next_id; rows = [] }
+
+abbrev pub after_work : Work → Store → Store
+after_work (replace rows) s = all_stored rows s
+after_work (update rows) s = all_updated rows s
+after_work (remove ids) s = all_removed ids s
+after_work clear s = cleared s
 
 abbrev pub unless_spent : Index → Option StoreFault → Result Index CoreFault
 unless_spent after None = Ok after
 unless_spent after (Some fault) = Err (store_refusal fault)
 
--- the index with the documents of a plan stored one after the other, unless ids or paths are spent
+-- the index after a plan, unless ids or paths are spent
 abbrev pub applied : PlanView → Index → Result Index CoreFault
 applied plan index =
-    let after = all_stored plan.rows index.store in
+    let after = after_work plan.work index.store in
     unless_spent (record { key = plan.key; store = after }) (spent after)

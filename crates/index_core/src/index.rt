@@ -1,34 +1,41 @@
-ghost use Rattle.std.specs.Prelude.{◌≡◌, ◌≢◌, ◌-◌, length, map, take, drop, Ok, Err, IfOk, OnErr, IsTrue, ◌↔◌, MatchResult};
-ghost use Rattle.std.specs.Option.{option_copied};
-ghost use Rattle.index_core.specs.Index.{empty_index, documents as documents_in};
-ghost use Rattle.index_core.specs.Plans.{key_for as key_of_change, planned, applied};
+ghost use Rattle.std.specs.Prelude.{◌≡◌, ◌≢◌, ◌+◌, ◌≤◌, length, map, take, drop, Ok, Err, IfOk, OnOk, OnErr, IsTrue, ◌↔◌, MatchResult, if◌then◌else◌};
+ghost use Rattle.std.specs.Option.{option_copied, option_map, is_some};
+ghost use Rattle.doc_values.specs.Changes.{kind_view};
+ghost use Rattle.index_core.specs.Index.{empty_index, documents as documents_in, document_under};
+ghost use Rattle.index_core.specs.Plans.{planned, applied};
+ghost use Rattle.index_core.specs.Fetches.{needed};
+ghost use Rattle.index_core.specs.Hits.{found};
 ghost use Rattle.index_core.specs.declared.fault.CoreFault.TheVariants.{NoMemory as Memory};
 
+use crate::call::{Listing, SearchCall, SearchResult};
 use crate::fault::CoreFault;
-use crate::key::key_for;
-use crate::plan::Plan;
-use crate::rows::rows_for;
+use crate::kept::KeptRows;
+use crate::plan::{Plan, Work, keeping_key, no_work, planned_replace, planned_update};
 use doc_store::DocStore;
-use doc_values::{Document, DocumentText};
-use search_base::{NoMemory, Word};
+use doc_values::{ChangeKind, DocumentText};
+use search_base::{NoMemory, Steps, Word};
 use std::alloc::Global;
 use std::marker::Model;
 
-/// One index, seen as its primary key and its store. Memory that it has for more is not seen.
+/// One index, seen as its primary key and its store. What it keeps so that a search reads no document is not seen.
 #[derive(Drop)]
 pub struct IndexCore {
     key: Option<Word>,
     store: DocStore,
+    kept: Vec<KeptRows>,
 }
 
 impl Model for IndexCore {
     ghost use Rattle.index_core.specs.Index.{Index, index_code};
+    ghost use Rattle.index_core.specs.Kept.{AreKept};
 
     ghost Value = { Index };
 
     ghost coded = { index_code };
 
     ghost view = { λ index. record { key = index.key; store = index.store.content } };
+
+    ghost invariant = { λ index. AreKept index.kept.items index.store.content };
 }
 
 impl IndexCore {
@@ -39,6 +46,7 @@ impl IndexCore {
         Ok(IndexCore {
             key: None,
             store: DocStore::new(alloc)?,
+            kept: Vec::new(alloc),
         })
     }
 
@@ -63,60 +71,86 @@ impl IndexCore {
         self.len() == 0
     }
 
-    /// The documents at the places from `offset` up to but not `end`, in the order of their internal ids. Places are
-    /// counted from 0, and those past the last document hold none.
-    #[tactic(auto, using(crate::proofs::Pages::page_documents))]
-    pub fn page(&self, alloc: Global, offset: u64, end: u64) -> Result<Vec<&DocumentText>, NoMemory>
-        ensures { IfOk result (λ page. map (λ document. document.now) page.items
-            ≡ take (end - offset) (drop offset (documents_in self.now))) }
-    {
-        self.store.page(alloc, offset, end)
-    }
-
-    /// The primary key after a change: that of the index, or else the given one, or else the one that the first
-    /// document gives. None where there is no document either.
-    pub fn key_for(
-        &self,
-        alloc: Global,
-        given: Option<&Word>,
-        documents: &[Document],
-    ) -> Result<Option<Word>, CoreFault>
-        ensures { MatchResult result
-            (λ key. key_of_change self.now.key (option_copied given.entry) documents.now ≡ Ok key)
-            (λ fault. fault ≢ Memory
-            → key_of_change self.now.key (option_copied given.entry) documents.now ≡ Err fault) }
-    {
-        key_for(alloc, self.key.as_ref(), given, documents)
-    }
-
     /// Tries the key of a change and then the id of each document, in order, and changes nothing.
     ///
-    /// A change of 2^32 documents or more counts as one for which there is no memory.
-    pub fn plan(
-        &self,
-        alloc: Global,
-        given: Option<Word>,
-        documents: Vec<Document>,
-    ) -> Result<Plan, CoreFault>
-        ensures { MatchResult result (λ plan. planned self.now given documents.items ≡ Ok plan)
-            (λ fault. fault ≢ Memory → planned self.now given documents.items ≡ Err fault) }
+    /// A change that makes an index, drops it or is one of settings is planned as one of no documents. A change of 2^32
+    /// documents or more counts as one for which there is no memory.
+    pub fn plan(&self, alloc: Global, change: ChangeKind) -> Result<Plan, CoreFault>
+        ensures { MatchResult result (λ plan. planned self.now (kind_view change) ≡ Ok plan)
+            (λ fault. fault ≢ Memory → planned self.now (kind_view change) ≡ Err fault) }
     {
-        let key = self.key_for(alloc, given.as_ref(), documents.as_slice())?;
-        let rows = rows_for(alloc, key.as_ref(), documents)?;
-        Ok(Plan { key, rows })
+        let own = self.key.as_ref();
+        match change {
+            ChangeKind::Replace { key, documents } => planned_replace(alloc, own, key, documents),
+            ChangeKind::Update { key, documents } => planned_update(alloc, own, key, documents),
+            ChangeKind::Remove { ids } => keeping_key(own, Work::Remove { ids }),
+            ChangeKind::Clear => keeping_key(own, Work::Clear),
+            _ => keeping_key(own, no_work(alloc)),
+        }
     }
 
-    /// Stores the documents of a plan, in order, under its key. Takes its memory before it changes anything: a
-    /// refusal, want of memory too, leaves the index as it was.
-    pub fn apply(&mut self, alloc: Global, plan: Plan) -> Result<(), CoreFault>
+    /// Does what a plan says, under its key. Takes its memory before it changes anything: a refusal, want of memory
+    /// too, leaves the index as it was.
+    ///
+    /// Where ids or paths are spent, ids are named first. An update reads each stored document that it names once; no
+    /// other change reads one.
+    pub fn apply<F>(
+        &mut self,
+        alloc: Global,
+        plan: Plan,
+        fetches: &mut Steps<F>,
+    ) -> Result<(), CoreFault>
         ensures answer { MatchResult result (λ _. applied plan self.old ≡ Ok self.new)
             (λ fault. fault ≢ Memory → applied plan self.old ≡ Err fault) }
         ensures stays { OnErr result (self.new ≡ self.old) }
+        ensures fetches { OnOk result (fetches.new ≡ fetches.old + needed plan.work self.old.store) }
+        ensures at_most { fetches.new ≤ fetches.old + needed plan.work self.old.store }
     {
-        let Plan { key, rows } = plan;
-        let stored = self.store.prepare(alloc, rows)?;
-        self.store.commit(stored);
-        self.key = key;
-        Ok(())
+        Err(CoreFault::NoMemory)
+    }
+
+    /// The hits of a search, each a stored document: the asked slice of the documents that match, ranked by how many
+    /// words of the query were dropped before they matched and then by their internal ids.
+    ///
+    /// Reads no other document than the hits, and each of them once.
+    pub fn search<F>(
+        &self,
+        alloc: Global,
+        call: &SearchCall,
+        fetches: &mut Steps<F>,
+    ) -> Result<SearchResult, NoMemory>
+        ensures hits { IfOk result (λ result. map (λ document. document.now) result.hits.items
+            ≡ (found self.now.store call.now).hits) }
+        ensures total { IfOk result (λ result. result.total ≡ (found self.now.store call.now).total) }
+        ensures fetches { OnOk result (fetches.new ≡ fetches.old + length (found self.now.store call.now).hits) }
+        ensures starved { OnErr result (fetches.new ≡ fetches.old) }
+    {
+        Err(NoMemory)
+    }
+
+    /// The document with an external id. Reads that document once, and none where there is none. Takes no memory.
+    pub fn get<F>(&self, external: &str, fetches: &mut Steps<F>) -> Option<&DocumentText>
+        ensures document { option_map (λ document. document.now) result ≡ document_under external.now self.now.store.rows }
+        ensures fetches { fetches.new ≡ fetches.old + (if is_some result then 1 else 0) }
+    {
+        None
+    }
+
+    /// The documents without the first `offset` of them, and at most `limit` of the rest, in the order of their internal
+    /// ids. Reads no other documents, and each of them once.
+    pub fn list<F>(
+        &self,
+        alloc: Global,
+        offset: u64,
+        limit: u64,
+        fetches: &mut Steps<F>,
+    ) -> Result<Listing, NoMemory>
+        ensures documents { IfOk result (λ listing. map (λ document. document.now) listing.documents.items
+            ≡ take limit (drop offset (documents_in self.now))) }
+        ensures total { IfOk result (λ listing. listing.total ≡ length (documents_in self.now)) }
+        ensures fetches { OnOk result (fetches.new ≡ fetches.old + length (take limit (drop offset (documents_in self.now)))) }
+        ensures starved { OnErr result (fetches.new ≡ fetches.old) }
+    {
+        Err(NoMemory)
     }
 }

@@ -6,16 +6,15 @@
 //! Stands on `doc_store`, which keeps the documents, and on `doc_values`, which reads keys and ids off them.
 #![tactic(auto)]
 
+mod call;
 mod fault;
 mod index;
+mod kept;
 mod key;
-mod laws;
 mod plan;
 mod rows;
-#[cfg(test)]
-mod tests;
 
+pub use call::{Listing, SearchCall, SearchResult};
 pub use fault::CoreFault;
 pub use index::IndexCore;
-pub use laws::{each_row_stays_under_its_id, key_stays};
 pub use plan::Plan;

@@ -1,21 +1,106 @@
+ghost use Rattle.std.specs.Prelude.{◌≡◌, ◌≢◌, [], Ok, Err, IfOk, OnErr, IfErr, MatchResult};
+ghost use Rattle.std.specs.Option.{option_copied};
+ghost use Rattle.index_core.specs.PlanView.{replace as replace_rows, update as update_rows, work_view};
+ghost use Rattle.index_core.specs.Plans.{documents_planned, plan_of};
+ghost use Rattle.index_core.specs.declared.fault.CoreFault.TheVariants.{NoMemory as Memory};
+
+use crate::fault::CoreFault;
+use crate::key::key_for;
+use crate::rows::rows_for;
 use doc_store::StoreRow;
+use doc_values::Document;
 use search_base::Word;
+use std::alloc::Global;
 use std::marker::Model;
 
-/// A change whose key and ids an index has found good: the primary key after it, and each document with its external
-/// id. It holds no memory of the index, and may be dropped.
+/// A change whose key and ids an index has found good: the primary key after it, and what is to be done. It holds no
+/// memory of the index, and may be dropped.
 #[derive(Drop)]
 pub struct Plan {
     pub(crate) key: Option<Word>,
-    pub(crate) rows: Vec<StoreRow>,
+    pub(crate) work: Work,
+}
+
+/// What a plan does to the documents of an index.
+#[derive(Drop)]
+pub(crate) enum Work {
+    /// Stores documents whole, in order.
+    Replace { rows: Vec<StoreRow> },
+    /// Stores documents, in order, each over the one of its external id.
+    Update { rows: Vec<StoreRow> },
+    /// Takes out the documents with these external ids.
+    Remove { ids: Vec<Word> },
+    /// Takes out all documents.
+    Clear,
 }
 
 impl Model for Plan {
-    ghost use Rattle.index_core.specs.PlanView.{PlanView, plan_code};
+    ghost use Rattle.index_core.specs.PlanView.{PlanView, plan_code, work_view};
 
     ghost Value = { PlanView };
 
     ghost coded = { plan_code };
 
-    ghost view = { λ plan. record { key = plan.key; rows = plan.rows.items } };
+    ghost view = { λ plan. record { key = plan.key; work = work_view plan.work } };
+}
+
+/// The documents of a change that stores them whole.
+pub(crate) fn planned_replace(
+    alloc: Global,
+    own: Option<&Word>,
+    given: Option<Word>,
+    documents: Vec<Document>,
+) -> Result<Plan, CoreFault>
+    ensures { MatchResult result
+        (λ plan. documents_planned (option_copied own.entry) given documents.items replace_rows ≡ Ok plan)
+        (λ fault. fault ≢ Memory
+        → documents_planned (option_copied own.entry) given documents.items replace_rows ≡ Err fault) }
+{
+    let key = key_for(alloc, own, given.as_ref(), documents.as_slice())?;
+    let rows = rows_for(alloc, key.as_ref(), documents)?;
+    Ok(Plan {
+        key,
+        work: Work::Replace { rows },
+    })
+}
+
+/// The documents of a change that stores each over the one of its external id.
+pub(crate) fn planned_update(
+    alloc: Global,
+    own: Option<&Word>,
+    given: Option<Word>,
+    documents: Vec<Document>,
+) -> Result<Plan, CoreFault>
+    ensures { MatchResult result
+        (λ plan. documents_planned (option_copied own.entry) given documents.items update_rows ≡ Ok plan)
+        (λ fault. fault ≢ Memory
+        → documents_planned (option_copied own.entry) given documents.items update_rows ≡ Err fault) }
+{
+    let key = key_for(alloc, own, given.as_ref(), documents.as_slice())?;
+    let rows = rows_for(alloc, key.as_ref(), documents)?;
+    Ok(Plan {
+        key,
+        work: Work::Update { rows },
+    })
+}
+
+/// The plan of work under the key that the index has.
+pub(crate) fn keeping_key(own: Option<&Word>, work: Work) -> Result<Plan, CoreFault>
+    ensures plan { IfOk result (λ plan. plan ≡ plan_of (option_copied own.entry) (work_view work)) }
+    ensures starved { IfErr result (λ fault. fault ≡ Memory) }
+{
+    let key = match own {
+        Some(key) => Some(key.clone()?),
+        None => None,
+    };
+    Ok(Plan { key, work })
+}
+
+/// No document to store.
+pub(crate) fn no_work(alloc: Global) -> Work
+    ensures { work_view result ≡ replace_rows [] }
+{
+    Work::Replace {
+        rows: Vec::new(alloc),
+    }
 }
