@@ -47,12 +47,15 @@ one_index uid key = answer 200 (index_data uid key)
 -- ---- lists
 
 -- some of so many things, by the offset and the limit that were asked
-abbrev pub listing_data : ℕ → ℕ → List Data → ℕ → Data
-listing_data offset limit results total =
+abbrev pub list_data : ℕ → ℕ → Data → ℕ → Data
+list_data offset limit results total =
     object (member (codes "limit") (count limit)
     (member (codes "offset") (count offset)
-    (member (codes "results") (array (items_of results))
+    (member (codes "results") results
     (member (codes "total") (count total) no_members))))
+
+abbrev pub listing_data : ℕ → ℕ → List Data → ℕ → Data
+listing_data offset limit results total = list_data offset limit (array (items_of results)) total
 
 abbrev pub listing : ℕ → ℕ → List Data → ℕ → Answer
 listing offset limit results total = answer 200 (listing_data offset limit results total)

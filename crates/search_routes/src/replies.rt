@@ -1,13 +1,15 @@
 // The replies to calls that are not refused.
-ghost use Rattle.std.specs.Prelude.{◌≡◌, IfOk, map, string_bytes};
+ghost use Rattle.std.specs.Prelude.{◌≡◌, IfOk, map, length, string_bytes, false};
 ghost use Rattle.std.specs.Option.{option_copied};
 ghost use Rattle.serde_json.specs.Data.{array};
 ghost use Rattle.serde_json.specs.View.{view, items_of};
-ghost use Rattle.serde_json.specs.Written.{compact_text};
+ghost use Rattle.serde_json.specs.Written.{has_float};
 ghost use Rattle.http_wire.specs.Sent.{IsSentAs};
 ghost use Rattle.search_routes.specs.Shown.{all_shown};
-ghost use Rattle.search_routes.specs.Replies.{accepted, change_data, health, health_data, index_data, one_index, one_document, listing, documents_listing, hits};
+ghost use Rattle.search_routes.specs.Replies.{accepted, change_data, health, health_data, index_data, one_index, one_document, list_data, listing, documents_listing, hits};
+ghost use Rattle.search_routes.specs.Machine.{slice, index_rows};
 
+use crate::changes::Indexes;
 use crate::printing::{hits_text, listing_text, shown_text};
 use doc_values::DocumentText;
 use http::StatusCode;
@@ -72,6 +74,57 @@ pub(crate) fn index_value(
         Some(key) => json!(in alloc; {"primaryKey": key.as_str(), "uid": uid}),
         None => json!(in alloc; {"primaryKey": null, "uid": uid}),
     }
+}
+
+/// The reply that shows the indexes from the place `offset` on, at most `limit` of them, in the order of their uids.
+pub(crate) fn indexes_reply(
+    alloc: Global,
+    offset: u64,
+    limit: u64,
+    indexes: &Indexes,
+) -> Result<Reply, NoMemory>
+    ensures { IfOk result (λ reply. IsSentAs reply
+        (listing offset limit (slice offset limit (index_rows indexes.now.entries)) (length indexes.now.entries))) }
+{
+    let total = indexes.len() as u64;
+    let rows = index_values(alloc, offset, limit, indexes)?;
+    let value = list_value(alloc, offset, limit, rows, total)?;
+    let body = value.to_vec(alloc)?;
+    make_reply(alloc, StatusCode::OK, body)
+}
+
+// The indexes from a place on, as JSON.
+fn index_values(
+    alloc: Global,
+    offset: u64,
+    limit: u64,
+    indexes: &Indexes,
+) -> Result<Value, NoMemory>
+    ensures value { IfOk result (λ value. view value
+        ≡ array (items_of (slice offset limit (index_rows indexes.now.entries)))) }
+    ensures whole { IfOk result (λ value. has_float (view value) ≡ false) }
+{
+    let mut values = Vec::new(alloc);
+    let mut at = 0;
+    for (uid, index) in indexes.iter() {
+        if at >= offset && at - offset < limit {
+            values.push(index_value(alloc, uid.as_str(), index.key())?)?;
+        }
+        at += 1;
+    }
+    Ok(Value::Array(values))
+}
+
+fn list_value(
+    alloc: Global,
+    offset: u64,
+    limit: u64,
+    results: Value,
+    total: u64,
+) -> Result<Value, AllocError>
+    ensures { IfOk result (λ value. view value ≡ list_data offset limit (view results) total) }
+{
+    json!(in alloc; {"limit": limit, "offset": offset, "results": results, "total": total})
 }
 
 /// The reply that shows some of `total` documents, by the members that `fields` names.

@@ -1,0 +1,71 @@
+-- The call that a request is, or why it is none: its first fault in the order in which it is tried.
+use Rattle.std.specs.Prelude.{◌≡◌, ℕ, List, [], ◌∷◌, codes, true, Result, Ok, Err}
+use Rattle.doc_values.specs.Changes.{change_view, create, drop_index, replace, update, remove, clear}
+use Rattle.http_wire.specs.Stream.{Request}
+use Rattle.http_wire.specs.Sent.{IsSentAs}
+use Rattle.search_calls.specs.declared.refusal.Refusal.{Refusal}
+use Rattle.search_calls.specs.declared.routes.Route.{Route}
+use Rattle.search_calls.specs.declared.routes.Route.TheVariants.{Health, CreateIndex, ListIndexes, ShowIndex, DropIndex, AddDocuments, UpdateDocuments, ListDocuments, ClearDocuments, ShowDocument, RemoveDocument, RemoveDocuments, Search}
+use Rattle.search_calls.specs.declared.call.Call.{Call}
+use Rattle.search_calls.specs.declared.call.Call.TheVariants as call
+use Rattle.search_calls.specs.Trying.{◌>>=◌, ◌>>◌}
+use Rattle.search_calls.specs.Refusals.{refused}
+use Rattle.search_calls.specs.Routes.{path_of, query_of, parts_of, route_of, uid_fault}
+use Rattle.search_calls.specs.Query.{Pair, query_for, value_of, count_in, fields_in}
+use Rattle.search_calls.specs.Bodies.{index_in, documents_in, ids_in, search_of, is_unquoted}
+use Rattle.search_calls.specs.Asked.{ReadData, CallData, write, read, read_view}
+use Rattle.search_calls.specs.Asked as asked
+
+-- what a route makes of the uid and the id of its path, of the query string and of the body
+abbrev pub call_at : Route → List ℕ → List ℕ → List Pair → List ℕ → Result CallData Refusal
+call_at Health uid id query body = Ok (read asked.health)
+call_at CreateIndex uid id query body = do
+  index ← index_in body
+  Ok (write (record { uid = index.0; kind = create index.1 }))
+call_at ListIndexes uid id query body = Ok (read (asked.indexes (count_in (codes "offset") 0 query) (count_in (codes "limit") 20 query)))
+call_at ShowIndex uid id query body = Ok (read (asked.index uid))
+call_at DropIndex uid id query body = Ok (write (record { uid = uid; kind = drop_index }))
+call_at AddDocuments uid id query body = do
+  documents ← documents_in body
+  Ok (write (record { uid = uid; kind = replace (value_of (codes "primaryKey") query) documents }))
+call_at UpdateDocuments uid id query body = do
+  documents ← documents_in body
+  Ok (write (record { uid = uid; kind = update (value_of (codes "primaryKey") query) documents }))
+call_at ListDocuments uid id query body =
+    Ok (read (asked.documents uid (count_in (codes "offset") 0 query) (count_in (codes "limit") 20 query) (fields_in query)))
+call_at ClearDocuments uid id query body = Ok (write (record { uid = uid; kind = clear }))
+call_at ShowDocument uid id query body = Ok (read (asked.document uid id (fields_in query)))
+call_at RemoveDocument uid id query body = Ok (write (record { uid = uid; kind = remove (id ∷ []) }))
+call_at RemoveDocuments uid id query body = do
+  ids ← ids_in body
+  Ok (write (record { uid = uid; kind = remove ids }))
+call_at Search uid id query body = do
+  search ← search_of body
+  Ok (read (asked.search uid search))
+
+-- the path and the method, the uid, the query string, and the body
+abbrev pub call_of : Request → Result CallData Refusal
+call_of q = do
+  found ← route_of q.method (parts_of (path_of q.target))
+  query ← (uid_fault found.uid >> query_for found.route (query_of q.target))
+  call_at found.route found.uid found.id query q.body
+
+-- the call is that of the definition; a refused one comes with its reply
+abbrev pub IsCall : Call → Result CallData Refusal → Type 0
+IsCall (call.Refused reply) defined = (r : Refusal) × (defined ≡ Err r) × IsSentAs reply (refused r)
+IsCall (call.Write change) defined = defined ≡ Ok (write (change_view change))
+IsCall (call.Read c) defined = defined ≡ Ok (read (read_view c))
+
+-- what is searched for has no quotes
+abbrev pub IsUnquotedRead : ReadData → Type 0
+IsUnquotedRead asked.health = Unit {0}
+IsUnquotedRead (asked.indexes offset limit) = Unit {0}
+IsUnquotedRead (asked.index uid) = Unit {0}
+IsUnquotedRead (asked.documents uid offset limit fields) = Unit {0}
+IsUnquotedRead (asked.document uid id fields) = Unit {0}
+IsUnquotedRead (asked.search uid call) = is_unquoted call.q ≡ true
+
+abbrev pub IsUnquoted : Call → Type 0
+IsUnquoted (call.Refused reply) = Unit {0}
+IsUnquoted (call.Write change) = Unit {0}
+IsUnquoted (call.Read c) = IsUnquotedRead (read_view c)

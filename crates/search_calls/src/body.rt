@@ -1,0 +1,156 @@
+ghost use Rattle.std.specs.Prelude.{◌≡◌, ◌≤◌, IfOk, Some, None, option_map};
+ghost use Rattle.serde_json.specs.Data.{depth};
+ghost use Rattle.serde_json.specs.Read.{max_depth};
+ghost use Rattle.serde_json.specs.Find.{get, get_member};
+ghost use Rattle.serde_json.specs.View.{view, members_view, items_view};
+ghost use Rattle.search_calls.specs.Gives.{Gives, Checks};
+ghost use Rattle.search_calls.specs.Held.{new_index};
+ghost use Rattle.search_calls.specs.Bodies.{json_in, documents_in as documents_of_body, index_in, index_from, index_member_fault, index_members_fault, is_key_or_null as key_or_null, is_uid_text, as_text, text_or_none, ids_in, ids_of, ids_from};
+
+use crate::refusal::{Fault, Refusal};
+use crate::routes::is_uid;
+use doc_values::{BodyFault, Document, documents_of, id_of};
+use search_base::{NoMemory, Word};
+use serde_json::{Map, Value};
+use std::alloc::Global;
+
+/// An index that is to be made: its uid, and its primary key where one is given.
+pub(crate) struct NewIndex {
+    pub uid: Word,
+    pub key: Option<Word>,
+}
+
+/// The JSON value that a body is.
+pub(crate) fn read_json(alloc: Global, body: &[u8]) -> Result<Value, Fault>
+    ensures value { Gives view result (json_in body.now) }
+    ensures shallow { IfOk result (λ value. depth (view value) ≤ max_depth) }
+{
+    match Value::from_slice(alloc, body) {
+        Ok(value) => Ok(value),
+        Err(e) => if e.is_memory() {
+            Err(Fault::NoMemory)
+        } else {
+            Err(Fault::from(Refusal::NotJson))
+        },
+    }
+}
+
+/// The documents of a body.
+pub(crate) fn read_documents(alloc: Global, body: &[u8]) -> Result<Vec<Document>, Fault>
+    ensures { Gives (λ documents. documents.items) result (documents_of_body body.now) }
+{
+    let value = read_json(alloc, body)?;
+    match documents_of(alloc, value) {
+        Ok(documents) => Ok(documents),
+        Err(BodyFault::NotList) => Err(Fault::from(Refusal::NotList)),
+        Err(BodyFault::NotObject { document }) => Err(Fault::from(Refusal::NotObject { document })),
+        Err(BodyFault::NumberNotWhole { document, path }) => {
+            Err(Fault::from(Refusal::NumberNotWhole { document, path }))
+        }
+        Err(BodyFault::NoMemory) => Err(Fault::NoMemory),
+    }
+}
+
+/// The ids of a body.
+pub(crate) fn read_ids(alloc: Global, body: &[u8]) -> Result<Vec<Word>, Fault>
+    ensures { Gives (λ ids. ids.items) result (ids_in body.now) }
+{
+    match read_json(alloc, body)? {
+        Value::Array(items) => ids_among(alloc, &items),
+        _ => Err(Fault::from(Refusal::NotList)),
+    }
+}
+
+fn ids_among(alloc: Global, items: &[Value]) -> Result<Vec<Word>, Fault>
+    ensures { Gives (λ ids. ids.items) result (ids_from 1 (items_view items.now)) }
+{
+    let mut ids = Vec::new(alloc);
+    for before in 0..items.len() {
+        match id_of(alloc, &items[before])? {
+            Some(id) => ids.push(id)?,
+            None => {
+                return Err(Fault::from(Refusal::BadListedId {
+                    place: before as u64 + 1,
+                }));
+            }
+        }
+    }
+    Ok(ids)
+}
+
+/// The index that a body asks for.
+pub(crate) fn read_index(alloc: Global, body: &[u8]) -> Result<NewIndex, Fault>
+    ensures { Gives new_index result (index_in body.now) }
+{
+    match read_json(alloc, body)? {
+        Value::Object(members) => index_call(alloc, &members),
+        _ => Err(Fault::from(Refusal::Unknown {
+            name: Word::new(alloc, "body")?,
+        })),
+    }
+}
+
+fn index_call(alloc: Global, members: &Map<String, Value>) -> Result<NewIndex, Fault>
+    ensures { Gives new_index result (index_from (members_view members.now.entries)) }
+{
+    check_members(alloc, members)?;
+    match text_of(alloc, members.get("uid"))? {
+        Some(uid) => Ok(NewIndex {
+            uid,
+            key: text_of(alloc, members.get("primaryKey"))?,
+        }),
+        None => Err(Fault::from(Refusal::MissingUid)),
+    }
+}
+
+// The text that a member is, where it is there and is one.
+fn text_of(alloc: Global, value: Option<&Value>) -> Result<Option<Word>, NoMemory>
+    ensures { IfOk result (λ word. word ≡ text_or_none (option_map (λ v. view v.now) value.entry)) }
+{
+    match value.and_then(Value::as_str) {
+        Some(text) => Ok(Some(Word::new(alloc, text)?)),
+        None => Ok(None),
+    }
+}
+
+fn check_members(alloc: Global, members: &Map<String, Value>) -> Result<(), Fault>
+    ensures { Checks result (index_members_fault (members_view members.now.entries)) }
+{
+    for (name, value) in members.iter() {
+        check_member(alloc, name.as_str(), value)?;
+    }
+    Ok(())
+}
+
+fn check_member(alloc: Global, name: &str, value: &Value) -> Result<(), Fault>
+    ensures { Checks result (index_member_fault name.now (view value.now)) }
+{
+    match name {
+        "primaryKey" if is_key_or_null(value) => Ok(()),
+        "uid" if names_index(value) => Ok(()),
+        "uid" => Err(Fault::from(Refusal::InvalidUid)),
+        _ => Err(Fault::from(Refusal::Unknown {
+            name: Word::new(alloc, name)?,
+        })),
+    }
+}
+
+// A text that is not empty, or null.
+fn is_key_or_null(value: &Value) -> bool
+    ensures { result ≡ key_or_null (view value.now) }
+{
+    match value {
+        Value::Null => true,
+        Value::String(text) => !text.is_empty(),
+        _ => false,
+    }
+}
+
+fn names_index(value: &Value) -> bool
+    ensures { result ≡ is_uid_text (as_text (view value.now)) }
+{
+    match value {
+        Value::String(text) => is_uid(text.as_str()),
+        _ => false,
+    }
+}

@@ -1,0 +1,21 @@
+//! From a request to the call that it asks for: its route, its query string and its body, or why it is refused.
+//!
+//! Promises that the call is the one of `call_of` in specs/Calls.antt, or the reply to the request's first fault; its
+//! one free answer is want of memory. Contracts see a `Call` as a `CallData`, a change or a read whose vectors are
+//! lists, and a `Refusal` as itself. Stands on http_wire for requests and replies, on doc_values for documents, ids and
+//! changes, and on serde_json, form_urlencoded and matchit for bodies, query strings and paths.
+#![tactic(auto)]
+
+mod body;
+mod call;
+mod laws;
+mod parts;
+mod path;
+mod query;
+mod refusal;
+mod routes;
+mod search;
+
+pub use call::{Call, ReadCall, SearchCall, read_call};
+pub use laws::one_route_at_most;
+pub use refusal::{Fault, Refusal, refusal_reply};

@@ -1,0 +1,170 @@
+ghost use Rattle.std.specs.Prelude.{◌≡◌, map};
+ghost use Rattle.std.specs.List.{list_all};
+ghost use Rattle.std.specs.Map.{lookup};
+ghost use Rattle.std.specs.Str.{bytes_eq};
+ghost use Rattle.search_calls.specs.Gives.{Gives, Tells};
+ghost use Rattle.search_calls.specs.Held.{given_by, methods, pattern, HasPlace, HasPlaceOf};
+ghost use Rattle.search_calls.specs.Routes.{path_of, query_of, parts_of as parts_in, route_of, uid_in, id_in, is_uid as is_uid_text, is_uid_byte};
+
+use crate::parts::parts_of;
+use crate::path::{Place, place_of};
+use crate::refusal::{Fault, Refusal};
+use std::alloc::Global;
+
+/// The routes.
+#[derive(Clone, Copy, Debug, PartialEq, Eq)]
+pub(crate) enum Route {
+    /// `GET /health`
+    Health,
+    /// `POST /indexes`
+    CreateIndex,
+    /// `GET /indexes`
+    ListIndexes,
+    /// `GET /indexes/{uid}`
+    ShowIndex,
+    /// `DELETE /indexes/{uid}`
+    DropIndex,
+    /// `POST /indexes/{uid}/documents`
+    AddDocuments,
+    /// `PUT /indexes/{uid}/documents`
+    UpdateDocuments,
+    /// `GET /indexes/{uid}/documents`
+    ListDocuments,
+    /// `DELETE /indexes/{uid}/documents`
+    ClearDocuments,
+    /// `GET /indexes/{uid}/documents/{id}`
+    ShowDocument,
+    /// `DELETE /indexes/{uid}/documents/{id}`
+    RemoveDocument,
+    /// `POST /indexes/{uid}/documents/delete-batch`
+    RemoveDocuments,
+    /// `POST /indexes/{uid}/search`
+    Search,
+}
+
+/// A route, with the uid and the id that the request's path names; each is empty where the path names none.
+#[derive(Clone, Copy)]
+pub(crate) struct Found<'a> {
+    pub route: Route,
+    pub uid: &'a str,
+    pub id: &'a str,
+}
+
+/// A target's path, and what follows its first `?`, or nothing.
+pub(crate) fn split_target(target: &str) -> (&str, &str)
+    ensures path { result.0.now ≡ path_of target.now }
+    ensures query { result.1.now ≡ query_of target.now }
+{
+    match target.split_once('?') {
+        Some((path, query)) => (path, query),
+        None => (target, ""),
+    }
+}
+
+/// The route that a method and a path name.
+pub(crate) fn find_route<'a>(alloc: Global, method: &str, path: &'a str) -> Result<Found<'a>, Fault>
+    ensures { Gives given_by result (route_of method.now (parts_in path.now)) }
+{
+    let parts = parts_of(alloc, path, '/')?;
+    match place_of(method, &parts) {
+        Some(place) => match found_at(method, place, &parts) {
+            Ok(found) => Ok(found),
+            Err(refusal) => Err(Fault::from(refusal)),
+        },
+        None => Err(Fault::from(Refusal::NoRoute)),
+    }
+}
+
+/// The route of a method at a place that the parts of a path name. Takes no memory.
+fn found_at<'a>(method: &str, place: Place, parts: &[&'a str]) -> Result<Found<'a>, Refusal>
+    requires { HasPlace method.now (map (λ part. part.now) parts.now) place }
+    ensures { Tells given_by result (route_of method.now (map (λ part. part.now) parts.now)) }
+{
+    match route_at(method, place) {
+        Some(route) => Ok(Found {
+            route,
+            uid: uid_among(place, parts),
+            id: id_among(place, parts),
+        }),
+        None => Err(Refusal::MethodNotAllowed),
+    }
+}
+
+// The uid that the parts of a path at this place name, or the empty text.
+fn uid_among<'a>(place: Place, parts: &[&'a str]) -> &'a str
+    requires { HasPlaceOf place (map (λ part. part.now) parts.now) }
+    ensures { result.now ≡ uid_in (pattern place) (map (λ part. part.now) parts.now) }
+{
+    match place {
+        Place::Health | Place::Indexes => "",
+        _ => parts[2],
+    }
+}
+
+// The id that the parts of a path at this place name, or the empty text.
+fn id_among<'a>(place: Place, parts: &[&'a str]) -> &'a str
+    requires { HasPlaceOf place (map (λ part. part.now) parts.now) }
+    ensures { result.now ≡ id_in (pattern place) (map (λ part. part.now) parts.now) }
+{
+    match place {
+        Place::Document => parts[4],
+        _ => "",
+    }
+}
+
+/// The table of routes: the method and the place of each. Takes no memory.
+fn route_at(method: &str, place: Place) -> Option<Route>
+    ensures { result ≡ lookup (bytes_eq method.now) (methods place) }
+{
+    match place {
+        Place::Health => match method {
+            "GET" => Some(Route::Health),
+            _ => None,
+        },
+        Place::Indexes => match method {
+            "POST" => Some(Route::CreateIndex),
+            "GET" => Some(Route::ListIndexes),
+            _ => None,
+        },
+        Place::Index => match method {
+            "GET" => Some(Route::ShowIndex),
+            "DELETE" => Some(Route::DropIndex),
+            _ => None,
+        },
+        Place::Documents => match method {
+            "POST" => Some(Route::AddDocuments),
+            "PUT" => Some(Route::UpdateDocuments),
+            "GET" => Some(Route::ListDocuments),
+            "DELETE" => Some(Route::ClearDocuments),
+            _ => None,
+        },
+        Place::Document => match method {
+            "GET" => Some(Route::ShowDocument),
+            "DELETE" => Some(Route::RemoveDocument),
+            _ => None,
+        },
+        Place::DeleteBatch => match method {
+            "POST" => Some(Route::RemoveDocuments),
+            _ => None,
+        },
+        Place::Search => match method {
+            "POST" => Some(Route::Search),
+            _ => None,
+        },
+    }
+}
+
+/// Whether a text is a uid: 1 to 400 bytes of ASCII letters, digits, `-` and `_`. Takes no memory.
+pub(crate) fn is_uid(text: &str) -> bool
+    ensures { result ≡ is_uid_text text.now }
+{
+    !text.is_empty() && text.len() <= 400 && are_uid_bytes(text.as_bytes())
+}
+
+fn are_uid_bytes(bytes: &[u8]) -> bool
+    ensures { result ≡ list_all is_uid_byte bytes.now }
+{
+    bytes
+        .iter()
+        .all(|b| b.is_ascii_alphanumeric() || *b == b'-' || *b == b'_')
+}

@@ -1,0 +1,152 @@
+ghost use Rattle.std.specs.Prelude.{◌≡◌, IfOk, option_map};
+ghost use Rattle.serde_json.specs.Find.{get_member};
+ghost use Rattle.serde_json.specs.View.{view, members_view};
+ghost use Rattle.search_calls.specs.Gives.{Gives, Checks};
+ghost use Rattle.search_calls.specs.Bodies.{object_in, member_named, is_built as is_built_value, is_unquoted as is_unquoted_text, is_query_or_null as query_or_null, is_count_or_null as count_or_null, member_fault, members_fault, count_or, text_or_none, text_or_empty, search_from, search_of};
+
+use crate::body::read_json;
+use crate::call::SearchCall;
+use crate::refusal::{Fault, Refusal};
+use search_base::{NoMemory, Word};
+use serde_json::{Map, Value};
+use std::alloc::Global;
+
+/// What a member of a search is: the text that is searched for, a whole number, or a member that is not built yet.
+#[derive(Clone, Copy, Debug, PartialEq, Eq)]
+pub(crate) enum Member {
+    Query,
+    Count,
+    Later,
+}
+
+/// The search that a body asks for.
+pub(crate) fn read_search(alloc: Global, body: &[u8]) -> Result<SearchCall, Fault>
+    ensures { Gives (λ call. call) result (search_of body.now) }
+{
+    match read_object(alloc, body)? {
+        Value::Object(members) => search_call(alloc, &members),
+        _ => Err(Fault::from(Refusal::Unknown {
+            name: Word::new(alloc, "body")?,
+        })),
+    }
+}
+
+// An empty body counts as an object with no members.
+fn read_object(alloc: Global, body: &[u8]) -> Result<Value, Fault>
+    ensures { Gives view result (object_in body.now) }
+{
+    if body.is_empty() {
+        return Ok(Value::Object(Map::new(alloc)));
+    }
+    read_json(alloc, body)
+}
+
+fn search_call(alloc: Global, members: &Map<String, Value>) -> Result<SearchCall, Fault>
+    ensures { Gives (λ call. call) result (search_from (members_view members.now.entries)) }
+{
+    check_members(alloc, members)?;
+    Ok(SearchCall {
+        q: query_of(alloc, members.get("q"))?,
+        offset: count_of(members.get("offset"), 0),
+        limit: count_of(members.get("limit"), 20),
+    })
+}
+
+fn query_of(alloc: Global, value: Option<&Value>) -> Result<Word, NoMemory>
+    ensures { IfOk result (λ word. word ≡ text_or_empty (text_or_none (option_map (λ v. view v.now) value.entry))) }
+{
+    Word::new(alloc, value.and_then(Value::as_str).unwrap_or(""))
+}
+
+fn count_of(value: Option<&Value>, default: u64) -> u64
+    ensures { result ≡ count_or default (option_map (λ v. view v.now) value.entry) }
+{
+    value.and_then(Value::as_u64).unwrap_or(default)
+}
+
+fn check_members(alloc: Global, members: &Map<String, Value>) -> Result<(), Fault>
+    ensures { Checks result (members_fault (members_view members.now.entries)) }
+{
+    for (name, value) in members.iter() {
+        check_member(alloc, name.as_str(), value)?;
+    }
+    Ok(())
+}
+
+fn check_member(alloc: Global, name: &str, value: &Value) -> Result<(), Fault>
+    ensures { Checks result (member_fault name.now (view value.now)) }
+{
+    match member_of(name) {
+        None => Err(Fault::from(Refusal::Unknown {
+            name: Word::new(alloc, name)?,
+        })),
+        Some(member) => if is_built(member, value) {
+            Ok(())
+        } else {
+            Err(Fault::from(Refusal::NotBuilt {
+                name: Word::new(alloc, name)?,
+            }))
+        },
+    }
+}
+
+// The members of a search.
+fn member_of(name: &str) -> Option<Member>
+    ensures { result ≡ member_named name.now }
+{
+    match name {
+        "q" => Some(Member::Query),
+        "offset" => Some(Member::Count),
+        "limit" => Some(Member::Count),
+        "page" => Some(Member::Later),
+        "hitsPerPage" => Some(Member::Later),
+        "filter" => Some(Member::Later),
+        "facets" => Some(Member::Later),
+        "sort" => Some(Member::Later),
+        "attributesToRetrieve" => Some(Member::Later),
+        "matchingStrategy" => Some(Member::Later),
+        "showCosts" => Some(Member::Later),
+        "attributesToHighlight" => Some(Member::Later),
+        "attributesToCrop" => Some(Member::Later),
+        "cropLength" => Some(Member::Later),
+        "cropMarker" => Some(Member::Later),
+        "highlightPreTag" => Some(Member::Later),
+        "highlightPostTag" => Some(Member::Later),
+        "showMatchesPosition" => Some(Member::Later),
+        "distinct" => Some(Member::Later),
+        _ => None,
+    }
+}
+
+fn is_built(member: Member, value: &Value) -> bool
+    ensures { result ≡ is_built_value member (view value.now) }
+{
+    match member {
+        Member::Query => is_query_or_null(value),
+        Member::Count => is_count_or_null(value),
+        Member::Later => false,
+    }
+}
+
+// Null, or a text without quotes.
+fn is_query_or_null(value: &Value) -> bool
+    ensures { result ≡ query_or_null (view value.now) }
+{
+    match value {
+        Value::Null => true,
+        Value::String(text) => is_unquoted(text.as_bytes()),
+        _ => false,
+    }
+}
+
+fn is_unquoted(bytes: &[u8]) -> bool
+    ensures { result ≡ is_unquoted_text bytes.now }
+{
+    !bytes.iter().any(|b| *b == b'"')
+}
+
+fn is_count_or_null(value: &Value) -> bool
+    ensures { result ≡ count_or_null (view value.now) }
+{
+    value.is_null() || value.is_u64()
+}
