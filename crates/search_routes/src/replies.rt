@@ -1,9 +1,9 @@
 // The replies to calls that are not refused.
-ghost use Rattle.std.specs.Prelude.{◌≡◌, IfOk, map, length, string_bytes, false};
+ghost use Rattle.std.specs.Prelude.{◌≡◌, ◌++◌, ◌∷◌, List, IfOk, OnOk, map, length, string_bytes, false};
 ghost use Rattle.std.specs.Option.{option_copied};
-ghost use Rattle.serde_json.specs.Data.{array};
-ghost use Rattle.serde_json.specs.View.{view, items_of};
-ghost use Rattle.serde_json.specs.Written.{has_float};
+ghost use Rattle.serde_json.specs.Data.{Data, array};
+ghost use Rattle.serde_json.specs.View.{view, items_of, items_view};
+ghost use Rattle.serde_json.specs.Written.{has_float, items_have_float};
 ghost use Rattle.http_wire.specs.Sent.{IsSentAs};
 ghost use Rattle.search_routes.specs.Shown.{all_shown};
 ghost use Rattle.search_routes.specs.Replies.{accepted, change_data, health, health_data, index_data, one_index, one_document, list_data, listing, documents_listing, hits};
@@ -105,14 +105,51 @@ fn index_values(
     ensures whole { IfOk result (λ value. has_float (view value) ≡ false) }
 {
     let mut values = Vec::new(alloc);
-    let mut at = 0;
+    let mut left = Left {
+        skip: offset,
+        room: limit,
+    };
     for (uid, index) in indexes.iter() {
-        if at >= offset && at - offset < limit {
-            values.push(index_value(alloc, uid.as_str(), index.key())?)?;
-        }
-        at += 1;
+        left = put_index(alloc, &mut values, left, uid.as_str(), index.key())?;
     }
     Ok(Value::Array(values))
+}
+
+// How many rows are still passed over, and how many are taken after them.
+#[derive(Clone, Copy)]
+struct Left {
+    skip: u64,
+    room: u64,
+}
+
+// Passes over an index, or puts it among the values where there is room.
+fn put_index(
+    alloc: Global,
+    values: &mut Vec<Value>,
+    left: Left,
+    uid: &str,
+    key: Option<&Word>,
+) -> Result<Left, NoMemory>
+    ensures rows { IfOk result (λ after. (rest : List Data)
+        → map view values.new.items ++ slice after.skip after.room rest
+        ≡ map view values.old.items ++ slice left.skip left.room (index_data uid.now (option_copied key.entry) ∷ rest)) }
+    ensures whole { items_have_float (items_view values.old.items) ≡ false
+        → OnOk result (items_have_float (items_view values.new.items) ≡ false) }
+{
+    if left.skip > 0 {
+        return Ok(Left {
+            skip: left.skip - 1,
+            room: left.room,
+        });
+    }
+    if left.room == 0 {
+        return Ok(left);
+    }
+    values.push(index_value(alloc, uid, key)?)?;
+    Ok(Left {
+        skip: 0,
+        room: left.room - 1,
+    })
 }
 
 fn list_value(
