@@ -1,3 +1,7 @@
 pub mod Splits
-pub mod RouteLemmas
 pub mod JsonBodies
+pub mod Listed
+pub mod Rows
+pub mod Paths
+pub mod Numbers
+pub mod Unquoted

@@ -1,5 +1,6 @@
 -- The pieces of a text between separators, from the first piece on.
-use Rattle.std.proofs.Common.{◌≡◌, ◌≢◌, ℕ, suc, ◌<◌, List, [], ◌∷◌, length, sym, refl, ap, ◌∙◌, subst, ⊎_elim, arith}
+use Rattle.std.proofs.Common.{◌≡◌, ◌≢◌, ℕ, suc, ◌<◌, List, [], ◌∷◌, ◌++◌, append_assoc, length, map, Bor, sym, refl, ap, ◌∙◌, subst, ⊎_elim, arith}
+use Rattle.std.proofs.lemmas.List.{map-append}
 use Rattle.std.specs.Prelude.{◌==◌}
 use Rattle.std.specs.List.{position_or_len, before_first, after_first}
 use Rattle.std.proofs.lemmas.Bool.{cond-true, cond-false, cases_eq, eq-eqb, ne_eqb}
@@ -52,3 +53,10 @@ split_whole s (b ∷ bs) none =
     let whole : place s bs ≡ length bs = omega (arith, shifted, none) in
     split_other s b bs other ∙ ap (onto_first b) (split_whole s bs whole))
     (cases_eq b s)
+
+-- one piece more
+pub grown : (parts : List (Bor (List ℕ))) (part : Bor (List ℕ)) (more left all : List (List ℕ))
+    → left ≡ part.now ∷ more → map (λ part. part.now) parts ++ left ≡ all → map (λ part. part.now) (parts ++ part ∷ []) ++ more ≡ all
+grown parts part more left all is whole =
+    ap (λ v. v ++ more) (map-append (λ part. part.now) parts (part ∷ [])) ∙ append_assoc (map (λ part. part.now) parts) (part.now ∷ []) more
+    ∙ ap (λ v. map (λ part. part.now) parts ++ v) (sym is) ∙ whole

@@ -77,11 +77,14 @@ index_members_fault no_members = None
 index_members_fault (member name d ms) = first_of (index_member_fault name d) (index_members_fault ms)
 
 -- the uid, and the primary key where one is given
-abbrev pub index_from : Members → Result (List ℕ × Option (List ℕ)) Refusal
-index_from ms = index_members_fault ms >> (or_refuse MissingUid (text_at (codes "uid") ms) >>= λ uid. Ok (uid, text_at (codes "primaryKey") ms))
+abbrev pub index_from_members : Members → Result (List ℕ × Option (List ℕ)) Refusal
+index_from_members ms = index_members_fault ms >> (or_refuse MissingUid (text_at (codes "uid") ms) >>= λ uid. Ok (uid, text_at (codes "primaryKey") ms))
+
+abbrev pub index_from : Data → Result (List ℕ × Option (List ℕ)) Refusal
+index_from d = members_of d >>= index_from_members
 
 abbrev pub index_in : List ℕ → Result (List ℕ × Option (List ℕ)) Refusal
-index_in body = json_in body >>= members_of >>= index_from
+index_in body = json_in body >>= index_from
 
 -- ---- added documents
 
@@ -227,8 +230,11 @@ search_in ms = record {
   limit = count_or 20 (get_member (codes "limit") ms);
 }
 
-abbrev pub search_from : Members → Result SearchCall Refusal
-search_from ms = members_fault ms >> Ok (search_in ms)
+abbrev pub search_from_members : Members → Result SearchCall Refusal
+search_from_members ms = members_fault ms >> Ok (search_in ms)
+
+abbrev pub search_from : Data → Result SearchCall Refusal
+search_from d = members_of d >>= search_from_members
 
 -- an empty body counts as an object with no members
 abbrev pub object_in : List ℕ → Result Data Refusal
@@ -237,4 +243,4 @@ object_in (b ∷ bytes) = json_in (b ∷ bytes)
 
 -- the search that a body asks for
 abbrev pub search_of : List ℕ → Result SearchCall Refusal
-search_of body = object_in body >>= members_of >>= search_from
+search_of body = object_in body >>= search_from

@@ -1,5 +1,5 @@
 -- What the code holds of a request, as the definitions have it.
-use Rattle.std.specs.Prelude.{◌≡◌, ℕ, List, [], ◌∷◌, true, false, ◌&&◌, filter, codes, Option}
+use Rattle.std.specs.Prelude.{◌≡◌, ◌<◌, nat_lt, Bool, ℕ, List, [], ◌∷◌, length, false, ◌&&◌, filter, codes, Option}
 use Rattle.std.specs.Str.{bytes_eq}
 use Rattle.search_calls.specs.declared.routes.Found.{Found as HeldRoute}
 use Rattle.search_calls.specs.declared.query.Pair.{Pair as HeldPair}
@@ -12,7 +12,7 @@ use Rattle.search_calls.specs.declared.path.Place.{Place}
 use Rattle.search_calls.specs.declared.path.Place.TheVariants as place
 use Rattle.search_calls.specs.declared.routes.Route.{Route}
 use Rattle.search_calls.specs.declared.routes.Route.TheVariants.{Health, CreateIndex, ListIndexes, ShowIndex, DropIndex, AddDocuments, UpdateDocuments, ListDocuments, ClearDocuments, ShowDocument, RemoveDocument, RemoveDocuments, Search}
-use Rattle.search_calls.specs.Routes.{Found, Part, text, any_id, health, indexes, index, of_index, of_documents, agrees, has_path, routes}
+use Rattle.search_calls.specs.Routes.{Found, has_path, routes}
 use Rattle.search_calls.specs.Query.{Pair}
 
 abbrev pub given_by : HeldRoute → Found
@@ -30,38 +30,68 @@ new_index held = (held.uid, held.key)
 
 -- ---- the paths of the routes
 
-abbrev pub pattern : Place → List Part
-pattern place.Health = health
-pattern place.Indexes = indexes
-pattern place.Index = index
-pattern place.Documents = of_index (codes "documents")
-pattern place.Document = of_documents any_id
-pattern place.DeleteBatch = of_documents (text (codes "delete-batch"))
-pattern place.Search = of_index (codes "search")
+abbrev pub in_documents : List ℕ → List ℕ → List (List ℕ)
+in_documents uid last = [] ∷ codes "indexes" ∷ uid ∷ codes "documents" ∷ last ∷ []
+
+-- A request's method and the parts of its path are at the place. `delete-batch` is an id for each method but POST.
+abbrev pub IsAt : List ℕ → List (List ℕ) → Place → Type 0
+IsAt method parts place.Health = parts ≡ [] ∷ codes "health" ∷ []
+IsAt method parts place.Indexes = parts ≡ [] ∷ codes "indexes" ∷ []
+IsAt method parts (place.Index uid) = (parts ≡ [] ∷ codes "indexes" ∷ uid.now ∷ []) × (0 < length uid.now)
+IsAt method parts (place.Documents uid) = (parts ≡ [] ∷ codes "indexes" ∷ uid.now ∷ codes "documents" ∷ []) × (0 < length uid.now)
+IsAt method parts (place.Document uid id) =
+    (parts ≡ in_documents uid.now id.now) × (0 < length uid.now) × (0 < length id.now)
+    × ((bytes_eq method (codes "POST") && bytes_eq id.now (codes "delete-batch")) ≡ false)
+IsAt method parts (place.DeleteBatch uid) =
+    (parts ≡ in_documents uid.now (codes "delete-batch")) × (0 < length uid.now) × (method ≡ codes "POST")
+IsAt method parts (place.Search uid) = (parts ≡ [] ∷ codes "indexes" ∷ uid.now ∷ codes "search" ∷ []) × (0 < length uid.now)
+
+-- no route has the path
+abbrev pub HasNoPlace : List (List ℕ) → Type 0
+HasNoPlace parts = filter (has_path parts) routes ≡ []
+
+-- none has it, of so many parts
+abbrev pub HasNoTop : List ℕ → List ℕ → Type 0
+HasNoTop root name = ((bytes_eq root [] && bytes_eq name (codes "health")) ≡ false) × ((bytes_eq root [] && bytes_eq name (codes "indexes")) ≡ false)
+
+-- whether a path begins with `/indexes/{uid}`
+abbrev pub is_of_index : List ℕ → List ℕ → List ℕ → Bool
+is_of_index root first uid = bytes_eq root [] && bytes_eq first (codes "indexes") && nat_lt 0 (length uid)
+
+abbrev pub HasNoIndex : List ℕ → List ℕ → List ℕ → Type 0
+HasNoIndex root first uid = is_of_index root first uid ≡ false
+
+abbrev pub HasNoneOfIndex : List ℕ → List ℕ → List ℕ → List ℕ → Type 0
+HasNoneOfIndex root first uid name =
+    ((is_of_index root first uid && bytes_eq name (codes "documents")) ≡ false) × ((is_of_index root first uid && bytes_eq name (codes "search")) ≡ false)
+
+abbrev pub HasNoDocument : List ℕ → List ℕ → List ℕ → List ℕ → List ℕ → Type 0
+HasNoDocument root first uid name id = (is_of_index root first uid && bytes_eq name (codes "documents") && nat_lt 0 (length id)) ≡ false
+
+abbrev pub uid_of : Place → List ℕ
+uid_of place.Health = []
+uid_of place.Indexes = []
+uid_of (place.Index uid) = uid.now
+uid_of (place.Documents uid) = uid.now
+uid_of (place.Document uid id) = uid.now
+uid_of (place.DeleteBatch uid) = uid.now
+uid_of (place.Search uid) = uid.now
+
+abbrev pub id_of : Place → List ℕ
+id_of place.Health = []
+id_of place.Indexes = []
+id_of (place.Index uid) = []
+id_of (place.Documents uid) = []
+id_of (place.Document uid id) = id.now
+id_of (place.DeleteBatch uid) = []
+id_of (place.Search uid) = []
 
 -- the methods of each, and their routes
 abbrev pub methods : Place → List (List ℕ × Route)
 methods place.Health = (codes "GET", Health) ∷ []
 methods place.Indexes = (codes "POST", CreateIndex) ∷ (codes "GET", ListIndexes) ∷ []
-methods place.Index = (codes "GET", ShowIndex) ∷ (codes "DELETE", DropIndex) ∷ []
-methods place.Documents = (codes "POST", AddDocuments) ∷ (codes "PUT", UpdateDocuments) ∷ (codes "GET", ListDocuments) ∷ (codes "DELETE", ClearDocuments) ∷ []
-methods place.Document = (codes "GET", ShowDocument) ∷ (codes "DELETE", RemoveDocument) ∷ []
-methods place.DeleteBatch = (codes "POST", RemoveDocuments) ∷ []
-methods place.Search = (codes "POST", Search) ∷ []
-
-abbrev pub HasPlaceOf : Place → List (List ℕ) → Type 0
-HasPlaceOf p parts = agrees (pattern p) parts ≡ true
-
--- `delete-batch` is an id for every method but POST
-abbrev pub HasPlace : List ℕ → List (List ℕ) → Place → Type 0
-HasPlace method parts place.Health = HasPlaceOf place.Health parts
-HasPlace method parts place.Indexes = HasPlaceOf place.Indexes parts
-HasPlace method parts place.Index = HasPlaceOf place.Index parts
-HasPlace method parts place.Documents = HasPlaceOf place.Documents parts
-HasPlace method parts place.Document =
-    HasPlaceOf place.Document parts × ((bytes_eq method (codes "POST") && agrees (pattern place.DeleteBatch) parts) ≡ false)
-HasPlace method parts place.DeleteBatch = HasPlaceOf place.DeleteBatch parts × (bytes_eq method (codes "POST") ≡ true)
-HasPlace method parts place.Search = HasPlaceOf place.Search parts
-
-abbrev pub HasNoPlace : List (List ℕ) → Type 0
-HasNoPlace parts = filter (has_path parts) routes ≡ []
+methods (place.Index uid) = (codes "GET", ShowIndex) ∷ (codes "DELETE", DropIndex) ∷ []
+methods (place.Documents uid) = (codes "POST", AddDocuments) ∷ (codes "PUT", UpdateDocuments) ∷ (codes "GET", ListDocuments) ∷ (codes "DELETE", ClearDocuments) ∷ []
+methods (place.Document uid id) = (codes "GET", ShowDocument) ∷ (codes "DELETE", RemoveDocument) ∷ []
+methods (place.DeleteBatch uid) = (codes "POST", RemoveDocuments) ∷ []
+methods (place.Search uid) = (codes "POST", Search) ∷ []

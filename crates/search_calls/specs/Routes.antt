@@ -75,7 +75,7 @@ abbrev pub parts_of : List ℕ → List (List ℕ)
 parts_of path = split 47 path
 
 abbrev pub is_part : Part → List ℕ → Bool
-is_part (text t) part = bytes_eq t part
+is_part (text t) part = bytes_eq part t
 is_part any_uid part = nat_lt 0 (length part)
 is_part any_id part = nat_lt 0 (length part)
 

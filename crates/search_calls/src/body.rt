@@ -1,11 +1,11 @@
-ghost use Rattle.std.specs.Prelude.{◌≡◌, ◌≤◌, IfOk, Some, None, option_map};
+ghost use Rattle.std.specs.Prelude.{◌≡◌, ◌≤◌, IfOk};
 ghost use Rattle.serde_json.specs.Data.{depth};
 ghost use Rattle.serde_json.specs.Read.{max_depth};
-ghost use Rattle.serde_json.specs.Find.{get, get_member};
+ghost use Rattle.serde_json.specs.Find.{get};
 ghost use Rattle.serde_json.specs.View.{view, members_view, items_view};
 ghost use Rattle.search_calls.specs.Gives.{Gives, Checks};
 ghost use Rattle.search_calls.specs.Held.{new_index};
-ghost use Rattle.search_calls.specs.Bodies.{json_in, documents_in as documents_of_body, index_in, index_from, index_member_fault, index_members_fault, is_key_or_null as key_or_null, is_uid_text, as_text, text_or_none, ids_in, ids_of, ids_from};
+ghost use Rattle.search_calls.specs.Bodies.{json_in, documents_in as documents_of_body, index_in, index_from, index_member_fault, index_members_fault, is_key_or_null as key_or_null, is_uid_text, as_text, text_or_none, ids_in, ids_from};
 
 use crate::refusal::{Fault, Refusal};
 use crate::routes::is_uid;
@@ -82,32 +82,35 @@ fn ids_among(alloc: Global, items: &[Value]) -> Result<Vec<Word>, Fault>
 pub(crate) fn read_index(alloc: Global, body: &[u8]) -> Result<NewIndex, Fault>
     ensures { Gives new_index result (index_in body.now) }
 {
-    match read_json(alloc, body)? {
-        Value::Object(members) => index_call(alloc, &members),
-        _ => Err(Fault::from(Refusal::Unknown {
-            name: Word::new(alloc, "body")?,
-        })),
-    }
+    let value = read_json(alloc, body)?;
+    index_call(alloc, &value)
 }
 
-fn index_call(alloc: Global, members: &Map<String, Value>) -> Result<NewIndex, Fault>
-    ensures { Gives new_index result (index_from (members_view members.now.entries)) }
+fn index_call(alloc: Global, value: &Value) -> Result<NewIndex, Fault>
+    ensures { Gives new_index result (index_from (view value.now)) }
 {
-    check_members(alloc, members)?;
-    match text_of(alloc, members.get("uid"))? {
-        Some(uid) => Ok(NewIndex {
-            uid,
-            key: text_of(alloc, members.get("primaryKey"))?,
-        }),
+    match value {
+        Value::Object(members) => check_members(alloc, members)?,
+        _ => {
+            return Err(Fault::from(Refusal::Unknown {
+                name: Word::new(alloc, "body")?,
+            }));
+        }
+    }
+    match text_at(alloc, value, "uid")? {
+        Some(uid) => {
+            let key = text_at(alloc, value, "primaryKey")?;
+            Ok(NewIndex { uid, key })
+        }
         None => Err(Fault::from(Refusal::MissingUid)),
     }
 }
 
 // The text that a member is, where it is there and is one.
-fn text_of(alloc: Global, value: Option<&Value>) -> Result<Option<Word>, NoMemory>
-    ensures { IfOk result (λ word. word ≡ text_or_none (option_map (λ v. view v.now) value.entry)) }
+fn text_at(alloc: Global, value: &Value, name: &str) -> Result<Option<Word>, NoMemory>
+    ensures { IfOk result (λ word. word ≡ text_or_none (get name.now (view value.now))) }
 {
-    match value.and_then(Value::as_str) {
+    match value.get(name).and_then(Value::as_str) {
         Some(text) => Ok(Some(Word::new(alloc, text)?)),
         None => Ok(None),
     }

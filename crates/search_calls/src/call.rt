@@ -35,9 +35,14 @@ pub enum ReadCall {
     /// Whether the server answers.
     Health,
     /// The indexes by their uids' bytes, `limit` of them from the place `offset` on, counted from 0.
-    Indexes { offset: u64, limit: u64 },
+    Indexes {
+        offset: u64,
+        limit: u64,
+    },
     /// The index named `uid`.
-    Index { uid: Word },
+    Index {
+        uid: Word,
+    },
     /// The documents of an index in the order of their internal ids, `limit` of them from the place `offset` on. Shown
     /// are the top members named by `fields`, where `*` names all.
     Documents {
@@ -53,7 +58,10 @@ pub enum ReadCall {
         fields: Vec<Word>,
     },
     /// A search of the index named `uid`.
-    Search { uid: Word, call: SearchCall },
+    Search {
+        uid: Word,
+        call: SearchCall,
+    },
 }
 
 /// What a request asks for.
@@ -112,7 +120,7 @@ fn check_uid(uid: &str) -> Result<(), Fault>
 // What a route makes of what its path names, of the query string and of the body.
 fn ask_at(alloc: Global, found: Found, pairs: &[Pair], body: &[u8]) -> Result<Request, Fault>
     ensures { Gives call_data result
-        (call_at found.route found.uid.entry found.id.entry (map pair_of pairs.now) body.now) }
+        (call_at found.entry.route found.entry.uid.now found.entry.id.now (map pair_of pairs.now) body.now) }
 {
     let Found { route, uid, id } = found;
     match route {

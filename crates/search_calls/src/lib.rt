@@ -15,6 +15,8 @@ mod query;
 mod refusal;
 mod routes;
 mod search;
+#[cfg(test)]
+mod tests;
 
 pub use call::{Call, ReadCall, SearchCall, read_call};
 pub use laws::one_route_at_most;

@@ -1,68 +1,136 @@
-ghost use Rattle.std.specs.Prelude.{◌≡◌, ◌<◌, ℕ, List, [], ◌∷◌, length, codes, MatchOption, map};
-ghost use Rattle.search_calls.specs.Held.{HasPlace, HasNoPlace};
+ghost use Rattle.std.specs.Prelude.{◌≡◌, ◌<◌, ℕ, List, [], ◌∷◌, length, MatchOption, map};
+ghost use Rattle.search_calls.specs.Held.{IsAt, HasNoPlace, HasNoTop, HasNoIndex, HasNoneOfIndex, HasNoDocument, is_of_index as is_index_path, in_documents};
 
-/// The paths of the routes.
-#[derive(Clone, Copy, Debug, PartialEq, Eq)]
-pub(crate) enum Place {
+/// A path of the routes, with what it names. A name is never empty.
+#[derive(Clone, Copy)]
+pub(crate) enum Place<'a> {
     /// `/health`
     Health,
     /// `/indexes`
     Indexes,
     /// `/indexes/{uid}`
-    Index,
+    Index { uid: &'a str },
     /// `/indexes/{uid}/documents`
-    Documents,
+    Documents { uid: &'a str },
     /// `/indexes/{uid}/documents/{id}`
-    Document,
-    /// `/indexes/{uid}/documents/delete-batch`, with `POST` alone
-    DeleteBatch,
+    Document { uid: &'a str, id: &'a str },
+    /// `/indexes/{uid}/documents/delete-batch`, for `POST` alone: it is an id for any other method
+    DeleteBatch { uid: &'a str },
     /// `/indexes/{uid}/search`
-    Search,
+    Search { uid: &'a str },
 }
 
 /// The path that these parts are, where it is one of the routes'. Takes no memory.
-pub(crate) fn place_of(method: &str, parts: &[&str]) -> Option<Place>
+pub(crate) fn place_of<'a>(method: &str, parts: &[&'a str]) -> Option<Place<'a>>
     ensures { MatchOption result (HasNoPlace (map (λ part. part.now) parts.now))
-        (HasPlace method.now (map (λ part. part.now) parts.now)) }
+        (IsAt method.now (map (λ part. part.now) parts.now)) }
 {
-    if parts.len() < 2 || !parts[0].is_empty() {
-        return None;
+    match *parts {
+        [root, name] => top_place(root, name),
+        [root, first, uid] => index_place(root, first, uid),
+        [root, first, uid, name] => place_of_index(root, first, uid, name),
+        [root, first, uid, name, id] => place_of_document(method, root, first, uid, name, id),
+        _ => None,
     }
-    if parts.len() == 2 {
-        return match parts[1] {
-            "health" => Some(Place::Health),
-            "indexes" => Some(Place::Indexes),
-            _ => None,
-        };
-    }
-    if parts[1] != "indexes" || parts[2].is_empty() {
-        return None;
-    }
-    place_in_index(method, &parts[3..])
 }
 
-// The path that these parts are after those of an index.
-fn place_in_index(method: &str, parts: &[&str]) -> Option<Place>
-    ensures { MatchOption result
-        ((uid : List ℕ) → HasNoPlace ([] ∷ codes "indexes" ∷ uid ∷ map (λ part. part.now) parts.now))
-        (λ place. (uid : List ℕ) → 0 < length uid → HasPlace method.now ([] ∷ codes "indexes" ∷ uid ∷ map (λ part. part.now) parts.now) place) }
+fn top_place<'a>(root: &str, name: &str) -> Option<Place<'a>>
+    ensures { MatchOption result (HasNoTop root.now name.now)
+        (λ place. (method : List ℕ) → IsAt method (root.now ∷ name.now ∷ []) place) }
 {
-    if parts.is_empty() {
-        return Some(Place::Index);
-    }
-    if parts.len() == 1 {
-        return match parts[0] {
-            "documents" => Some(Place::Documents),
-            "search" => Some(Place::Search),
-            _ => None,
-        };
-    }
-    if parts.len() > 2 || parts[0] != "documents" || parts[1].is_empty() {
-        return None;
-    }
-    if method == "POST" && parts[1] == "delete-batch" {
-        Some(Place::DeleteBatch)
+    if root == "" && name == "health" {
+        Some(Place::Health)
+    } else if root == "" && name == "indexes" {
+        Some(Place::Indexes)
     } else {
-        Some(Place::Document)
+        None
+    }
+}
+
+// Whether a path begins with `/indexes/{uid}`.
+fn is_of_index(root: &str, first: &str, uid: &str) -> bool
+    ensures { result ≡ is_index_path root.now first.now uid.now }
+{
+    root == "" && first == "indexes" && !uid.is_empty()
+}
+
+fn index_place<'a>(root: &str, first: &str, uid: &'a str) -> Option<Place<'a>>
+    ensures { MatchOption result (HasNoIndex root.now first.now uid.now)
+        (λ place. (method : List ℕ) → IsAt method (root.now ∷ first.now ∷ uid.now ∷ []) place) }
+{
+    if is_of_index(root, first, uid) {
+        Some(Place::Index { uid })
+    } else {
+        None
+    }
+}
+
+fn place_of_index<'a>(root: &str, first: &str, uid: &'a str, name: &str) -> Option<Place<'a>>
+    ensures { MatchOption result (HasNoneOfIndex root.now first.now uid.now name.now)
+        (λ place. (method : List ℕ) → IsAt method (root.now ∷ first.now ∷ uid.now ∷ name.now ∷ []) place) }
+{
+    if is_of_index(root, first, uid) && name == "documents" {
+        Some(Place::Documents { uid })
+    } else if is_of_index(root, first, uid) && name == "search" {
+        Some(Place::Search { uid })
+    } else {
+        None
+    }
+}
+
+fn place_of_document<'a>(
+    method: &str,
+    root: &str,
+    first: &str,
+    uid: &'a str,
+    name: &str,
+    id: &'a str,
+) -> Option<Place<'a>>
+    ensures { MatchOption result (HasNoDocument root.now first.now uid.now name.now id.now)
+        (IsAt method.now (root.now ∷ first.now ∷ uid.now ∷ name.now ∷ id.now ∷ [])) }
+{
+    if is_of_index(root, first, uid) && name == "documents" && !id.is_empty() {
+        Some(document_place(method, uid, id))
+    } else {
+        None
+    }
+}
+
+fn document_place<'a>(method: &str, uid: &'a str, id: &'a str) -> Place<'a>
+    ensures { 0 < length uid.now → 0 < length id.now → IsAt method.now (in_documents uid.now id.now) result }
+{
+    if method == "POST" && id == "delete-batch" {
+        Place::DeleteBatch { uid }
+    } else {
+        Place::Document { uid, id }
+    }
+}
+
+impl<'a> Place<'a> {
+    ghost use Rattle.std.specs.Prelude.{◌≡◌};
+    ghost use Rattle.search_calls.specs.Held.{uid_of, id_of};
+
+    /// The uid that the path names, or the empty text. Takes no memory.
+    pub(crate) fn uid(self) -> &'a str
+        ensures { result.now ≡ uid_of self.entry }
+    {
+        match self {
+            Place::Health | Place::Indexes => "",
+            Place::Index { uid }
+            | Place::Documents { uid }
+            | Place::Document { uid, .. }
+            | Place::DeleteBatch { uid }
+            | Place::Search { uid } => uid,
+        }
+    }
+
+    /// The id that the path names, or the empty text. Takes no memory.
+    pub(crate) fn id(self) -> &'a str
+        ensures { result.now ≡ id_of self.entry }
+    {
+        match self {
+            Place::Document { id, .. } => id,
+            _ => "",
+        }
     }
 }

@@ -102,10 +102,12 @@ fn texts_of(alloc: Global, list: &str) -> Result<Vec<Word>, NoMemory>
 fn number_of(text: &str) -> Option<u64>
     ensures { result ≡ (if is_count text.now then Some (digits_value 10 text.now) else None) }
 {
-    if are_digits(text.as_bytes()) {
-        text.parse::<u64>().ok()
-    } else {
-        None
+    if !are_digits(text.as_bytes()) {
+        return None;
+    }
+    match text.parse::<u64>() {
+        Ok(number) => Some(number),
+        Err(_) => None,
     }
 }
 

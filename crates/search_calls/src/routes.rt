@@ -2,9 +2,9 @@ ghost use Rattle.std.specs.Prelude.{◌≡◌, map};
 ghost use Rattle.std.specs.List.{list_all};
 ghost use Rattle.std.specs.Map.{lookup};
 ghost use Rattle.std.specs.Str.{bytes_eq};
-ghost use Rattle.search_calls.specs.Gives.{Gives, Tells};
-ghost use Rattle.search_calls.specs.Held.{given_by, methods, pattern, HasPlace, HasPlaceOf};
-ghost use Rattle.search_calls.specs.Routes.{path_of, query_of, parts_of as parts_in, route_of, uid_in, id_in, is_uid as is_uid_text, is_uid_byte};
+ghost use Rattle.search_calls.specs.Gives.{Gives};
+ghost use Rattle.search_calls.specs.Held.{given_by, methods};
+ghost use Rattle.search_calls.specs.Routes.{path_of, query_of, parts_of as parts_in, route_of, is_uid as is_uid_text, is_uid_byte};
 
 use crate::parts::parts_of;
 use crate::path::{Place, place_of};
@@ -67,54 +67,21 @@ pub(crate) fn find_route<'a>(alloc: Global, method: &str, path: &'a str) -> Resu
 {
     let parts = parts_of(alloc, path, '/')?;
     match place_of(method, &parts) {
-        Some(place) => match found_at(method, place, &parts) {
-            Ok(found) => Ok(found),
-            Err(refusal) => Err(Fault::from(refusal)),
+        Some(place) => match route_at(method, place) {
+            Some(route) => Ok(Found {
+                route,
+                uid: place.uid(),
+                id: place.id(),
+            }),
+            None => Err(Fault::from(Refusal::MethodNotAllowed)),
         },
         None => Err(Fault::from(Refusal::NoRoute)),
     }
 }
 
-/// The route of a method at a place that the parts of a path name. Takes no memory.
-fn found_at<'a>(method: &str, place: Place, parts: &[&'a str]) -> Result<Found<'a>, Refusal>
-    requires { HasPlace method.now (map (λ part. part.now) parts.now) place }
-    ensures { Tells given_by result (route_of method.now (map (λ part. part.now) parts.now)) }
-{
-    match route_at(method, place) {
-        Some(route) => Ok(Found {
-            route,
-            uid: uid_among(place, parts),
-            id: id_among(place, parts),
-        }),
-        None => Err(Refusal::MethodNotAllowed),
-    }
-}
-
-// The uid that the parts of a path at this place name, or the empty text.
-fn uid_among<'a>(place: Place, parts: &[&'a str]) -> &'a str
-    requires { HasPlaceOf place (map (λ part. part.now) parts.now) }
-    ensures { result.now ≡ uid_in (pattern place) (map (λ part. part.now) parts.now) }
-{
-    match place {
-        Place::Health | Place::Indexes => "",
-        _ => parts[2],
-    }
-}
-
-// The id that the parts of a path at this place name, or the empty text.
-fn id_among<'a>(place: Place, parts: &[&'a str]) -> &'a str
-    requires { HasPlaceOf place (map (λ part. part.now) parts.now) }
-    ensures { result.now ≡ id_in (pattern place) (map (λ part. part.now) parts.now) }
-{
-    match place {
-        Place::Document => parts[4],
-        _ => "",
-    }
-}
-
-/// The table of routes: the method and the place of each. Takes no memory.
+/// The table of routes: the methods of each path. Takes no memory.
 fn route_at(method: &str, place: Place) -> Option<Route>
-    ensures { result ≡ lookup (bytes_eq method.now) (methods place) }
+    ensures { result ≡ lookup (bytes_eq method.now) (methods place.entry) }
 {
     match place {
         Place::Health => match method {
@@ -126,28 +93,28 @@ fn route_at(method: &str, place: Place) -> Option<Route>
             "GET" => Some(Route::ListIndexes),
             _ => None,
         },
-        Place::Index => match method {
+        Place::Index { .. } => match method {
             "GET" => Some(Route::ShowIndex),
             "DELETE" => Some(Route::DropIndex),
             _ => None,
         },
-        Place::Documents => match method {
+        Place::Documents { .. } => match method {
             "POST" => Some(Route::AddDocuments),
             "PUT" => Some(Route::UpdateDocuments),
             "GET" => Some(Route::ListDocuments),
             "DELETE" => Some(Route::ClearDocuments),
             _ => None,
         },
-        Place::Document => match method {
+        Place::Document { .. } => match method {
             "GET" => Some(Route::ShowDocument),
             "DELETE" => Some(Route::RemoveDocument),
             _ => None,
         },
-        Place::DeleteBatch => match method {
+        Place::DeleteBatch { .. } => match method {
             "POST" => Some(Route::RemoveDocuments),
             _ => None,
         },
-        Place::Search => match method {
+        Place::Search { .. } => match method {
             "POST" => Some(Route::Search),
             _ => None,
         },

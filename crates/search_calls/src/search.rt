@@ -1,8 +1,9 @@
-ghost use Rattle.std.specs.Prelude.{◌≡◌, IfOk, option_map};
-ghost use Rattle.serde_json.specs.Find.{get_member};
+ghost use Rattle.std.specs.Prelude.{◌≡◌, ◌==◌, IfOk, codes};
+ghost use Rattle.std.specs.List.{list_any};
+ghost use Rattle.serde_json.specs.Find.{get};
 ghost use Rattle.serde_json.specs.View.{view, members_view};
 ghost use Rattle.search_calls.specs.Gives.{Gives, Checks};
-ghost use Rattle.search_calls.specs.Bodies.{object_in, member_named, is_built as is_built_value, is_unquoted as is_unquoted_text, is_query_or_null as query_or_null, is_count_or_null as count_or_null, member_fault, members_fault, count_or, text_or_none, text_or_empty, search_from, search_of};
+ghost use Rattle.search_calls.specs.Bodies.{object_in, member_named, is_built as is_built_value, is_query_or_null as query_or_null, is_count_or_null as count_or_null, member_fault, members_fault, count_or, text_or_none, text_or_empty, search_from, search_of};
 
 use crate::body::read_json;
 use crate::call::SearchCall;
@@ -23,12 +24,8 @@ pub(crate) enum Member {
 pub(crate) fn read_search(alloc: Global, body: &[u8]) -> Result<SearchCall, Fault>
     ensures { Gives (λ call. call) result (search_of body.now) }
 {
-    match read_object(alloc, body)? {
-        Value::Object(members) => search_call(alloc, &members),
-        _ => Err(Fault::from(Refusal::Unknown {
-            name: Word::new(alloc, "body")?,
-        })),
-    }
+    let value = read_object(alloc, body)?;
+    search_call(alloc, &value)
 }
 
 // An empty body counts as an object with no members.
@@ -41,27 +38,35 @@ fn read_object(alloc: Global, body: &[u8]) -> Result<Value, Fault>
     read_json(alloc, body)
 }
 
-fn search_call(alloc: Global, members: &Map<String, Value>) -> Result<SearchCall, Fault>
-    ensures { Gives (λ call. call) result (search_from (members_view members.now.entries)) }
+fn search_call(alloc: Global, value: &Value) -> Result<SearchCall, Fault>
+    ensures { Gives (λ call. call) result (search_from (view value.now)) }
 {
-    check_members(alloc, members)?;
+    match value {
+        Value::Object(members) => check_members(alloc, members)?,
+        _ => {
+            return Err(Fault::from(Refusal::Unknown {
+                name: Word::new(alloc, "body")?,
+            }));
+        }
+    }
+    let q = query_at(alloc, value)?;
     Ok(SearchCall {
-        q: query_of(alloc, members.get("q"))?,
-        offset: count_of(members.get("offset"), 0),
-        limit: count_of(members.get("limit"), 20),
+        q,
+        offset: count_at(value, "offset", 0),
+        limit: count_at(value, "limit", 20),
     })
 }
 
-fn query_of(alloc: Global, value: Option<&Value>) -> Result<Word, NoMemory>
-    ensures { IfOk result (λ word. word ≡ text_or_empty (text_or_none (option_map (λ v. view v.now) value.entry))) }
+fn query_at(alloc: Global, value: &Value) -> Result<Word, NoMemory>
+    ensures { IfOk result (λ word. word ≡ text_or_empty (text_or_none (get (codes "q") (view value.now)))) }
 {
-    Word::new(alloc, value.and_then(Value::as_str).unwrap_or(""))
+    Word::new(alloc, value.get("q").and_then(Value::as_str).unwrap_or(""))
 }
 
-fn count_of(value: Option<&Value>, default: u64) -> u64
-    ensures { result ≡ count_or default (option_map (λ v. view v.now) value.entry) }
+fn count_at(value: &Value, name: &str, default: u64) -> u64
+    ensures { result ≡ count_or default (get name.now (view value.now)) }
 {
-    value.and_then(Value::as_u64).unwrap_or(default)
+    value.get(name).and_then(Value::as_u64).unwrap_or(default)
 }
 
 fn check_members(alloc: Global, members: &Map<String, Value>) -> Result<(), Fault>
@@ -134,15 +139,15 @@ fn is_query_or_null(value: &Value) -> bool
 {
     match value {
         Value::Null => true,
-        Value::String(text) => is_unquoted(text.as_bytes()),
+        Value::String(text) => !has_quote(text.as_bytes()),
         _ => false,
     }
 }
 
-fn is_unquoted(bytes: &[u8]) -> bool
-    ensures { result ≡ is_unquoted_text bytes.now }
+fn has_quote(bytes: &[u8]) -> bool
+    ensures { result ≡ list_any (λ b. b == 34) bytes.now }
 {
-    !bytes.iter().any(|b| *b == b'"')
+    bytes.iter().any(|b| *b == b'"')
 }
 
 fn is_count_or_null(value: &Value) -> bool

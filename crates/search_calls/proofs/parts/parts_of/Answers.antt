@@ -1,14 +1,14 @@
 use Rattle.std.proofs.Common.{◌≡◌, ◌∷◌, [], rules, sym, ◌∙◌, append-nil}
-use Rattle.search_calls.specs.Routes.{parts_of}
-use Rattle.search_calls.proofs.Splits.{split_front, split_whole}
-use Rattle.search_calls.proofs.RouteLemmas.{grown}
+use Rattle.form_urlencoded.specs.Form.{split}
+use Rattle.search_calls.proofs.Splits.{split_front, split_whole, grown}
 use Rattle.search_calls.proofs.parts.parts_of.Goals as goal
 
 pub loop-part-preserved : goal.loop-part-preserved
 loop-part-preserved c =
     let found = c.in-Some.ensures in
-    let front : parts_of c.loop-part.left.now ≡ c.in-Some.part.now ∷ parts_of c.in-Some.rest.now =
-    rw (found.0, found.1) (split_front 47 c.loop-part.left.now found.2) in
+    let s = c.args.separator in
+    let front : split s c.loop-part.left.now ≡ c.in-Some.part.now ∷ split s c.in-Some.rest.now =
+    rw (found.0, found.1) (split_front s c.loop-part.left.now found.2) in
     record {
       text = search rules;
       whole = rw c.in_ok-push.ensures.items (grown c.loop-part.parts.items c.in-Some.part _ _ _ front c.loop-part.invariant.whole);
@@ -16,6 +16,7 @@ loop-part-preserved c =
 
 pub returns : goal.returns
 returns c =
-    let whole = split_whole 47 c.loop-part.left.now c.in_default.ensures in
+    let s = c.args.separator in
+    let whole = split_whole s c.loop-part.left.now c.in_default.ensures in
     rw c.in_ok-push-2.ensures.items
-    (sym (append-nil _) ∙ grown c.loop-part.parts.items c.loop-part.left [] (parts_of c.loop-part.left.now) _ whole c.loop-part.invariant.whole)
+    (sym (append-nil _) ∙ grown c.loop-part.parts.items c.loop-part.left [] (split s c.loop-part.left.now) _ whole c.loop-part.invariant.whole)

@@ -1,14 +1,14 @@
 use Rattle.std.proofs.Common.{◌≡◌, ◌++◌, map, length}
 use denote.Text.{Utf8}
 use denote.Shadow.{shadow}
-use Rattle.search_calls.specs.Routes.{parts_of}
+use Rattle.form_urlencoded.specs.Form.{split}
 use Rattle.search_calls.proofs.parts.parts_of.Given as goal
 
--- the parts so far, and those of what is left, are those of the path
+-- the parts so far, and those of what is left, are those of the text
 abbrev pub invariant-loop-part : goal.invariant-loop-part
 invariant-loop-part l = record {
   text : shadow (Utf8 l.left);
-  whole : map (λ part. part.now) l.parts.items ++ parts_of l.left ≡ parts_of l.path;
+  whole : map (λ part. part.now) l.parts.items ++ split l.separator l.left ≡ split l.separator l.fn.text;
 }
 
 abbrev pub decreases-loop-part : goal.decreases-loop-part
