@@ -9,7 +9,7 @@ ghost use Rattle.index_core.specs.Plans.{planned, applied};
 ghost use Rattle.index_core.specs.Fetches.{needed};
 ghost use Rattle.search_calls.specs.Gives.{Gives, Checks};
 ghost use Rattle.search_routes.specs.Done.{Grows, Turns, fault_of};
-ghost use Rattle.search_routes.specs.Machine.{id_member as id_member_of, id_member_for as id_member_of_change, core_result, limits, index_after, indexes_after, filled, emptied, type_of as type_in, most_changes};
+ghost use Rattle.search_routes.specs.Machine.{id_member as id_member_of, id_member_for as id_member_of_change, core_result, limits, index_at, index_after, indexes_after, filled, emptied, type_of as type_in, most_changes};
 ghost use Rattle.search_routes.specs.Needs.{change_need, documents_need, need_in};
 ghost use Rattle.search_routes.specs.Replies.{accepted};
 
@@ -44,7 +44,7 @@ pub(crate) fn change_indexes<F>(
 {
     let Change { uid, kind } = change;
     match kind {
-        ChangeKind::Create { key } => create_index(alloc, indexes, before, uid, key),
+        ChangeKind::Create { key } => create_index(alloc, indexes, before, uid, key, fetches),
         ChangeKind::Drop => drop_named(alloc, indexes, before, uid),
         ChangeKind::Replace { key, documents } => {
             let change = ChangeKind::Replace { key, documents };
@@ -79,30 +79,37 @@ fn type_of(change: &ChangeKind) -> &'static str
 }
 
 // Makes an index.
-fn create_index(
+fn create_index<F>(
     alloc: Global,
     indexes: &mut Indexes,
     before: u64,
     uid: Word,
     key: Option<Word>,
+    fetches: &mut Steps<F>,
 ) -> Result<Reply, Fault>
     ensures grows { Grows (indexes_after before indexes.old.entries uid (create key))
         (accepted uid (type_in (create key)) before) indexes.old.entries result indexes.new.entries }
     ensures room { OnOk result (before < most_changes) }
+    ensures fetched { fetches.new ≤ fetches.old }
 {
     if indexes.contains_key(&uid) {
         return Err(Fault::from(Refusal::IndexExists { uid }));
     }
     check_limits(before, indexes.len() >= MOST_INDEXES)?;
     let reply = accepted_reply(alloc, uid.as_str(), "indexCreation", before)?;
-    let index = new_index(alloc, key)?;
+    let index = new_index(alloc, key, fetches)?;
     indexes.insert(uid, index)?;
     Ok(reply)
 }
 
 // An index with this key, or none, and no documents.
-fn new_index(alloc: Global, key: Option<Word>) -> Result<IndexCore, NoMemory>
-    ensures { IfOk result (λ index. index ≡ record { key = key; store = empty_index.store }) }
+fn new_index<F>(
+    alloc: Global,
+    key: Option<Word>,
+    fetches: &mut Steps<F>,
+) -> Result<IndexCore, NoMemory>
+    ensures index { IfOk result (λ index. index ≡ record { key = key; store = empty_index.store }) }
+    ensures fetched { fetches.new ≤ fetches.old }
 {
     let mut index = IndexCore::new(alloc)?;
     let change = ChangeKind::Replace {
@@ -113,20 +120,14 @@ fn new_index(alloc: Global, key: Option<Word>) -> Result<IndexCore, NoMemory>
     let Ok(plan) = index.plan(alloc, change) else {
         return Err(NoMemory);
     };
-    let mut none: Steps<()> = Steps::new();
-    match index.apply(alloc, plan, &mut none) {
+    match index.apply(alloc, plan, fetches) {
         Ok(()) => Ok(index),
         Err(_) => Err(NoMemory),
     }
 }
 
 // Takes an index away, with its documents.
-fn drop_named(
-    alloc: Global,
-    indexes: &mut Indexes,
-    before: u64,
-    uid: Word,
-) -> Result<Reply, Fault>
+fn drop_named(alloc: Global, indexes: &mut Indexes, before: u64, uid: Word) -> Result<Reply, Fault>
     ensures grows { Grows (indexes_after before indexes.old.entries uid drop_index)
         (accepted uid (type_in drop_index) before) indexes.old.entries result indexes.new.entries }
     ensures room { OnOk result (before < most_changes) }
@@ -152,7 +153,7 @@ fn fill<F>(
     ensures grows { Grows (filled before indexes.old.entries uid (kind_view change))
         (accepted uid (type_in (kind_view change)) before) indexes.old.entries result indexes.new.entries }
     ensures room { OnOk result (before < most_changes) }
-    ensures fetched { fetches.new ≤ fetches.old + need_in (Rattle.search_routes.specs.Machine.index_at uid indexes.old.entries) (kind_view change) }
+    ensures fetched { fetches.new ≤ fetches.old + need_in (index_at uid indexes.old.entries) (kind_view change) }
 {
     match indexes.get_mut(&uid) {
         Some(index) => {
@@ -162,7 +163,15 @@ fn fill<F>(
     }
     let is_full = indexes.len() >= MOST_INDEXES;
     let mut index = IndexCore::new(alloc)?;
-    match change_index(alloc, &mut index, before, is_full, uid.as_str(), change, fetches) {
+    match change_index(
+        alloc,
+        &mut index,
+        before,
+        is_full,
+        uid.as_str(),
+        change,
+        fetches,
+    ) {
         Ok(reply) => {
             indexes.insert(uid, index)?;
             Ok(reply)
@@ -183,7 +192,7 @@ fn empty<F>(
     ensures grows { Grows (emptied before indexes.old.entries uid (kind_view change))
         (accepted uid (type_in (kind_view change)) before) indexes.old.entries result indexes.new.entries }
     ensures room { OnOk result (before < most_changes) }
-    ensures fetched { fetches.new ≤ fetches.old + need_in (Rattle.search_routes.specs.Machine.index_at uid indexes.old.entries) (kind_view change) }
+    ensures fetched { fetches.new ≤ fetches.old + need_in (index_at uid indexes.old.entries) (kind_view change) }
 {
     match indexes.get_mut(&uid) {
         Some(index) => change_index(alloc, index, before, false, uid.as_str(), change, fetches),
@@ -216,11 +225,7 @@ fn change_index<F>(
 }
 
 // The name of the member by which the documents of a change have their ids, or an empty name.
-fn id_member_for(
-    alloc: Global,
-    own: Option<&Word>,
-    change: &ChangeKind,
-) -> Result<Word, NoMemory>
+fn id_member_for(alloc: Global, own: Option<&Word>, change: &ChangeKind) -> Result<Word, NoMemory>
     ensures { IfOk result (λ key. key ≡ id_member_of_change (option_copied own.entry) (kind_view change.now)) }
 {
     match change {

@@ -17,12 +17,7 @@ use std::alloc::Global;
 /// The reply and the state after it are those of `step` in specs/Machine.antt; or there was no memory, the reply says so
 /// and the machine is as it was. `fetches` counts the stored documents that are read: at most those that the request
 /// needs, by specs/Needs.antt.
-pub fn answer<F>(
-    alloc: Global,
-    machine: &mut Machine,
-    wire: &Wire,
-    fetches: &mut Steps<F>,
-) -> Reply
+pub fn answer<F>(alloc: Global, machine: &mut Machine, wire: &Wire, fetches: &mut Steps<F>) -> Reply
     ensures answered { (starved : Bool) × IsSentAs result (answer_of machine.old (request_of wire.now) starved)
         × (machine.new ≡ state_after machine.old (request_of wire.now) starved) }
     ensures fetched { fetches.new ≤ fetches.old + needed_fetches machine.old (request_of wire.now) }
@@ -39,12 +34,7 @@ pub fn answer<F>(
 /// says so and the machine is as it was. A call that is refused gives its own reply and changes nothing. A change takes
 /// its memory before it changes anything, that of its reply too, and is counted last. `fetches` counts the stored
 /// documents that are read: at most those that the call needs, by specs/Needs.antt.
-pub fn perform<F>(
-    alloc: Global,
-    machine: &mut Machine,
-    call: Call,
-    fetches: &mut Steps<F>,
-) -> Reply
+pub fn perform<F>(alloc: Global, machine: &mut Machine, call: Call, fetches: &mut Steps<F>) -> Reply
     ensures performed { Performs machine.old call result machine.new }
     ensures fetched { fetches.new ≤ fetches.old + held_need machine.old call }
 {

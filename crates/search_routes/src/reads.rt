@@ -1,11 +1,9 @@
 // The calls that change nothing, one function a route.
-ghost use Rattle.std.specs.Prelude.{◌≡◌, ◌+◌, ◌≤◌, IfOk};
-ghost use Rattle.serde_json.specs.Data.{array};
-ghost use Rattle.serde_json.specs.View.{view, items_of};
+ghost use Rattle.std.specs.Prelude.{◌≡◌, ◌+◌, ◌≤◌};
 ghost use Rattle.search_calls.specs.Asked.{read_view};
 ghost use Rattle.search_calls.specs.Asked as asked;
 ghost use Rattle.search_routes.specs.Done.{Sends};
-ghost use Rattle.search_routes.specs.Machine.{answer_to};
+ghost use Rattle.search_routes.specs.Machine.{answer_to, core_call as core_call_of};
 ghost use Rattle.search_routes.specs.Needs.{read_need};
 
 use crate::changes::Indexes;
@@ -126,7 +124,7 @@ fn search<F>(
 }
 
 fn core_call(call: SearchCall) -> CoreCall
-    ensures { result ≡ Rattle.search_routes.specs.Machine.core_call call }
+    ensures { result ≡ core_call_of call }
 {
     let SearchCall { q, offset, limit } = call;
     CoreCall { q, offset, limit }

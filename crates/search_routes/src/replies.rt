@@ -63,11 +63,7 @@ pub(crate) fn index_reply(alloc: Global, uid: &str, key: Option<&Word>) -> Resul
 }
 
 /// An index as JSON.
-pub(crate) fn index_value(
-    alloc: Global,
-    uid: &str,
-    key: Option<&Word>,
-) -> Result<Value, AllocError>
+pub(crate) fn index_value(alloc: Global, uid: &str, key: Option<&Word>) -> Result<Value, AllocError>
     ensures { IfOk result (λ value. view value ≡ index_data uid.now (option_copied key.entry)) }
 {
     match key {

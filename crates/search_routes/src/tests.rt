@@ -106,7 +106,13 @@ fn an_index_from_its_making_to_its_end(rt: HostRuntime) -> Result<(), Fail> {
             202,
             "{\"indexUid\":\"b\",\"status\":\"succeeded\",\"taskUid\":1,\"type\":\"indexCreation\"}",
         ),
-        Row("GET", "/indexes/b", "", 200, "{\"primaryKey\":\"k\",\"uid\":\"b\"}"),
+        Row(
+            "GET",
+            "/indexes/b",
+            "",
+            200,
+            "{\"primaryKey\":\"k\",\"uid\":\"b\"}",
+        ),
         Row(
             "GET",
             "/indexes",
@@ -176,8 +182,20 @@ fn documents_added_updated_removed_and_shown(rt: HostRuntime) -> Result<(), Fail
             200,
             "{\"genres\":[\"Western\"],\"id\":3,\"title\":\"Knight of the Dark\",\"year\":1999}",
         ),
-        Row("GET", "/indexes/m/documents/n", "", 200, "{\"\":[[{\"a.b\":[]}]],\"id\":\"n\"}"),
-        Row("GET", "/indexes/m/documents/n?fields=id,a.b", "", 200, "{\"id\":\"n\"}"),
+        Row(
+            "GET",
+            "/indexes/m/documents/n",
+            "",
+            200,
+            "{\"\":[[{\"a.b\":[]}]],\"id\":\"n\"}",
+        ),
+        Row(
+            "GET",
+            "/indexes/m/documents/n?fields=id,a.b",
+            "",
+            200,
+            "{\"id\":\"n\"}",
+        ),
         Row("GET", "/indexes/m/documents/n?fields=", "", 200, "{}"),
         Row(
             "GET",
@@ -235,7 +253,13 @@ fn documents_added_updated_removed_and_shown(rt: HostRuntime) -> Result<(), Fail
             200,
             "{\"limit\":20,\"offset\":0,\"results\":[],\"total\":0}",
         ),
-        Row("GET", "/indexes/m", "", 200, "{\"primaryKey\":\"id\",\"uid\":\"m\"}"),
+        Row(
+            "GET",
+            "/indexes/m",
+            "",
+            200,
+            "{\"primaryKey\":\"id\",\"uid\":\"m\"}",
+        ),
     ] {
         says(&rt, alloc, &mut machine, &row)?;
     }
@@ -246,7 +270,14 @@ fn documents_added_updated_removed_and_shown(rt: HostRuntime) -> Result<(), Fail
 fn each_refusal_alone_and_before_a_later_one(rt: HostRuntime) -> Result<(), Fail> {
     let alloc = rt.alloc();
     let mut machine = Machine::new(alloc)?;
-    accepts(&rt, alloc, &mut machine, "POST", "/indexes/m/documents", "[{\"id\":1}]")?;
+    accepts(
+        &rt,
+        alloc,
+        &mut machine,
+        "POST",
+        "/indexes/m/documents",
+        "[{\"id\":1}]",
+    )?;
     let none = "No index `z`.";
     let m = "/indexes/m/documents";
     let z = "/indexes/z/documents";
@@ -255,8 +286,22 @@ fn each_refusal_alone_and_before_a_later_one(rt: HostRuntime) -> Result<(), Fail
         Refused("DELETE", "/indexes/z", "", 404, "index_not_found", none),
         Refused("GET", z, "", 404, "index_not_found", none),
         Refused("DELETE", z, "", 404, "index_not_found", none),
-        Refused("GET", "/indexes/z/documents/1", "", 404, "index_not_found", none),
-        Refused("DELETE", "/indexes/z/documents/1", "", 404, "index_not_found", none),
+        Refused(
+            "GET",
+            "/indexes/z/documents/1",
+            "",
+            404,
+            "index_not_found",
+            none,
+        ),
+        Refused(
+            "DELETE",
+            "/indexes/z/documents/1",
+            "",
+            404,
+            "index_not_found",
+            none,
+        ),
         Refused(
             "POST",
             "/indexes/z/documents/delete-batch",
@@ -265,7 +310,14 @@ fn each_refusal_alone_and_before_a_later_one(rt: HostRuntime) -> Result<(), Fail
             "index_not_found",
             none,
         ),
-        Refused("POST", "/indexes/z/search", "", 404, "index_not_found", none),
+        Refused(
+            "POST",
+            "/indexes/z/search",
+            "",
+            404,
+            "index_not_found",
+            none,
+        ),
         Refused(
             "POST",
             "/indexes",
@@ -387,8 +439,22 @@ fn a_thousand_indexes_and_a_thousand_paths(rt: HostRuntime) -> Result<(), Fail> 
     refuses(&rt, alloc, &mut machine, &row)?;
     let full = "No more indexes.";
     for row in [
-        Refused("POST", "/indexes", "{\"uid\":\"z\"}", 400, "indexes_spent", full),
-        Refused("POST", "/indexes/z/documents", &more, 400, "indexes_spent", full),
+        Refused(
+            "POST",
+            "/indexes",
+            "{\"uid\":\"z\"}",
+            400,
+            "indexes_spent",
+            full,
+        ),
+        Refused(
+            "POST",
+            "/indexes/z/documents",
+            &more,
+            400,
+            "indexes_spent",
+            full,
+        ),
         Refused(
             "POST",
             "/indexes/z/documents",
@@ -401,5 +467,12 @@ fn a_thousand_indexes_and_a_thousand_paths(rt: HostRuntime) -> Result<(), Fail> 
         refuses(&rt, alloc, &mut machine, &row)?;
     }
     accepts(&rt, alloc, &mut machine, "DELETE", "/indexes/i7", "")?;
-    accepts(&rt, alloc, &mut machine, "POST", "/indexes", "{\"uid\":\"z\"}")
+    accepts(
+        &rt,
+        alloc,
+        &mut machine,
+        "POST",
+        "/indexes",
+        "{\"uid\":\"z\"}",
+    )
 }
