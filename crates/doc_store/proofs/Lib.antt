@@ -8,7 +8,6 @@ pub mod StoreLemmas
 pub mod GoneLemmas
 pub mod SoundLemmas
 pub mod ChangeLemmas
-pub mod PageLemmas
 pub mod RestoreLemmas
 pub mod LawLemmas
 pub mod ReserveLemmas

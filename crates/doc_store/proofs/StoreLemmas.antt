@@ -7,7 +7,7 @@ use Rattle.doc_store.specs.declared.rows.StoreFault.TheVariants.{IdsSpent, Paths
 use Rattle.doc_store.specs.declared.rows.TheConstants.{MAX_IDS, MAX_PATHS}
 use Rattle.doc_store.specs.Names.{AreKept}
 use Rattle.doc_store.specs.Store.{Store, all_stored, ids_given, paths_after, externals, spent}
-use Rattle.doc_store.specs.StoreView.{StoreView, PlanView, IsPlanFor}
+use Rattle.doc_store.specs.StoreView.{StoreView, PlanView, AdmissionView, IsAdmitted, IsPlanFor}
 use Rattle.doc_store.specs.Slots.{content_of, SameRows}
 use Rattle.doc_store.proofs.PathLemmas.{paths-all_stored}
 use Rattle.doc_store.proofs.RowLemmas.{same-all_stored}
@@ -59,30 +59,36 @@ pub commit-content : (rs : List StoreRow) (paths added gained : List (List ℕ))
 commit-content rs paths added gained slots new same planned pushed = store_same (content_of gained new) (all_stored rs (content_of paths slots)) (pushed ∙ sym planned)
     (sym same.next_id ∙ (rows-whatever rs paths slots).next_id) (sym same.rows ∙ (rows-whatever rs paths slots).rows)
 
--- a plan that was made of documents that come, for a store that has room
-pub plan-made : (old new : StoreView) (plan : PlanView) (come : List StoreRow) → come ≡ plan.rows → new.content ≡ old.content
-    → plan.ids ≡ ids_given come old.content → (all_stored come old.content).next_id ≤ MAX_IDS
-    → old.content.paths ++ plan.added ≡ paths_after come old.content.paths → length old.content.paths + length plan.added ≤ MAX_PATHS
-    → length come ≤ new.row_room → AreKept (externals come) new.ids → length plan.added ≤ new.path_room → AreKept plan.added new.path_places → IsPlanFor new plan
-plan-made old new plan come is same ids ids_end paths paths_end rows_room kept path_room places =
-    subst (λ (s : Store). plan.ids ≡ ids_given plan.rows s → (all_stored plan.rows s).paths ≡ s.paths ++ plan.added → spent (all_stored plan.rows s) ≡ None → IsPlanFor new plan) same
-    (λ given gained within. record {
-      ids = given;
-      added = gained;
-      within = within;
-      room = record {
-        rows = subst (λ rs. length rs ≤ new.row_room) is rows_room;
-        ids = subst (λ rs. AreKept (externals rs) new.ids) is kept;
-        paths = path_room;
-        path_places = places;
-      };
-    })
-    (ids ∙ ap (λ rs. ids_given rs old.content) is)
-    gained
-    (not_spent (all_stored plan.rows old.content) (subst (λ rs. (all_stored rs old.content).next_id ≤ MAX_IDS) is ids_end) (omega (arith, ap length gained, length-append old.content.paths plan.added)))
+-- documents that come are admitted
+pub admitted-made : (s : Store) (come : List StoreRow) (admission : AdmissionView) → admission.ids ≡ ids_given come s → (all_stored come s).next_id ≤ MAX_IDS
+    → s.paths ++ admission.added ≡ paths_after come s.paths → length s.paths + length admission.added ≤ MAX_PATHS → IsAdmitted s come admission
+admitted-made s come admission ids ids_end paths paths_end = record {
+  ids = ids;
+  added = gained;
+  within = not_spent (all_stored come s) ids_end (omega (arith, ap length gained, length-append s.paths admission.added));
+}
   where
-    gained : (all_stored plan.rows old.content).paths ≡ old.content.paths ++ plan.added
-    gained = paths-all_stored plan.rows old.content ∙ ap (λ rs. paths_after rs old.content.paths) (sym is) ∙ sym paths
+    gained : (all_stored come s).paths ≡ s.paths ++ admission.added
+    gained = paths-all_stored come s ∙ sym paths
+
+-- a plan of documents that were admitted, for a store that has room
+pub plan-made : (old new : StoreView) (plan : PlanView) (admission : AdmissionView) (come : List StoreRow) → come ≡ plan.rows → new.content ≡ old.content → IsAdmitted old.content come admission
+    → plan.ids ≡ admission.ids → plan.added ≡ admission.added
+    → length come ≤ new.row_room → AreKept (externals come) new.ids → length plan.added ≤ new.path_room → AreKept plan.added new.path_places → IsPlanFor new plan
+plan-made old new plan admission come is same admitted ids added rows_room kept path_room places = record {
+  ids = ids ∙ here.ids;
+  added = here.added ∙ ap (λ v. new.content.paths ++ v) (sym added);
+  within = here.within;
+  room = record {
+    rows = subst (λ rs. length rs ≤ new.row_room) is rows_room;
+    ids = subst (λ rs. AreKept (externals rs) new.ids) is kept;
+    paths = path_room;
+    path_places = places;
+  };
+}
+  where
+    here : IsAdmitted new.content plan.rows admission
+    here = subst (λ (s : Store). IsAdmitted s plan.rows admission) (sym same) (subst (λ rs. IsAdmitted old.content rs admission) is admitted)
 
 -- why documents that come spend a store
 pub paths-spent : (s : Store) (rows come : List StoreRow) → come ≡ rows → (all_stored come s).next_id ≤ MAX_IDS → MAX_PATHS < length (paths_after come s.paths) → spent (all_stored rows s) ≡ Some PathsSpent

@@ -6,7 +6,7 @@ use Rattle.doc_values.specs.DataCode.{data_code}
 use Rattle.doc_store.specs.declared.rows.StoreRow.{StoreRow}
 use Rattle.doc_store.specs.Names.{Names}
 use Rattle.doc_store.specs.Store.{Row, Store}
-use Rattle.doc_store.specs.StoreView.{StoreView, PlanView}
+use Rattle.doc_store.specs.StoreView.{StoreView, PlanView, AdmissionView}
 
 abbrev pub texts_code : Coded (List (List ℕ))
 texts_code = coded_list (coded_list coded_ℕ)
@@ -30,3 +30,6 @@ view_code = code_by (Store × (ℕ × (Names × (ℕ × Names)))) (coded× store
 
 abbrev pub plan_code : Coded PlanView
 plan_code = code_by (List StoreRow × (List ℕ × List (List ℕ))) (coded× (coded_list store_row_code) (coded× (coded_list coded_ℕ) texts_code)) (λ p. (p.rows, (p.ids, p.added))) (λ p. record { rows = p.0; ids = p.1.0; added = p.1.1 }) (λ _. refl)
+
+abbrev pub admission_code : Coded AdmissionView
+admission_code = code_by (List ℕ × List (List ℕ)) (coded× (coded_list coded_ℕ) texts_code) (λ a. (a.ids, a.added)) (λ p. record { ids = p.0; added = p.1 }) (λ _. refl)

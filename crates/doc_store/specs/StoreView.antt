@@ -1,4 +1,5 @@
--- What contracts see of a store and of a plan. Clauses of other crates speak of `content`, and of `IsPlanFor` alone.
+-- What contracts see of a store and of a plan. Clauses of other crates speak of `content`, and of
+-- `IsAdmitted` and `IsPlanFor` alone.
 use Rattle.std.specs.Prelude.{ℕ, ◌≡◌, ◌≤◌, ◌++◌, List, length, None}
 use Rattle.doc_store.specs.declared.rows.StoreRow.{StoreRow}
 use Rattle.doc_store.specs.Names.{Names, AreKept}
@@ -18,6 +19,17 @@ pub record PlanView : Type 0 where
   pub rows : List StoreRow
   pub ids : List ℕ
   pub added : List (List ℕ)
+
+-- the internal ids of documents that come, and the paths that the registry gains
+pub record AdmissionView : Type 0 where
+  pub ids : List ℕ
+  pub added : List (List ℕ)
+
+-- documents that come may be stored: these are their ids and paths, and neither are spent
+pub record IsAdmitted (s : Store) (rows : List StoreRow) (admission : AdmissionView) : Type 0 where
+  pub ids : admission.ids ≡ ids_given rows s
+  pub added : (all_stored rows s).paths ≡ s.paths ++ admission.added
+  pub within : spent (all_stored rows s) ≡ None
 
 -- the change fits with no memory
 pub record HasRoom (store : StoreView) (plan : PlanView) : Type 0 where

@@ -1,8 +1,8 @@
 //! The documents of one index under their internal ids, and its registry of paths.
 //!
 //! Promises that a document keeps its internal id while it is there, that the id is never given again, and that each
-//! path of a document is in the registry. A change is prepared, which takes all its memory and changes no answer, and
-//! then committed, which takes none and cannot be refused.
+//! path of a document is in the registry. Documents are admitted, which tries the limits; then prepared, which takes all
+//! memory and changes no answer; and then committed, which takes none and cannot be refused.
 //! Contracts see a `DocStore` as its content (paths, next internal id, rows) and the room that it has for more, and a
 //! `StorePlan` as the documents that come with their ids and the paths that are new.
 //! Stands on `doc_values`, which has documents and their walk, and on `search_base`.
@@ -24,4 +24,4 @@ mod walked;
 
 pub use laws::{documents_keep_their_ids, stores_stay_sound};
 pub use rows::{MAX_IDS, MAX_PATHS, StoreFault, StoreRow, StoredRow};
-pub use store::{DocStore, StorePlan};
+pub use store::{Admission, DocStore, StorePlan};

@@ -1,12 +1,11 @@
-ghost use Rattle.std.specs.Prelude.{◌≡◌, ◌-◌, map, take, drop, IfOk};
+ghost use Rattle.std.specs.Prelude.{◌≡◌};
 ghost use Rattle.std.specs.Option.{option_map};
 ghost use Rattle.doc_store.specs.Store.{row_at};
 ghost use Rattle.doc_store.specs.Slots.{rows_of};
 
 use crate::texts::TextRow;
 use doc_values::DocumentText;
-use search_base::{DocId, NoMemory};
-use std::alloc::Global;
+use search_base::DocId;
 
 /// The documents by their internal ids, and None where a document is gone.
 pub(crate) type Slots = Vec<Option<TextRow>>;
@@ -20,29 +19,4 @@ pub(crate) fn document_at(slots: &[Option<TextRow>], id: DocId) -> Option<&Docum
         Some(None) => None,
         None => None,
     }
-}
-
-/// The documents from number `offset` to before number `end`.
-pub(crate) fn documents_between(
-    alloc: Global,
-    slots: &[Option<TextRow>],
-    offset: u64,
-    end: u64,
-) -> Result<Vec<&DocumentText>, NoMemory>
-    ensures { IfOk result (λ page. map (λ document. document.now) page.items ≡ map (λ row. row.document) (take (end - offset) (drop offset (rows_of slots.now)))) }
-{
-    let mut page = Vec::new(alloc);
-    let mut number = 0;
-    for slot in slots {
-        if number >= end {
-            return Ok(page);
-        }
-        if let Some(row) = slot {
-            if number >= offset {
-                page.push(row.document())?;
-            }
-            number += 1;
-        }
-    }
-    Ok(page)
 }

@@ -1,10 +1,10 @@
-ghost use Rattle.std.specs.Prelude.{◌≡◌, ◌≢◌, ◌↔◌, ℕ, ◌+◌, ◌-◌, [], None, Some, map, length, take, drop, IsTrue, IfOk, IfErr};
+ghost use Rattle.std.specs.Prelude.{◌≡◌, ◌≢◌, ◌↔◌, ◌+◌, [], Some, map, length, IsTrue, IfOk, IfErr};
 ghost use Rattle.std.specs.Option.{option_map, is_some};
 ghost use Rattle.doc_store.specs.declared.rows.StoreFault.TheVariants.{NoMemory as Memory};
 ghost use Rattle.doc_store.specs.Store.{all_stored, id_of, spent, row_at, removed};
 ghost use Rattle.doc_store.specs.Sound.{IsSound};
 ghost use Rattle.doc_store.specs.Restored.{restored};
-ghost use Rattle.doc_store.specs.StoreView.{IsPlanFor};
+ghost use Rattle.doc_store.specs.StoreView.{IsAdmitted, IsPlanFor};
 
 use crate::changes::{push_paths, put_rows, reserve, take_row};
 use crate::given::give_ids;
@@ -12,7 +12,7 @@ use crate::places::Places;
 use crate::registry::Registry;
 use crate::restore::put_back;
 use crate::rows::{StoreFault, StoreRow, StoredRow};
-use crate::slots::{Slots, document_at, documents_between};
+use crate::slots::{Slots, document_at};
 use crate::texts::{TextRow, text_rows};
 use crate::walked::new_paths;
 use doc_values::DocumentText;
@@ -43,6 +43,25 @@ impl Model for DocStore {
     ghost view = { λ s. record { content = content_of s.paths.paths s.slots.items; row_room = vec_capacity s.slots - vec_len s.slots; ids = s.ids; path_room = s.paths.room; path_places = s.paths.places } };
 
     ghost invariant = { λ s. IsStore s.ids s.slots.items s.paths.paths s.count };
+}
+
+/// What documents that come take of a store: the internal id of each, and the paths that the registry gains.
+#[derive(Drop)]
+pub struct Admission {
+    ids: Vec<DocId>,
+    added: Vec<Word>,
+}
+
+impl Model for Admission {
+    ghost use Rattle.std.specs.Prelude.{map};
+    ghost use Rattle.doc_store.specs.StoreView.{AdmissionView};
+    ghost use Rattle.doc_store.specs.Codes.{admission_code};
+
+    ghost Value = { AdmissionView };
+
+    ghost coded = { admission_code };
+
+    ghost view = { λ a. record { ids = map (λ id. id.0) a.ids.items; added = a.added.items } };
 }
 
 /// Documents to store, for which all memory is there. A plan is for the store as it was when the plan was made.
@@ -133,11 +152,11 @@ impl DocStore {
         document_at(self.slots.as_slice(), id)
     }
 
-    /// The documents from number `offset` to before number `end`, from 0, in the order of their internal ids.
-    pub fn page(&self, alloc: Global, offset: u64, end: u64) -> Result<Vec<&DocumentText>, NoMemory>
-        ensures { IfOk result (λ page. map (λ document. document.now) page.items ≡ map (λ row. row.document) (take (end - offset) (drop offset self.now.content.rows))) }
+    /// Whether there is a document with an internal id. It takes no memory.
+    pub fn holds(&self, id: DocId) -> bool
+        ensures { result ≡ is_some (row_at id.0 self.now.content.rows) }
     {
-        documents_between(alloc, self.slots.as_slice(), offset, end)
+        document_at(self.slots.as_slice(), id).is_some()
     }
 
     /// The internal id that the next new document takes, at most 1,000,000.
@@ -154,18 +173,33 @@ impl DocStore {
         self.paths.paths()
     }
 
-    /// Takes all memory that it takes to store documents one after the other, and changes nothing of what the store holds.
-    /// A refusal changes nothing either. `IdsSpent` comes where an internal id would be 1,000,000, and else `PathsSpent`
-    /// where the registry would have more than 1,000 paths. There are fewer than 2^32 documents.
-    pub fn prepare(&mut self, alloc: Global, rows: Vec<StoreRow>) -> Result<StorePlan, StoreFault>
+    /// The internal ids that documents take which are stored one after the other, and the paths that the registry gains
+    /// by them. Nothing changes. `IdsSpent` comes where an internal id would be 1,000,000, and else `PathsSpent` where the
+    /// registry would have more than 1,000 paths. There are fewer than 2^32 documents.
+    pub fn admit(&self, alloc: Global, rows: &[StoreRow]) -> Result<Admission, StoreFault>
+        ensures admitted { IfOk result (λ admission. IsAdmitted self.now.content rows.now admission) }
+        ensures fault { IfErr result (λ fault. fault ≢ Memory → spent (all_stored rows.now self.now.content) ≡ Some fault) }
+    {
+        let ids = give_ids(alloc, &self.ids, self.slots.len() as u32, rows)?;
+        let added = new_paths(alloc, &self.paths, rows)?;
+        Ok(Admission { ids, added })
+    }
+
+    /// Takes all memory that it takes to store documents that were admitted to the store as it is, and changes nothing of
+    /// what the store holds. A refusal changes nothing either.
+    pub fn prepare(
+        &mut self,
+        alloc: Global,
+        rows: Vec<StoreRow>,
+        admission: Admission,
+    ) -> Result<StorePlan, NoMemory>
+        requires { IsAdmitted self.old.content rows.items admission }
         ensures content { self.new.content ≡ self.old.content }
         ensures rows { IfOk result (λ plan. plan.rows ≡ rows.items) }
         ensures plan { IfOk result (λ plan. IsPlanFor self.new plan) }
-        ensures fault { IfErr result (λ fault. fault ≢ Memory → spent (all_stored rows.items self.old.content) ≡ Some fault) }
     {
+        let Admission { ids, added } = admission;
         let come = rows.as_slice();
-        let ids = give_ids(alloc, &self.ids, self.slots.len() as u32, come)?;
-        let added = new_paths(alloc, &self.paths, come)?;
         reserve(alloc, &mut self.ids, &mut self.slots, come)?;
         self.paths.reserve(alloc, added.as_slice())?;
         let rows = text_rows(alloc, rows)?;
@@ -198,6 +232,22 @@ impl DocStore {
             self.count -= 1;
         }
         found
+    }
+}
+
+impl Admission {
+    /// The internal id of each document, in order.
+    pub fn ids(&self) -> &[DocId]
+        ensures { map (λ id. id.0) result.now ≡ self.now.ids }
+    {
+        self.ids.as_slice()
+    }
+
+    /// The paths that the registry gains, in order.
+    pub fn added(&self) -> &[Word]
+        ensures { result.now ≡ self.now.added }
+    {
+        self.added.as_slice()
     }
 }
 

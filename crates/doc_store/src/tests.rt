@@ -18,6 +18,22 @@ fn rows(rt: &impl Abort, alloc: Global, externals: &[&str], body: &str) -> Vec<S
     rows
 }
 
+// Stores documents, and gives the internal id of each and how many paths are new.
+fn store_all(
+    rt: &impl Abort,
+    alloc: Global,
+    store: &mut DocStore,
+    come: Vec<StoreRow>,
+) -> (Vec<DocId>, usize) {
+    let admission = store.admit(alloc, come.as_slice()).expect(rt, "admitted");
+    let ids = Vec::from_slice(alloc, admission.ids()).expect(rt, "memory");
+    let added = admission.added().len();
+    let plan = store.prepare(alloc, come, admission).expect(rt, "a plan");
+    assert_eq!(rt; (plan.ids().len(), plan.added().len()), (ids.len(), added));
+    store.commit(plan);
+    (ids, added)
+}
+
 #[test]
 fn documents_come_and_go(rt: HostRuntime) {
     let alloc = rt.alloc();
@@ -28,12 +44,8 @@ fn documents_come_and_go(rt: HostRuntime) {
         &["7", "a"],
         "[{\"id\":7,\"t\":1},{\"id\":\"a\"}]",
     );
-    let plan = store.prepare(alloc, come).expect(&rt, "a plan");
-    assert_eq!(rt;
-        (plan.ids().len(), plan.added().len(), store.next_id()),
-        (2, 2, 0)
-    );
-    store.commit(plan);
+    let (ids, added) = store_all(&rt, alloc, &mut store, come);
+    assert_eq!(rt; (ids.len(), added), (2, 2));
     assert_eq!(rt;
         (store.id_of("a"), store.id_of("b")),
         (Some(DocId(1)), None)
@@ -56,9 +68,8 @@ fn later_documents_replace_earlier_ones(rt: HostRuntime) {
     let mut store = DocStore::new(alloc).expect(&rt, "memory");
     let body = "[{\"old\":1},{\"b\":2},{\"new\":{\"old\":3}}]";
     let come = rows(&rt, alloc, &["1", "2", "1"], body);
-    let plan = store.prepare(alloc, come).expect(&rt, "a plan");
-    assert_eq!(rt; plan.ids(), [DocId(0), DocId(1), DocId(0)].as_slice());
-    store.commit(plan);
+    let (ids, _) = store_all(&rt, alloc, &mut store, come);
+    assert_eq!(rt; ids.as_slice(), [DocId(0), DocId(1), DocId(0)].as_slice());
     assert_eq!(rt;
         (store.len(), store.next_id(), store.paths().len()),
         (2, 2, 4)
@@ -69,9 +80,8 @@ fn later_documents_replace_earlier_ones(rt: HostRuntime) {
         .expect(&rt, "a document");
     assert_eq!(rt; first.text(), "{\"new\":{\"old\":3}}");
     assert!(rt; store.fetch(DocId(2), &mut fetches).is_none());
-    let page = store.page(alloc, 1, 9).expect(&rt, "memory");
-    assert_eq!(rt; page.len(), 1);
-    assert_eq!(rt; page[0].text(), "{\"b\":2}");
+    assert!(rt; store.holds(DocId(1)));
+    assert!(rt; !store.holds(DocId(2)));
 }
 
 #[test]
@@ -81,7 +91,7 @@ fn internal_ids_end(rt: HostRuntime) {
     let mut store = DocStore::restore(alloc, Vec::new(alloc), 1_000_000, none).expect(
         &rt, "memory",
     );
-    let spent = store.prepare(alloc, rows(&rt, alloc, &["n"], "[{}]"));
+    let spent = store.admit(alloc, rows(&rt, alloc, &["n"], "[{}]").as_slice());
     assert!(rt; matches!(spent, Err(StoreFault::IdsSpent)));
     assert_eq!(rt; (store.next_id(), store.len()), (1_000_000, 0));
 }
@@ -101,12 +111,15 @@ fn paths_end(rt: HostRuntime) {
     let alloc = rt.alloc();
     let mut store = DocStore::new(alloc).expect(&rt, "memory");
     let body = wide(&rt, alloc, 1_001);
-    let spent = store.prepare(alloc, rows(&rt, alloc, &["w"], body.as_str()));
+    let spent = store.admit(alloc, rows(&rt, alloc, &["w"], body.as_str()).as_slice());
     assert!(rt; matches!(spent, Err(StoreFault::PathsSpent)));
     assert_eq!(rt; store.paths().len(), 0);
     let body = wide(&rt, alloc, 1_000);
-    let plan = store
-        .prepare(alloc, rows(&rt, alloc, &["w"], body.as_str()))
-        .expect(&rt, "a plan");
-    assert_eq!(rt; plan.added().len(), 1_000);
+    let (_, added) = store_all(
+        &rt,
+        alloc,
+        &mut store,
+        rows(&rt, alloc, &["w"], body.as_str()),
+    );
+    assert_eq!(rt; added, 1_000);
 }

@@ -1,1 +1,10 @@
 pub mod Found
+pub mod Order
+pub mod Placing
+pub mod Searching
+pub mod Collecting
+pub mod Finding
+pub mod Stable
+pub mod Putting
+pub mod Removing
+pub mod Updating

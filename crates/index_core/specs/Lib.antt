@@ -4,6 +4,9 @@ pub mod PlanView
 pub mod Plans
 pub mod Matching
 pub mod Hits
+pub mod Ordered
 pub mod Fetches
 pub mod Kept
-pub mod Laws
+pub mod Putting
+pub mod Removing
+pub mod Updating

@@ -1,16 +1,23 @@
-ghost use Rattle.std.specs.Prelude.{◌≡◌, ◌≢◌, ◌+◌, ◌≤◌, length, map, take, drop, Ok, Err, IfOk, OnOk, OnErr, IsTrue, ◌↔◌, MatchResult, if◌then◌else◌};
+ghost use Rattle.std.specs.Prelude.{◌≡◌, ◌≢◌, ◌+◌, ◌≤◌, length, map, take, drop, Ok, Err, None, Some, IfOk, IfErr, OnOk, OnErr, IsTrue, ◌↔◌, MatchResult, if◌then◌else◌};
 ghost use Rattle.std.specs.Option.{option_copied, option_map, is_some};
 ghost use Rattle.doc_values.specs.Changes.{kind_view};
 ghost use Rattle.index_core.specs.Index.{empty_index, documents as documents_in, document_under};
-ghost use Rattle.index_core.specs.Plans.{planned, applied};
+ghost use Rattle.doc_store.specs.Store.{spent};
+ghost use Rattle.index_core.specs.Faults.{store_refusal};
+ghost use Rattle.index_core.specs.PlanView.{work_view};
+ghost use Rattle.index_core.specs.Plans.{planned, applied, after_work};
 ghost use Rattle.index_core.specs.Fetches.{needed};
 ghost use Rattle.index_core.specs.Hits.{found};
 ghost use Rattle.index_core.specs.declared.fault.CoreFault.TheVariants.{NoMemory as Memory};
 
 use crate::call::{Listing, SearchCall, SearchResult};
+use crate::change::{clear_documents, remove_documents, store_documents};
 use crate::fault::CoreFault;
-use crate::kept::KeptRows;
+use crate::kept::{KeptRows, ids_of_kept, part};
 use crate::plan::{Plan, Work, keeping_key, no_work, planned_replace, planned_update};
+use crate::read::read;
+use crate::search::{MOST_HITS, rank};
+use crate::update::update_rows;
 use doc_store::DocStore;
 use doc_values::{ChangeKind, DocumentText};
 use search_base::{NoMemory, Steps, Word};
@@ -106,7 +113,44 @@ impl IndexCore {
         ensures fetches { OnOk result (fetches.new ≡ fetches.old + needed plan.work self.old.store) }
         ensures at_most { fetches.new ≤ fetches.old + needed plan.work self.old.store }
     {
-        Err(CoreFault::NoMemory)
+        let Plan { key, work } = plan;
+        self.work(alloc, work, fetches)?;
+        self.key = key;
+        Ok(())
+    }
+
+    fn work<F>(
+        &mut self,
+        alloc: Global,
+        work: Work,
+        fetches: &mut Steps<F>,
+    ) -> Result<(), CoreFault>
+        ensures key { self.new.key ≡ self.old.key }
+        ensures done { OnOk result (self.new.store ≡ after_work (work_view work) self.old.store) }
+        ensures within { OnOk result (spent (after_work (work_view work) self.old.store) ≡ None) }
+        ensures fault { IfErr result (λ fault. fault ≢ Memory
+            → option_map store_refusal (spent (after_work (work_view work) self.old.store)) ≡ Some fault) }
+        ensures stays { OnErr result (self.new.store ≡ self.old.store) }
+        ensures fetches { OnOk result (fetches.new ≡ fetches.old + needed (work_view work) self.old.store) }
+        ensures at_most { fetches.new ≤ fetches.old + needed (work_view work) self.old.store }
+    {
+        match work {
+            Work::Replace { rows } => {
+                store_documents(alloc, &mut self.store, &mut self.kept, rows)
+            }
+            Work::Update { rows } => {
+                let rows = update_rows(alloc, &self.store, rows, fetches)?;
+                store_documents(alloc, &mut self.store, &mut self.kept, rows)
+            }
+            Work::Remove { ids } => {
+                remove_documents(&mut self.store, &mut self.kept, ids.as_slice());
+                Ok(())
+            }
+            Work::Clear => {
+                clear_documents(&mut self.store, &mut self.kept);
+                Ok(())
+            }
+        }
     }
 
     /// The hits of a search, each a stored document: the asked slice of the documents that match, ranked by how many
@@ -125,7 +169,12 @@ impl IndexCore {
         ensures fetches { OnOk result (fetches.new ≡ fetches.old + length (found self.now.store call.now).hits) }
         ensures starved { OnErr result (fetches.new ≡ fetches.old) }
     {
-        Err(NoMemory)
+        let ranked = rank(alloc, self.kept.as_slice(), call)?;
+        let hits = read(alloc, &self.store, ranked.ids.as_slice(), fetches)?;
+        Ok(SearchResult {
+            hits,
+            total: ranked.total.min(MOST_HITS),
+        })
     }
 
     /// The document with an external id. Reads that document once, and none where there is none. Takes no memory.
@@ -133,7 +182,10 @@ impl IndexCore {
         ensures document { option_map (λ document. document.now) result ≡ document_under external.now self.now.store.rows }
         ensures fetches { fetches.new ≡ fetches.old + (if is_some result then 1 else 0) }
     {
-        None
+        match self.store.id_of(external) {
+            Some(id) => self.store.fetch(id, fetches),
+            None => None,
+        }
     }
 
     /// The documents without the first `offset` of them, and at most `limit` of the rest, in the order of their internal
@@ -151,6 +203,11 @@ impl IndexCore {
         ensures fetches { OnOk result (fetches.new ≡ fetches.old + length (take limit (drop offset (documents_in self.now)))) }
         ensures starved { OnErr result (fetches.new ≡ fetches.old) }
     {
-        Err(NoMemory)
+        let ids = ids_of_kept(alloc, part(self.kept.as_slice(), offset, limit))?;
+        let documents = read(alloc, &self.store, ids.as_slice(), fetches)?;
+        Ok(Listing {
+            total: self.store.len(),
+            documents,
+        })
     }
 }

@@ -1,18 +1,27 @@
-//! One index: its primary key, and the documents that it holds under their ids.
+//! One index: its primary key, the documents that it holds under their ids, and the search for words in them.
 //!
 //! Promises that a change is first planned, which tries the key and each id and changes nothing, and then applied as
-//! one step that is done whole or not at all; the limits of an index are tried there.
+//! one step that is done whole or not at all; and that a search gives the asked slice of the documents that match, by
+//! cost and then by internal id, and reads no other document.
 //! Contracts see an `IndexCore` as an `Index`: its key, and its store of paths and rows.
-//! Stands on `doc_store`, which keeps the documents, and on `doc_values`, which reads keys and ids off them.
+//! Stands on `doc_store`, which keeps the documents, on `doc_values`, which reads keys and ids off them, and on
+//! `query_graph`, `doc_rows` and `plain_rank`, which rank them.
 #![tactic(auto)]
 
 mod call;
+mod candidate;
+mod change;
 mod fault;
 mod index;
 mod kept;
 mod key;
 mod plan;
+mod read;
 mod rows;
+mod search;
+#[cfg(test)]
+mod tests;
+mod update;
 
 pub use call::{Listing, SearchCall, SearchResult};
 pub use fault::CoreFault;

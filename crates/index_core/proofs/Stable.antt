@@ -1,0 +1,83 @@
+-- What a search sees of a document stays when the registry grows by paths that the document does not have.
+use Rattle.std.proofs.Common.{◌≡◌, ℕ, zero, suc, ◌+◌, Bool, true, false, cond, ◌||◌, List, [], ◌∷◌, ◌++◌, length, map, filter, None, refl, sym, ap, subst, ◌∙◌, arith, append_assoc}
+use Rattle.std.specs.Prelude.{bytes_eq}
+use Rattle.std.specs.List.{filter_map}
+use Rattle.std.proofs.lemmas.Bool.{cond-true, cond-false, true≢false}
+use Rattle.std.proofs.lemmas.List.{append-nil}
+use Rattle.serde_json.specs.Data.{Data}
+use Rattle.doc_values.specs.Walk.{Visit, walk, visited, paths_of, flat_rows}
+use Rattle.doc_values.specs.Leaves.{found_at, said_of}
+use Rattle.doc_rows.specs.Texts.{leaf_text, texts_of, texts_in}
+use Rattle.doc_rows.specs.Rows.{places_of, places_from, rows_of}
+use Rattle.doc_values.specs.Walk.{members_in}
+use Rattle.doc_values.proofs.Leaves.{members_say}
+use Rattle.doc_store.proofs.NameLemmas.{same_bytes, bytes_eq-turned}
+use Rattle.doc_store.specs.Paths.{has_path}
+use Rattle.doc_store.specs.Store.{Row}
+use Rattle.doc_store.specs.Sound.{StandOnce, AreRegistered, CoverRows}
+use Rattle.index_core.specs.Kept.{kept_at}
+
+-- a path that no visit is at holds nothing
+found-none : (path : List ℕ) (paths : List (List ℕ)) (visits : List Visit) → has_path path paths ≡ false → AreRegistered (visited visits) paths → found_at path visits ≡ []
+found-none path paths [] absent h = refl
+found-none path paths (visit ∷ visits) absent h = by (bytes_eq path visit.path) refl (found-none path paths visits absent h.1)
+  where
+    by : (b : Bool) → bytes_eq path visit.path ≡ b → found_at path visits ≡ [] → found_at path (visit ∷ visits) ≡ []
+    by true e rest = absurd (true≢false (sym (ap (λ p. has_path p paths) (same_bytes path visit.path e) ∙ h.0) ∙ absent))
+    by false e rest = cond-false _ _ _ e ∙ rest
+
+texts-none : (path : List ℕ) (paths : List (List ℕ)) (d : Data) → has_path path paths ≡ false → AreRegistered (paths_of d) paths → texts_of d path ≡ []
+texts-none path paths d absent h = ap (filter_map leaf_text) (members_say path None (members_in d) ∙ found-none path paths (walk d) absent h)
+
+-- each of these paths is not among the others
+abbrev AreAbsent : List (List ℕ) → List (List ℕ) → Type 0
+AreAbsent [] paths = Unit {0}
+AreAbsent (path ∷ more) paths = (has_path path paths ≡ false) × AreAbsent more paths
+
+places-none : (number : ℕ) (d : Data) (more paths : List (List ℕ)) → AreAbsent more paths → AreRegistered (paths_of d) paths → places_from number d more ≡ []
+places-none number d [] paths absent h = refl
+places-none number d (path ∷ more) paths absent h = ap (λ texts. places_of number texts ++ places_from (number + 1) d more) (texts-none path paths d absent.0 h) ∙ places-none (number + 1) d more paths absent.1 h
+
+places-append : (number : ℕ) (d : Data) (more paths before : List (List ℕ)) → AreAbsent more before → AreRegistered (paths_of d) before → places_from number d (paths ++ more) ≡ places_from number d paths
+places-append number d more [] before absent h = places-none number d more before absent h
+places-append number d more (path ∷ paths) before absent h = ap (λ v. places_of number (texts_of d path) ++ v) (places-append (number + 1) d more paths before absent h)
+
+pub rows-stay : (d : Data) (paths more : List (List ℕ)) → AreAbsent more paths → AreRegistered (paths_of d) paths → rows_of d (paths ++ more) ≡ rows_of d paths
+rows-stay d paths more absent h = ap (λ v. record { places = v; leaves = []; marks = [] }) (places-append 0 d more paths paths absent h)
+
+-- ---- paths that stand once
+
+has-append : (path : List ℕ) (paths more : List (List ℕ)) → has_path path (paths ++ more) ≡ false → (has_path path paths ≡ false) × (has_path path more ≡ false)
+has-append path [] more h = (refl, h)
+has-append path (p ∷ paths) more h = by (bytes_eq path p) refl (has-append path paths more)
+  where
+    by : (b : Bool) → bytes_eq path p ≡ b → (has_path path (paths ++ more) ≡ false → (has_path path paths ≡ false) × (has_path path more ≡ false)) → (has_path path (p ∷ paths) ≡ false) × (has_path path more ≡ false)
+    by true e again = absurd (true≢false (sym (ap (λ b. b || has_path path (paths ++ more)) e) ∙ h))
+    by false e again =
+        let rest = again (sym (ap (λ b. b || has_path path (paths ++ more)) e) ∙ h) in
+        (ap (λ b. b || has_path path paths) e ∙ rest.0, rest.1)
+
+absent-behind : (path : List ℕ) (more : List (List ℕ)) (paths : List (List ℕ)) → has_path path more ≡ false → AreAbsent more paths → AreAbsent more (path ∷ paths)
+absent-behind path [] paths h all = tt
+absent-behind path (m ∷ more) paths h all = by (bytes_eq path m) refl (absent-behind path more paths)
+  where
+    by : (b : Bool) → bytes_eq path m ≡ b → (has_path path more ≡ false → AreAbsent more paths → AreAbsent more (path ∷ paths)) → AreAbsent (m ∷ more) (path ∷ paths)
+    by true e again = absurd (true≢false (sym (ap (λ b. b || has_path path more) e) ∙ h))
+    by false e again = (ap (λ b. b || has_path m paths) (bytes_eq-turned m path ∙ e) ∙ all.0, again (sym (ap (λ b. b || has_path path more) e) ∙ h) all.1)
+
+none-absent : (more : List (List ℕ)) → AreAbsent more []
+none-absent [] = tt
+none-absent (m ∷ more) = (refl, none-absent more)
+
+pub once-absent : (paths more : List (List ℕ)) → StandOnce (paths ++ more) → AreAbsent more paths
+once-absent [] more h = none-absent more
+once-absent (path ∷ paths) more h = absent-behind path more paths (has-append path paths more h.0).1 (once-absent paths more h.1)
+
+-- ---- the rows of all documents
+
+pub all-stay : (rows : List Row) (paths more : List (List ℕ)) → StandOnce (paths ++ more) → CoverRows rows paths
+    → map (λ r. kept_at r.id (rows_of r.document (paths ++ more))) rows ≡ map (λ r. kept_at r.id (rows_of r.document paths)) rows
+all-stay [] paths more once h = refl
+all-stay (r ∷ rows) paths more once h =
+    ap (λ v. kept_at r.id v ∷ map (λ r. kept_at r.id (rows_of r.document (paths ++ more))) rows) (rows-stay r.document paths more (once-absent paths more once) h.0)
+    ∙ ap (λ v. kept_at r.id (rows_of r.document paths) ∷ v) (all-stay rows paths more once h.1)

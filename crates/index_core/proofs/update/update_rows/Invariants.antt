@@ -1,0 +1,5 @@
+use Rattle.index_core.proofs.Updating.{Updates}
+use Rattle.index_core.proofs.update.update_rows.Given as goal
+
+abbrev pub invariant-loop-row : goal.invariant-loop-row
+invariant-loop-row g l = Updates l.initial.row-iterator.rest.items l.row-iterator.rest.items l.store.content l.rows.items l.places l.initial.fetches l.fetches

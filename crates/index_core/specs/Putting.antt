@@ -1,0 +1,30 @@
+-- The rows that an index keeps, as a change of documents puts them.
+use Rattle.std.specs.Prelude.{◌≡◌, ◌<◌, ◌⊎◌, ℕ, ◌==◌, List, [], ◌∷◌, if◌then◌else◌}
+use Rattle.doc_rows.specs.Rows.{rows_of}
+use Rattle.doc_store.specs.declared.rows.StoreRow.{StoreRow}
+use Rattle.index_core.specs.declared.kept.KeptRows.{KeptRows}
+use Rattle.index_core.specs.Kept.{kept_at}
+
+-- the rows in place of those of their internal id, or else behind the others
+abbrev pub put_kept : KeptRows → List KeptRows → List KeptRows
+put_kept one [] = one ∷ []
+put_kept one (k ∷ kept) = if one.id.0 == k.id.0 then one ∷ kept else k ∷ put_kept one kept
+
+abbrev pub put_all : List KeptRows → List KeptRows → List KeptRows
+put_all [] kept = kept
+put_all (one ∷ more) kept = put_all more (put_kept one kept)
+
+-- rows of the internal id are there, or all are of smaller ones
+abbrev pub HasPlace : ℕ → List KeptRows → Type 0
+HasPlace id [] = Unit {0}
+HasPlace id (k ∷ kept) = (id ≡ k.id.0) ⊎ ((k.id.0 < id) × HasPlace id kept)
+
+abbrev pub HavePlaces : List KeptRows → List KeptRows → Type 0
+HavePlaces [] kept = Unit {0}
+HavePlaces (one ∷ more) kept = HasPlace one.id.0 kept × HavePlaces more (put_kept one kept)
+
+-- the rows of documents with these internal ids, in an index with these paths
+abbrev pub rows_come : List (List ℕ) → List StoreRow → List ℕ → List KeptRows
+rows_come paths [] ids = []
+rows_come paths (r ∷ rows) [] = []
+rows_come paths (r ∷ rows) (id ∷ ids) = kept_at id (rows_of r.document paths) ∷ rows_come paths rows ids

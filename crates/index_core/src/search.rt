@@ -1,0 +1,100 @@
+ghost use Rattle.std.specs.Prelude.{◌≡◌, ◌-◌, map, length, take, drop, [], IfOk};
+ghost use Rattle.search_base.specs.Graphs.{IsGraph};
+ghost use Rattle.index_core.specs.Matching.{query_of as query_in};
+ghost use Rattle.index_core.specs.Hits.{hits_of, window_end as end_of_window};
+ghost use Rattle.index_core.specs.Ordered.{placed_all, matches_in, IdsRise};
+
+use crate::call::SearchCall;
+use crate::candidate::{Candidate, place};
+use crate::kept::{KeptRows, ids_of_kept, part};
+use plain_rank::cost_tuple;
+use query_graph::{build_graph, items};
+use search_base::{DocId, Graph, NoMemory, Rule, Strategy};
+use std::alloc::Global;
+
+/// No more matches than these are counted or handed out.
+pub(crate) const MOST_HITS: u64 = 1_000;
+
+/// The internal ids of the hits of a search, and how many documents match.
+#[derive(Drop)]
+pub(crate) struct Ranked {
+    pub(crate) ids: Vec<DocId>,
+    pub(crate) total: u64,
+}
+
+/// Ranks the documents of which these rows are kept. Without a word to look for, no rows are read.
+pub(crate) fn rank(alloc: Global, kept: &[KeptRows], call: &SearchCall) -> Result<Ranked, NoMemory>
+    requires { IdsRise kept.now }
+    ensures ids { IfOk result (λ ranked. map (λ id. id.0) ranked.ids.items
+        ≡ map (λ m. m.id) (hits_of call.now (matches_in (query_in call.now.q) kept.now))) }
+    ensures total { IfOk result (λ ranked. ranked.total ≡ length (matches_in (query_in call.now.q) kept.now)) }
+{
+    let query = query_of(alloc, call.q.as_str())?;
+    let end = window_end(call);
+    let limit = end.saturating_sub(call.offset);
+    let levels = query.levels.as_slice();
+    if levels.is_empty() {
+        return Ok(Ranked {
+            ids: ids_of_kept(alloc, part(kept, call.offset, limit))?,
+            total: kept.len() as u64,
+        });
+    }
+    let best = find_best(alloc, kept, &query, end as usize)?;
+    Ok(Ranked {
+        ids: ids_of(alloc, part(best.first.as_slice(), call.offset, limit))?,
+        total: best.total,
+    })
+}
+
+fn query_of(alloc: Global, q: &str) -> Result<Graph, NoMemory>
+    ensures query { IfOk result (λ query. query ≡ query_in q.now) }
+    ensures sound { IfOk result IsGraph }
+{
+    let items = items(alloc, q, &[])?;
+    build_graph(alloc, &items, Strategy::Last)
+}
+
+// The place of the first hit that the search does not ask for.
+fn window_end(call: &SearchCall) -> u64
+    ensures { result ≡ end_of_window call.now }
+{
+    call.offset.saturating_add(call.limit).min(MOST_HITS)
+}
+
+// The matches that stand first, and how many there are in all.
+#[derive(Drop)]
+struct Best {
+    first: Vec<Candidate>,
+    total: u64,
+}
+
+fn find_best(alloc: Global, kept: &[KeptRows], query: &Graph, most: usize) -> Result<Best, NoMemory>
+    requires graph { IsGraph query.now }
+    requires rise { IdsRise kept.now }
+    ensures first { IfOk result (λ best. best.first.items ≡ take most (placed_all (matches_in query.now kept.now) [])) }
+    ensures total { IfOk result (λ best. best.total ≡ length (matches_in query.now kept.now)) }
+{
+    let mut first = Vec::new(alloc);
+    let mut total = 0;
+    for document in kept {
+        if let Some(costs) = cost_tuple(alloc, query, &document.rows, &[Rule::Words])? {
+            let candidate = Candidate {
+                costs,
+                id: document.id,
+            };
+            place(&mut first, candidate, most)?;
+            total += 1;
+        }
+    }
+    Ok(Best { first, total })
+}
+
+fn ids_of(alloc: Global, candidates: &[Candidate]) -> Result<Vec<DocId>, NoMemory>
+    ensures { IfOk result (λ ids. map (λ id. id.0) ids.items ≡ map (λ m. m.id) candidates.now) }
+{
+    let mut ids = Vec::with_capacity(alloc, candidates.len())?;
+    for candidate in candidates {
+        ids.push(candidate.id)?;
+    }
+    Ok(ids)
+}
