@@ -1,5 +1,5 @@
 -- What documents are shown by `*`, and what without it.
-use Rattle.std.proofs.Common.{◌≡◌, ℕ, List, [], ◌∷◌, true, false, codes, refl, ap₂}
+use Rattle.std.proofs.Common.{◌≡◌, ℕ, List, [], ◌∷◌, true, false, codes, refl}
 use Rattle.serde_json.specs.Data.{Data}
 use Rattle.search_routes.specs.Shown.{is_among, all_named, all_shown}
 

@@ -1,16 +1,14 @@
 -- From what a call did to the step that it made.
-use Rattle.std.proofs.Common.{◌≡◌, ℕ, ◌+◌, ◌≤◌, Bool, true, false, List, length, Option, Some, None, Result, Ok, Err, refl, sym, ap, ap₂, ◌∙◌}
-use Rattle.std.specs.Prelude.{nat_le, unwrap_or, is_none, ◌&&◌}
+use Rattle.std.proofs.Common.{◌≡◌, ℕ, ◌+◌, Bool, true, false, List, Some, None, Result, Ok, Err, refl, sym, ap, ap₂, ◌∙◌}
 use Rattle.std.specs.Ordering.{nat_cmp}
 use Rattle.std.specs.Cmp.Lexicographic.{slice_cmp, nat_list_cmp_total}
-use Rattle.std.specs.Map.{lookup, set_value, keys_of}
+use Rattle.std.specs.Map.{set_value, keys_of}
 use Rattle.std.specs.BTreeMap.{is_at}
 use Rattle.std.specs.List.Sorted.{IsStrictlySortedBy}
 use Rattle.std.proofs.lemmas.Map.Steps.{set_value_same}
 use Rattle.doc_values.specs.Changes.{KindData}
 use Rattle.http_wire.specs.Stream.{Request}
 use Rattle.http_wire.specs.Reply.{Answer}
-use Rattle.http_wire.specs.Sent.{IsSentAs}
 use Rattle.http_wire.specs.declared.reply.Reply.{Reply}
 use Rattle.index_core.specs.Index.{Index, empty_index}
 use Rattle.search_calls.specs.declared.refusal.Refusal.{Refusal}
@@ -24,7 +22,7 @@ use Rattle.search_calls.specs.Gives.{Fails}
 use Rattle.search_calls.specs.Trying.{◌>>=◌}
 use Rattle.search_routes.specs.Replies.{accepted}
 use Rattle.search_routes.specs.State.{State, Indexes}
-use Rattle.search_routes.specs.Machine.{Step, with_index, index_after, indexes_after, index_at, type_of, changed, filled, emptied, answer_to, outcome, told, most_indexes, is_full, unless_refused, step}
+use Rattle.search_routes.specs.Machine.{Step, with_index, index_after, indexes_after, index_at, type_of, changed, filled, emptied, answer_to, outcome, told, is_full, unless_refused, step}
 use Rattle.search_routes.specs.Needs.{needed_fetches}
 use Rattle.search_routes.specs.Done.{Grows, Steps, Sends, Answers, Makes, Performs, held_need}
 use Rattle.search_routes.proofs.MapLemmas.{set_value-insert}

@@ -1,5 +1,5 @@
 -- The replies to calls that are not refused.
-use Rattle.std.specs.Prelude.{ℕ, List, map, length, codes, Option, Some, None}
+use Rattle.std.specs.Prelude.{ℕ, List, codes, Option, Some, None}
 use Rattle.serde_json.specs.Data.{Data, null, number, unsigned, string, array, object, member, no_members}
 use Rattle.serde_json.specs.View.{items_of}
 use Rattle.serde_json.specs.Written.{compact_text}

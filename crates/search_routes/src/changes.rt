@@ -2,7 +2,7 @@
 ghost use Rattle.std.specs.Prelude.{◌≡◌, ◌+◌, ◌<◌, ◌≤◌, [], IfOk, OnOk, OnErr};
 ghost use Rattle.std.specs.Option.{option_copied};
 ghost use Rattle.std.specs.Result.{result_unwrap_or};
-ghost use Rattle.doc_values.specs.Changes.{KindData, kind_view, create, drop_index};
+ghost use Rattle.doc_values.specs.Changes.{kind_view, create, drop_index};
 ghost use Rattle.doc_values.specs.Ids.{key_of};
 ghost use Rattle.index_core.specs.Index.{empty_index};
 ghost use Rattle.index_core.specs.Plans.{planned, applied};

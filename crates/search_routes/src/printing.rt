@@ -1,5 +1,5 @@
 // Documents in the bodies of replies: their kept texts are joined, and read back only where some members are left out.
-ghost use Rattle.std.specs.Prelude.{◌≡◌, ◌++◌, ◌∷◌, [], IfOk, OnOk, map, string_bytes, false};
+ghost use Rattle.std.specs.Prelude.{◌≡◌, ◌++◌, ◌∷◌, IfOk, OnOk, map, string_bytes, false};
 ghost use Rattle.json.specs.Print.{quoted};
 ghost use Rattle.serde_json.specs.Data.{Members, member, array, object};
 ghost use Rattle.serde_json.specs.View.{view, items_of, members_view};

@@ -1,11 +1,10 @@
 // The replies to calls that are not refused.
-ghost use Rattle.std.specs.Prelude.{◌≡◌, ◌++◌, ◌∷◌, List, IfOk, OnOk, map, length, string_bytes, false};
+ghost use Rattle.std.specs.Prelude.{◌≡◌, ◌++◌, ◌∷◌, List, IfOk, OnOk, map, length, false};
 ghost use Rattle.std.specs.Option.{option_copied};
 ghost use Rattle.serde_json.specs.Data.{Data, array};
 ghost use Rattle.serde_json.specs.View.{view, items_of, items_view};
 ghost use Rattle.serde_json.specs.Written.{has_float, items_have_float};
 ghost use Rattle.http_wire.specs.Sent.{IsSentAs};
-ghost use Rattle.search_routes.specs.Shown.{all_shown};
 ghost use Rattle.search_routes.specs.Replies.{accepted, change_data, health, health_data, index_data, one_index, one_document, list_data, listing, documents_listing, hits};
 ghost use Rattle.search_routes.specs.Machine.{slice, index_rows};
 

@@ -1,4 +1,4 @@
-use Rattle.std.proofs.Common.{ap, ◌∙◌, arith}
+use Rattle.std.proofs.Common.{arith}
 use Rattle.http_wire.specs.Wire.{request_of}
 use Rattle.search_routes.proofs.Steps.{step_made, need_made}
 use Rattle.search_routes.proofs.performing.answer.Goals as goal

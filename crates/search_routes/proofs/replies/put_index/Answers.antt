@@ -1,6 +1,5 @@
 use Rattle.std.proofs.Common.{◌≡◌, ◌<◌, ◌-◌, ◌++◌, ◌∙◌, ap, map, arith, option_copied}
 use Rattle.serde_json.specs.View.{view}
-use Rattle.search_routes.specs.Replies.{index_data}
 use Rattle.search_routes.specs.Machine.{slice}
 use Rattle.search_routes.proofs.RowLemmas.{taken, items_have_float-push, index_has_no_float}
 use Rattle.search_routes.proofs.replies.put_index.Goals as goal
