@@ -44,77 +44,27 @@ fn refuses(rt: &impl Abort, alloc: Global, row: &Row) -> Result<(), Fail> {
     Ok(())
 }
 
-// What a call is, in a few words.
-fn told(alloc: Global, call: &Call) -> Result<String, Fail> {
+// What a call is, in a word.
+fn kind_of(call: &Call) -> &'static str {
     match call {
-        Call::Refused(_) => Ok(String::from_str(alloc, "refused")?),
-        Call::Write(change) => {
-            let uid = change.uid.as_str();
-            Ok(match &change.kind {
-                ChangeKind::Create { key: None } => format!(in alloc; "create {uid}")?,
-                ChangeKind::Create { key: Some(key) } => format!(in alloc;
-                    "create {uid} by {}",
-                    key.as_str()
-                )?,
-                ChangeKind::Drop => format!(in alloc; "drop {uid}")?,
-                ChangeKind::Replace { key, documents } => format!(in alloc;
-                    "replace {uid} {} {}",
-                    key.is_some(),
-                    documents.len()
-                )?,
-                ChangeKind::Update { key, documents } => format!(in alloc;
-                    "update {uid} {} {}",
-                    key.is_some(),
-                    documents.len()
-                )?,
-                ChangeKind::Remove { ids } => format!(in alloc;
-                    "remove {uid}{}",
-                    listed(alloc, ids)?
-                )?,
-                ChangeKind::Clear => format!(in alloc; "clear {uid}")?,
-                _ => String::from_str(alloc, "settings")?,
-            })
-        }
-        Call::Read(ReadCall::Health) => Ok(String::from_str(alloc, "health")?),
-        Call::Read(ReadCall::Indexes { offset, limit }) => Ok(format!(in alloc;
-            "indexes {offset} {limit}"
-        )?),
-        Call::Read(ReadCall::Index { uid }) => Ok(format!(in alloc; "index {}", uid.as_str())?),
-        Call::Read(
-            ReadCall::Documents {
-                uid,
-                offset,
-                limit,
-                fields,
-            },
-        ) => Ok(format!(in alloc;
-            "documents {} {offset} {limit}{}",
-            uid.as_str(),
-            listed(alloc, fields)?
-        )?),
-        Call::Read(ReadCall::Document { uid, id, fields }) => Ok(format!(in alloc;
-            "document {} {}{}",
-            uid.as_str(),
-            id.as_str(),
-            listed(alloc, fields)?
-        )?),
-        Call::Read(ReadCall::Search { uid, call }) => Ok(format!(in alloc;
-            "search {} ({}) {} {}",
-            uid.as_str(),
-            call.q.as_str(),
-            call.offset,
-            call.limit
-        )?),
+        Call::Refused(_) => "refused",
+        Call::Write(change) => match &change.kind {
+            ChangeKind::Create { key: None } => "create",
+            ChangeKind::Create { key: Some(_) } => "create with a key",
+            ChangeKind::Drop => "drop",
+            ChangeKind::Replace { .. } => "replace",
+            ChangeKind::Update { .. } => "update",
+            ChangeKind::Remove { .. } => "remove",
+            ChangeKind::Clear => "clear",
+            ChangeKind::Patch { .. } | ChangeKind::Reset => "settings",
+        },
+        Call::Read(ReadCall::Health) => "health",
+        Call::Read(ReadCall::Indexes { .. }) => "indexes",
+        Call::Read(ReadCall::Index { .. }) => "index",
+        Call::Read(ReadCall::Documents { .. }) => "documents",
+        Call::Read(ReadCall::Document { .. }) => "document",
+        Call::Read(ReadCall::Search { .. }) => "search",
     }
-}
-
-fn listed(alloc: Global, words: &[Word]) -> Result<String, Fail> {
-    let mut text = String::new(alloc);
-    for word in words {
-        text.push(' ')?;
-        text.push_str(word.as_str())?;
-    }
-    Ok(text)
 }
 
 #[test]
@@ -126,91 +76,95 @@ fn each_route_once(rt: HostRuntime) -> Result<(), Fail> {
             "POST",
             "/indexes",
             "{\"uid\":\"m\",\"primaryKey\":null}",
-            "create m",
+            "create",
         ),
         (
             "POST",
             "/indexes",
             "{\"primaryKey\":\"k\",\"uid\":\"m\"}",
-            "create m by k",
+            "create with a key",
         ),
-        ("GET", "/indexes", "", "indexes 0 20"),
         (
             "GET",
             "/indexes?limit=007&offset=18446744073709551615",
             "",
-            "indexes 18446744073709551615 7",
+            "indexes",
         ),
-        ("GET", "/indexes/m?", "", "index m"),
-        ("DELETE", "/indexes/m", "", "drop m"),
-        (
-            "POST",
-            "/indexes/m/documents",
-            "{\"id\":1}",
-            "replace m false 1",
-        ),
+        ("GET", "/indexes/m?", "", "index"),
+        ("DELETE", "/indexes/m", "", "drop"),
+        ("POST", DOCUMENTS, "{\"id\":1}", "replace"),
         (
             "PUT",
             "/indexes/m/documents?primaryKey=%69d",
             "[]",
-            "update m true 0",
-        ),
-        ("GET", "/indexes/m/documents", "", "documents m 0 20 *"),
-        (
-            "GET",
-            "/indexes/m/documents?fields=a%2Cb,&limit=1",
-            "",
-            "documents m 0 1 a b ",
+            "update",
         ),
         (
             "GET",
-            "/indexes/m/documents?fields=",
+            "/indexes/m/documents?fields=a&limit=1",
             "",
-            "documents m 0 20",
+            "documents",
         ),
-        ("DELETE", "/indexes/m/documents", "", "clear m"),
+        ("DELETE", DOCUMENTS, "", "clear"),
         (
             "GET",
             "/indexes/m/documents/a%20b?fields=id",
             "",
-            "document m a%20b id",
+            "document",
         ),
-        (
-            "GET",
-            "/indexes/m/documents/delete-batch",
-            "",
-            "document m delete-batch *",
-        ),
-        (
-            "DELETE",
-            "/indexes/m/documents/delete-batch",
-            "",
-            "remove m delete-batch",
-        ),
-        ("DELETE", "/indexes/m/documents/a.b", "", "remove m a.b"),
-        (
-            "POST",
-            "/indexes/m/documents/delete-batch",
-            "[1,\"a\",-2,\"1\"]",
-            "remove m 1 a -2 1",
-        ),
-        (
-            "POST",
-            "/indexes/m/documents/delete-batch",
-            "[]",
-            "remove m",
-        ),
-        ("POST", "/indexes/m/search", "", "search m () 0 20"),
-        (
-            "POST",
-            "/indexes/m/search",
-            "{\"q\":\"it's\",\"limit\":18446744073709551615,\"offset\":null}",
-            "search m (it's) 0 18446744073709551615",
-        ),
+        ("DELETE", "/indexes/m/documents/a.b", "", "remove"),
+        ("GET", BATCH, "", "document"),
+        ("DELETE", BATCH, "", "remove"),
+        ("POST", BATCH, "[]", "remove"),
+        ("POST", SEARCH, "", "search"),
     ] {
         let call = call_of(alloc, method, target, body)?;
-        let found = told(alloc, &call)?;
-        assert_eq!(rt; found.as_str(), wanted, "{method} {target}");
+        assert_eq!(rt; kind_of(&call), wanted, "{method} {target}");
+    }
+    Ok(())
+}
+
+#[test]
+fn what_calls_say(rt: HostRuntime) -> Result<(), Fail> {
+    let alloc = rt.alloc();
+    match &call_of(
+        alloc,
+        "GET",
+        "/indexes/m/documents?fields=a%2Cb,&limit=007",
+        "",
+    )? {
+        Call::Read(
+            ReadCall::Documents {
+                uid,
+                offset,
+                limit,
+                fields,
+            },
+        ) => {
+            assert_eq!(rt; uid.as_str(), "m");
+            assert_eq!(rt; (*offset, *limit, fields.len()), (0, 7, 3));
+            assert_eq!(rt; fields[1].as_str(), "b");
+        }
+        _ => assert!(rt; false, "documents"),
+    }
+    match &call_of(alloc, "GET", "/indexes/m/documents/a%20b", "")? {
+        Call::Read(ReadCall::Document { id, fields, .. }) => {
+            assert_eq!(rt; id.as_str(), "a%20b");
+            assert_eq!(rt; fields[0].as_str(), "*");
+        }
+        _ => assert!(rt; false, "document"),
+    }
+    match &call_of(
+        alloc,
+        "POST",
+        SEARCH,
+        "{\"q\":\"it's\",\"limit\":18446744073709551615}",
+    )? {
+        Call::Read(ReadCall::Search { call, .. }) => {
+            assert_eq!(rt; call.q.as_str(), "it's");
+            assert_eq!(rt; (call.offset, call.limit), (0, 18446744073709551615));
+        }
+        _ => assert!(rt; false, "search"),
     }
     Ok(())
 }
@@ -254,49 +208,55 @@ fn malformed<'a>(method: &'a str, target: &'a str, body: &'a str, message: &'a s
 #[test]
 fn paths_and_methods_that_are_none(rt: HostRuntime) -> Result<(), Fail> {
     let alloc = rt.alloc();
-    for row in [
-        no_route("GET", "/nothing"),
-        no_route("GET", "health"),
-        no_route("GET", "/health/"),
-        no_route("GET", "//health"),
-        no_route("GET", "/indexes/"),
-        no_route("GET", "/indexes//documents"),
-        no_route("GET", "/indexes/m/"),
-        no_route("GET", "/indexes/m/documents/"),
-        no_route("GET", "/indexes/m/documents/1/"),
-        no_route("GET", "/indexes/m/settings"),
-        no_route("PATCH", "/indexes//search?x"),
-        not_allowed("POST", "/health"),
-        not_allowed("HEAD", "/health"),
-        not_allowed("get", "/health"),
-        not_allowed("PUT", "/indexes"),
-        not_allowed("PATCH", "/indexes/m"),
-        not_allowed("PATCH", DOCUMENTS),
-        not_allowed("PUT", BATCH),
-        not_allowed("POST", "/indexes/m/documents/7"),
-        not_allowed("GET", SEARCH),
-        not_allowed("PATCH", "/indexes/a.b/search?x"),
+    for (method, target) in [
+        ("GET", "/nothing"),
+        ("GET", "health"),
+        ("GET", "/health/"),
+        ("GET", "//health"),
+        ("GET", "/indexes/"),
+        ("GET", "/indexes//documents"),
+        ("GET", "/indexes/m/documents/"),
+        ("GET", "/indexes/m/documents/1/"),
+        ("GET", "/indexes/m/settings"),
+        ("PATCH", "/indexes//search?x"),
     ] {
-        refuses(&rt, alloc, &row)?;
+        refuses(&rt, alloc, &no_route(method, target))?;
+    }
+    for (method, target) in [
+        ("POST", "/health"),
+        ("get", "/health"),
+        ("PUT", "/indexes"),
+        ("PATCH", "/indexes/m"),
+        ("PUT", BATCH),
+        ("POST", "/indexes/m/documents/7"),
+        ("GET", SEARCH),
+        ("PATCH", "/indexes/a.b/search?x"),
+    ] {
+        refuses(&rt, alloc, &not_allowed(method, target))?;
     }
     Ok(())
 }
 
 #[test]
-fn faults_of_uids_and_query_strings(rt: HostRuntime) -> Result<(), Fail> {
+fn faults_of_uids(rt: HostRuntime) -> Result<(), Fail> {
     let alloc = rt.alloc();
-    for row in [
-        bad_uid("GET", "/indexes/a.b", ""),
-        bad_uid("POST", "/indexes/a.b/search?x", "{"),
-        bad_uid("POST", "/indexes", "{\"uid\":\"a b\"}"),
-        bad_uid("POST", "/indexes", "{\"uid\":null}"),
-        bad_uid("POST", "/indexes", "{\"uid\":5,\"zz\":5}"),
+    for (method, target, body) in [
+        ("GET", "/indexes/a.b", ""),
+        ("POST", "/indexes/a.b/search?x", "{"),
+        ("POST", "/indexes", "{\"uid\":\"a b\"}"),
+        ("POST", "/indexes", "{\"uid\":null}"),
+        ("POST", "/indexes", "{\"uid\":5,\"zz\":5}"),
     ] {
-        refuses(&rt, alloc, &row)?;
+        refuses(&rt, alloc, &bad_uid(method, target, body))?;
     }
+    Ok(())
+}
+
+#[test]
+fn faults_of_query_strings(rt: HostRuntime) -> Result<(), Fail> {
+    let alloc = rt.alloc();
     for (method, target, message) in [
         ("GET", "/health?x=1", "Unknown or malformed `x`."),
-        ("POST", "/indexes?x", "Unknown or malformed `x`."),
         ("POST", "/indexes/m/search?q=x", "Unknown or malformed `q`."),
         (
             "POST",
@@ -325,11 +285,6 @@ fn faults_of_uids_and_query_strings(rt: HostRuntime) -> Result<(), Fail> {
             "Unknown or malformed `offset`.",
         ),
         (
-            "GET",
-            "/indexes/m/documents/1?limit=1",
-            "Unknown or malformed `limit`.",
-        ),
-        (
             "PUT",
             "/indexes/m/documents?primaryKey=",
             "Unknown or malformed `primaryKey`.",
@@ -347,130 +302,147 @@ fn faults_of_uids_and_query_strings(rt: HostRuntime) -> Result<(), Fail> {
 #[test]
 fn faults_of_bodies(rt: HostRuntime) -> Result<(), Fail> {
     let alloc = rt.alloc();
-    for row in [
-        malformed("POST", "/indexes", "", "The body is not JSON."),
-        malformed("POST", DOCUMENTS, "", "The body is not JSON."),
-        malformed("POST", DOCUMENTS, "5", "The body is not a list."),
-        malformed("PUT", DOCUMENTS, "[{},1]", "Document 2 is not an object."),
-        malformed(
-            "POST",
+    for (target, body, status, code, message) in [
+        (
+            "/indexes",
+            "",
+            400,
+            "malformed_payload",
+            "The body is not JSON.",
+        ),
+        (
+            DOCUMENTS,
+            "",
+            400,
+            "malformed_payload",
+            "The body is not JSON.",
+        ),
+        (
+            DOCUMENTS,
+            "5",
+            400,
+            "malformed_payload",
+            "The body is not a list.",
+        ),
+        (
+            DOCUMENTS,
+            "[{},1]",
+            400,
+            "malformed_payload",
+            "Document 2 is not an object.",
+        ),
+        (
             DOCUMENTS,
             "[1,{\"t\":1.5}]",
+            400,
+            "malformed_payload",
             "Document 1 is not an object.",
         ),
-        malformed("POST", BATCH, "{}", "The body is not a list."),
-        malformed("POST", SEARCH, "{", "The body is not JSON."),
-        Row(
-            "POST",
+        (
             DOCUMENTS,
             "[{\"id\":6},{\"id\":5,\"year\":1.0}]",
             400,
             "number_not_whole",
             "Document 2 has a number at `year` that is not whole.",
         ),
-        Row(
-            "POST",
+        (
+            BATCH,
+            "{}",
+            400,
+            "malformed_payload",
+            "The body is not a list.",
+        ),
+        (
             BATCH,
             "[1,1.5]",
             400,
             "invalid_document_id",
             "Id 2 is invalid.",
         ),
-        Row(
-            "POST",
+        (
             BATCH,
             "[\"\",[]]",
             400,
             "invalid_document_id",
             "Id 1 is invalid.",
         ),
-        Row(
-            "POST",
-            "/indexes",
-            "{}",
-            400,
-            "missing_index_uid",
-            "The uid is missing.",
-        ),
-        Row(
-            "POST",
+        (
             "/indexes",
             "{\"primaryKey\":\"k\"}",
             400,
             "missing_index_uid",
             "The uid is missing.",
         ),
-        Row(
-            "POST",
-            SEARCH,
-            "{\"filter\":null}",
-            501,
-            "not_built",
-            "Not built: `filter`.",
-        ),
-        Row(
-            "POST",
-            SEARCH,
-            "{\"q\":5}",
-            501,
-            "not_built",
-            "Not built: `q`.",
-        ),
-        Row(
-            "POST",
-            SEARCH,
-            "{\"q\":\"a\\u0022\"}",
-            501,
-            "not_built",
-            "Not built: `q`.",
-        ),
-        Row(
-            "POST",
-            SEARCH,
-            "{\"limit\":-1}",
-            501,
-            "not_built",
-            "Not built: `limit`.",
-        ),
-        Row(
-            "POST",
-            SEARCH,
-            "{\"limit\":18446744073709551616}",
-            501,
-            "not_built",
-            "Not built: `limit`.",
-        ),
-    ] {
-        refuses(&rt, alloc, &row)?;
-    }
-    for (target, body, message) in [
-        ("/indexes", "[]", "Unknown or malformed `body`."),
-        ("/indexes", "{\"zz\":5}", "Unknown or malformed `zz`."),
         (
             "/indexes",
-            "{\"a\":5,\"uid\":5}",
-            "Unknown or malformed `a`.",
+            "[]",
+            400,
+            "bad_request",
+            "Unknown or malformed `body`.",
+        ),
+        (
+            "/indexes",
+            "{\"zz\":5}",
+            400,
+            "bad_request",
+            "Unknown or malformed `zz`.",
         ),
         (
             "/indexes",
             "{\"primaryKey\":\"\",\"uid\":5}",
+            400,
+            "bad_request",
             "Unknown or malformed `primaryKey`.",
         ),
-        (SEARCH, "[]", "Unknown or malformed `body`."),
-        (SEARCH, "{\"zz\":1,\"a\":1}", "Unknown or malformed `a`."),
-        (SEARCH, "{\"zz\":1}", "Unknown or malformed `zz`."),
     ] {
         refuses(
             &rt,
             alloc,
-            &Row("POST", target, body, 400, "bad_request", message),
+            &Row("POST", target, body, status, code, message),
         )?;
     }
     Ok(())
 }
 
 #[test]
-fn limits_at_their_edges(rt: HostRuntime) -> Result<(), Fail> {
+fn faults_of_searches(rt: HostRuntime) -> Result<(), Fail> {
+    let alloc = rt.alloc();
+    for (body, status, code, message) in [
+        ("{", 400, "malformed_payload", "The body is not JSON."),
+        ("[]", 400, "bad_request", "Unknown or malformed `body`."),
+        (
+            "{\"zz\":1,\"a\":1}",
+            400,
+            "bad_request",
+            "Unknown or malformed `a`.",
+        ),
+        (
+            "{\"filter\":null}",
+            501,
+            "not_built",
+            "Not built: `filter`.",
+        ),
+        ("{\"q\":5}", 501, "not_built", "Not built: `q`."),
+        ("{\"q\":\"a\\u0022\"}", 501, "not_built", "Not built: `q`."),
+        ("{\"limit\":-1}", 501, "not_built", "Not built: `limit`."),
+        (
+            "{\"limit\":18446744073709551616}",
+            501,
+            "not_built",
+            "Not built: `limit`.",
+        ),
+    ] {
+        refuses(
+            &rt,
+            alloc,
+            &Row("POST", SEARCH, body, status, code, message),
+        )?;
+    }
+    Ok(())
+}
+
+#[test]
+fn ids_and_uids_at_their_limits(rt: HostRuntime) -> Result<(), Fail> {
     let alloc = rt.alloc();
     let uid = "a".repeat(alloc, 400)?;
     let call = call_of(
@@ -479,7 +451,7 @@ fn limits_at_their_edges(rt: HostRuntime) -> Result<(), Fail> {
         format!(in alloc; "/indexes/{uid}")?.as_str(),
         "",
     )?;
-    assert!(rt; matches!(&call, Call::Read(ReadCall::Index { .. })));
+    assert_eq!(rt; kind_of(&call), "index");
     let longer = format!(in alloc; "/indexes/{uid}b")?;
     refuses(&rt, alloc, &bad_uid("GET", longer.as_str(), ""))?;
     let id = "a".repeat(alloc, 511)?;
@@ -489,7 +461,7 @@ fn limits_at_their_edges(rt: HostRuntime) -> Result<(), Fail> {
         BATCH,
         format!(in alloc; "[\"{id}\"]")?.as_str(),
     )?;
-    assert!(rt; matches!(&call, Call::Write(_)));
+    assert_eq!(rt; kind_of(&call), "remove");
     let longer = format!(in alloc; "[\"{id}b\"]")?;
     refuses(
         &rt,
@@ -502,7 +474,12 @@ fn limits_at_their_edges(rt: HostRuntime) -> Result<(), Fail> {
             "invalid_document_id",
             "Id 1 is invalid.",
         ),
-    )?;
+    )
+}
+
+#[test]
+fn bodies_nest_127_deep(rt: HostRuntime) -> Result<(), Fail> {
+    let alloc = rt.alloc();
     let (open, close) = ("[".repeat(alloc, 127)?, "]".repeat(alloc, 127)?);
     let deep = format!(in alloc; "{open}{close}")?;
     refuses(
@@ -523,53 +500,20 @@ fn limits_at_their_edges(rt: HostRuntime) -> Result<(), Fail> {
     )
 }
 
-// The refusals that what the machine holds decides.
 #[test]
-fn refusals_told_by_the_machine(rt: HostRuntime) -> Result<(), Fail> {
+fn an_index_that_exists(rt: HostRuntime) -> Result<(), Fail> {
     let alloc = rt.alloc();
-    for (refusal, wanted, text) in [
-        (
-            Refusal::NoIndex {
-                uid: Word::new(alloc, "m")?,
-            },
-            404,
-            "{\"code\":\"index_not_found\",\"message\":\"No index `m`.\",\"type\":\"invalid_request\"}",
-        ),
-        (
-            Refusal::IndexExists {
-                uid: Word::new(alloc, "m")?,
-            },
-            409,
-            "{\"code\":\"index_already_exists\",\"message\":\"Index `m` exists.\",\"type\":\"invalid_request\"}",
-        ),
-        (
-            Refusal::NoDocument {
-                id: Word::new(alloc, "1")?,
-            },
-            404,
-            "{\"code\":\"document_not_found\",\"message\":\"No document `1`.\",\"type\":\"invalid_request\"}",
-        ),
-        (
-            Refusal::MissingId {
-                document: 2,
-                key: Word::new(alloc, "id")?,
-            },
-            400,
-            "{\"code\":\"missing_document_id\",\"message\":\"Document 2 has no `id`.\",\"type\":\"invalid_request\"}",
-        ),
-        (
-            Refusal::PathsSpent,
-            400,
-            "{\"code\":\"paths_spent\",\"message\":\"No more attributes.\",\"type\":\"invalid_request\"}",
-        ),
-    ] {
-        match &refusal_reply(alloc, &refusal)? {
-            Reply::Made { status, body, .. } => {
-                assert_eq!(rt; *status, wanted);
-                assert!(rt; body.as_slice() == text.as_bytes());
-            }
-            Reply::Memory => assert!(rt; false, "memory"),
+    let refusal = Refusal::IndexExists {
+        uid: Word::new(alloc, "m")?,
+    };
+    let text =
+        "{\"code\":\"index_already_exists\",\"message\":\"Index `m` exists.\",\"type\":\"invalid_request\"}";
+    match &refusal_reply(alloc, &refusal)? {
+        Reply::Made { status, body, .. } => {
+            assert_eq!(rt; *status, 409);
+            assert!(rt; body.as_slice() == text.as_bytes());
         }
+        Reply::Memory => assert!(rt; false, "memory"),
     }
     Ok(())
 }
