@@ -1,9 +1,9 @@
 -- Documents found by their ids.
-use Rattle.std.proofs.Common.{inl, inr, ◌≡◌, ℕ, zero, suc, ◌+◌, ◌-◌, ◌<◌, ◌≤◌, ◌==◌, Bool, true, false, cond, List, [], ◌∷◌, ◌++◌, length, map, filter, take, drop, slice_index_or, Option, None, Some, refl, sym, ap, subst, ◌∙◌, arith, append_assoc}
+use Rattle.std.proofs.Common.{◌≡◌, ℕ, zero, suc, ◌+◌, ◌-◌, ◌<◌, ◌≤◌, ◌==◌, Bool, true, false, List, [], ◌∷◌, ◌++◌, length, map, filter, take, drop, slice_index_or, Option, None, Some, refl, sym, ap, subst, ◌∙◌, arith, append_assoc}
 use Rattle.std.specs.Prelude.{bytes_eq}
 use Rattle.std.specs.Option.{option_map, is_some}
 use Rattle.std.specs.List.{AllByRecursion, filter_map, cons_option, flat_map}
-use Rattle.std.proofs.lemmas.Bool.{cond-true, cond-false, cond_both, eq-eqb, ne_eqb, eqb-true}
+use Rattle.std.proofs.lemmas.Bool.{cond-true, cond-false, cond_both, eq-eqb, ne_eqb}
 use Rattle.std.proofs.lemmas.List.{take_more, take-map, drop-map}
 use Rattle.std.proofs.lemmas.List.Elements.{filter_map-append}
 use Rattle.serde_json.specs.Data.{Data}
@@ -14,11 +14,11 @@ use Rattle.doc_store.specs.Sound.{Increase, IsSound}
 use Rattle.index_core.specs.declared.call.SearchCall.{SearchCall}
 use Rattle.index_core.specs.declared.kept.KeptRows.{KeptRows}
 use Rattle.index_core.specs.Index.{document_under}
-use Rattle.index_core.specs.Kept.{kept_at, kept_of, AreKept}
+use Rattle.index_core.specs.Kept.{kept_at, AreKept}
 use Rattle.index_core.specs.Matching.{Match, match_at, match_of, matching, query_of, rows_in}
 use Rattle.index_core.specs.Hits.{hit_at, numbers, hits_of, window_end, place_among}
 use Rattle.index_core.specs.Ordered.{matches_in, RiseFrom, IdsRise}
-use Rattle.index_core.proofs.Placing.{AllAre, all-weaker}
+use Rattle.index_core.proofs.Placing.{AllAre}
 
 -- ---- a list of documents that are read one after the other
 

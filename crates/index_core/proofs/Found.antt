@@ -1,5 +1,5 @@
 -- Rows found before the rest.
-use Rattle.std.proofs.Common.{◌≡◌, List, [], ◌∷◌, ◌++◌, Result, Ok, Err, refl, ap, sym, append_assoc}
+use Rattle.std.proofs.Common.{◌≡◌, List, [], ◌∷◌, ◌++◌, Result, Ok, Err, refl, append_assoc}
 use Rattle.doc_store.specs.declared.rows.StoreRow.{StoreRow}
 use Rattle.index_core.specs.declared.fault.CoreFault.{CoreFault}
 use Rattle.index_core.specs.Plans.{◌>>=◌}

@@ -8,3 +8,4 @@ pub mod Stable
 pub mod Putting
 pub mod Removing
 pub mod Updating
+pub mod LawLemmas

@@ -1,18 +1,17 @@
 -- Rows put for documents that are stored.
-use Rattle.std.proofs.Common.{inl, inr, ◌≡◌, ℕ, zero, suc, ◌+◌, ◌<◌, ◌≤◌, ◌==◌, Bool, true, false, cond, List, [], ◌∷◌, ◌++◌, length, map, slice_index_or, Option, None, Some, refl, sym, ap, subst, ◌∙◌, arith}
+use Rattle.std.proofs.Common.{inl, inr, ◌≡◌, ℕ, zero, suc, ◌+◌, ◌<◌, ◌≤◌, ◌==◌, Bool, true, false, List, [], ◌∷◌, ◌++◌, length, map, slice_index_or, Option, None, Some, refl, sym, ap, subst, ◌∙◌, arith}
 use Rattle.std.proofs.Math.ListN.{set}
 use Rattle.std.specs.Prelude.{◌⊎◌, bytes_eq}
-use Rattle.std.specs.Option.{is_some, unwrap_or}
-use Rattle.std.proofs.lemmas.Bool.{cond-true, cond-false, cond_both, eq-eqb, ne_eqb}
-use Rattle.serde_json.specs.Data.{Data}
+use Rattle.std.specs.Option.{unwrap_or}
+use Rattle.std.proofs.lemmas.Bool.{cond-true, cond-false, eq-eqb, ne_eqb}
 use Rattle.doc_rows.specs.Rows.{rows_of}
 use Rattle.doc_store.specs.declared.rows.StoreRow.{StoreRow}
-use Rattle.doc_store.specs.Store.{Row, Store, row, id_of, put, next_after, stored, all_stored, id_given, ids_given, spent}
+use Rattle.doc_store.specs.Store.{Row, Store, id_of, put, stored, all_stored, ids_given}
 use Rattle.doc_store.specs.StoreView.{AdmissionView, IsAdmitted}
 use Rattle.doc_store.specs.Sound.{Increase, StandOnce, IsSound}
 use Rattle.doc_store.proofs.SoundLemmas.{IsWhole, whole-stored, sound-all_stored}
 use Rattle.index_core.specs.declared.kept.KeptRows.{KeptRows}
-use Rattle.index_core.specs.Kept.{kept_at, kept_of, AreKept}
+use Rattle.index_core.specs.Kept.{kept_at, AreKept}
 use Rattle.index_core.specs.Ordered.{RiseFrom, IdsRise}
 use Rattle.index_core.specs.Putting.{put_kept, put_all, HasPlace, HavePlaces, rows_come}
 use Rattle.index_core.proofs.Stable.{all-stay}

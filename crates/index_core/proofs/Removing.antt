@@ -1,17 +1,16 @@
 -- Documents that go, and the rows that are kept of the others.
-use Rattle.std.proofs.Common.{◌≡◌, ℕ, zero, suc, ◌+◌, ◌<◌, ◌≤◌, ◌==◌, Bool, true, false, cond, ◌||◌, List, [], ◌∷◌, ◌++◌, length, map, filter, drop, slice_index_or, Option, None, Some, refl, sym, ap, subst, ◌∙◌, arith}
+use Rattle.std.proofs.Common.{◌≡◌, ℕ, zero, suc, ◌+◌, ◌<◌, ◌≤◌, ◌==◌, Bool, true, false, cond, ◌||◌, List, [], ◌∷◌, length, filter, drop, slice_index_or, Option, None, Some, refl, sym, ap, subst, ◌∙◌, arith}
 use Rattle.std.specs.Prelude.{bytes_eq, not}
 use Rattle.std.specs.Option.{is_some}
-use Rattle.std.specs.List.{AllByRecursion}
 use Rattle.std.proofs.lemmas.Bool.{cond-true, cond-false, cond_both, eq-eqb, ne_eqb}
 use Rattle.std.proofs.lemmas.List.{drop_all}
 use Rattle.doc_rows.specs.Rows.{rows_of}
 use Rattle.doc_store.specs.Store.{Row, Store, id_of, row_at, without, removed}
-use Rattle.doc_store.specs.Sound.{Increase, AreApart, StandOnce, CoverRows, IsSound}
+use Rattle.doc_store.specs.Sound.{Increase, AreApart, IsSound}
 use Rattle.doc_store.proofs.SoundLemmas.{sound-removed}
 use Rattle.doc_store.proofs.NameLemmas.{same_bytes, bytes_eq-turned}
 use Rattle.index_core.specs.declared.kept.KeptRows.{KeptRows}
-use Rattle.index_core.specs.Kept.{kept_at, kept_of, AreKept}
+use Rattle.index_core.specs.Kept.{kept_at, AreKept}
 use Rattle.index_core.specs.Plans.{is_named, all_removed, cleared}
 use Rattle.index_core.specs.Removing.{removed_at, removed_under}
 use Rattle.index_core.proofs.Putting.{kept_in}

@@ -1,13 +1,12 @@
 -- What a search sees of a document stays when the registry grows by paths that the document does not have.
-use Rattle.std.proofs.Common.{◌≡◌, ℕ, zero, suc, ◌+◌, Bool, true, false, cond, ◌||◌, List, [], ◌∷◌, ◌++◌, length, map, filter, None, refl, sym, ap, subst, ◌∙◌, arith, append_assoc}
+use Rattle.std.proofs.Common.{◌≡◌, ℕ, ◌+◌, Bool, true, false, ◌||◌, List, [], ◌∷◌, ◌++◌, map, None, refl, sym, ap, ◌∙◌}
 use Rattle.std.specs.Prelude.{bytes_eq}
 use Rattle.std.specs.List.{filter_map}
-use Rattle.std.proofs.lemmas.Bool.{cond-true, cond-false, true≢false}
-use Rattle.std.proofs.lemmas.List.{append-nil}
+use Rattle.std.proofs.lemmas.Bool.{cond-false, true≢false}
 use Rattle.serde_json.specs.Data.{Data}
-use Rattle.doc_values.specs.Walk.{Visit, walk, visited, paths_of, flat_rows}
-use Rattle.doc_values.specs.Leaves.{found_at, said_of}
-use Rattle.doc_rows.specs.Texts.{leaf_text, texts_of, texts_in}
+use Rattle.doc_values.specs.Walk.{Visit, walk, visited, paths_of}
+use Rattle.doc_values.specs.Leaves.{found_at}
+use Rattle.doc_rows.specs.Texts.{leaf_text, texts_of}
 use Rattle.doc_rows.specs.Rows.{places_of, places_from, rows_of}
 use Rattle.doc_values.specs.Walk.{members_in}
 use Rattle.doc_values.proofs.Leaves.{members_say}

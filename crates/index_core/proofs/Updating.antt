@@ -1,18 +1,18 @@
 -- The documents of an update, one after the other.
-use Rattle.std.proofs.Common.{◌≡◌, ℕ, zero, suc, ◌+◌, ◌<◌, ◌≤◌, Bool, true, false, cond, ◌||◌, List, [], ◌∷◌, ◌++◌, length, map, filter, Option, None, Some, refl, sym, ap, ap₂, subst, ◌∙◌, arith, append_assoc, append-nil}
+use Rattle.std.proofs.Common.{◌≡◌, ℕ, zero, suc, ◌+◌, ◌<◌, ◌≤◌, Bool, true, false, cond, ◌||◌, List, [], ◌∷◌, ◌++◌, length, filter, Option, None, Some, refl, sym, ap, ap₂, subst, ◌∙◌, arith, append_assoc, append-nil}
 use Rattle.std.specs.Prelude.{bytes_eq, slice_get}
 use Rattle.std.specs.Option.{option_map, is_some}
 use Rattle.std.specs.List.{list_any}
 use Rattle.std.specs.BTreeMap.{BTreeMap, get, UpdatesBy}
 use Rattle.std.specs.Cmp.Lexicographic.{slice_cmp}
-use Rattle.std.specs.Ordering.{nat_cmp, is_eq}
+use Rattle.std.specs.Ordering.{nat_cmp}
 use Rattle.std.proofs.lemmas.Map.Text.{is_eq-slice_cmp}
-use Rattle.std.proofs.lemmas.Bool.{cond-true, cond-false, cond_both}
+use Rattle.std.proofs.lemmas.Bool.{cond-true, cond-false}
 use Rattle.serde_json.specs.Data.{Data}
 use Rattle.doc_store.specs.declared.rows.StoreRow.{StoreRow}
-use Rattle.doc_store.specs.Store.{Row, Store, row, put, stored, all_stored, id_of, externals}
+use Rattle.doc_store.specs.Store.{Row, Store, put, stored, all_stored, id_of, externals}
 use Rattle.doc_store.specs.Sound.{AreApart, IsSound}
-use Rattle.doc_store.proofs.NameLemmas.{same_bytes, bytes_same, bytes_eq-turned}
+use Rattle.doc_store.proofs.NameLemmas.{same_bytes, bytes_eq-turned}
 use Rattle.index_core.specs.Index.{document_under}
 use Rattle.index_core.specs.Plans.{is_named, over, updating, all_updated}
 use Rattle.index_core.specs.Updating.{updated_rows, or_else, last_of, document_at, ArePlaces, reads}

@@ -1,5 +1,5 @@
 -- How many stored documents a change has to read.
-use Rattle.std.specs.Prelude.{ℕ, List, length, filter}
+use Rattle.std.specs.Prelude.{ℕ, length, filter}
 use Rattle.doc_store.specs.Store.{Store, externals}
 use Rattle.index_core.specs.PlanView.{Work, replace, update, remove, clear}
 use Rattle.index_core.specs.Plans.{is_named}

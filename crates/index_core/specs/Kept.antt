@@ -1,7 +1,7 @@
 -- What an index keeps of each document so that no search reads it.
 use Rattle.std.specs.Prelude.{◌≡◌, ℕ, List, map}
 use Rattle.search_base.specs.RowsView.{RowsView}
-use Rattle.doc_store.specs.Store.{Row, Store}
+use Rattle.doc_store.specs.Store.{Store}
 use Rattle.doc_store.specs.Sound.{IsSound}
 use Rattle.index_core.specs.declared.kept.KeptRows.{KeptRows}
 use Rattle.index_core.specs.Matching.{rows_in}

@@ -7,6 +7,7 @@ pub mod Hits
 pub mod Ordered
 pub mod Fetches
 pub mod Kept
+pub mod Laws
 pub mod Putting
 pub mod Removing
 pub mod Updating

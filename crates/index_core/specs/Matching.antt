@@ -13,7 +13,7 @@ use Rattle.search_base.specs.Tuple.{tuple}
 use Rattle.query_graph.specs.Items.{items_of}
 use Rattle.query_graph.specs.Graph.{graph_of}
 use Rattle.doc_rows.specs.Rows.{rows_of}
-use Rattle.doc_store.specs.Store.{Row, Store}
+use Rattle.doc_store.specs.Store.{Store}
 
 -- the paths that are searched, in the order of their ranks: each path of the registry
 abbrev pub searched_paths : Store → List (List ℕ)

@@ -1,5 +1,4 @@
-use Rattle.std.proofs.Common.{◌≡◌, ◌+◌, ◌-◌, ◌<◌, ◌≤◌, ◌/◌, length, arith, sym, ◌∙◌, true, false}
-use Rattle.index_core.specs.Hits.{stands_before}
+use Rattle.std.proofs.Common.{◌≡◌, ◌+◌, ◌-◌, ◌/◌, arith, sym, ◌∙◌}
 use Rattle.index_core.proofs.Searching.{placed-at, below-middle, from-middle}
 use Rattle.index_core.proofs.candidate.place_of.Goals as goal
 

@@ -1,5 +1,5 @@
-use Rattle.std.proofs.Common.{◌≡◌, ◌<◌, length, arith}
-use Rattle.index_core.proofs.Removing.{clears-start, clears-one, clears-end}
+use Rattle.std.proofs.Common.{arith}
+use Rattle.index_core.proofs.Removing.{clears-one}
 use Rattle.index_core.proofs.change.remove_each.Goals as goal
 
 pub loop-document-preserved : goal.loop-document-preserved

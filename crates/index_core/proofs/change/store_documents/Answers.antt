@@ -1,12 +1,11 @@
-use Rattle.std.proofs.Common.{◌≡◌, ◌++◌, ◌≤◌, sym, ap, ap₂, ◌∙◌, subst, map, length, arith}
+use Rattle.std.proofs.Common.{◌≡◌, ◌++◌, sym, ap, ap₂, ◌∙◌, subst, map}
 use Rattle.doc_store.specs.Store.{all_stored}
 use Rattle.doc_store.specs.StoreView.{IsAdmitted}
-use Rattle.doc_store.proofs.StoreLemmas.{within_paths}
 use Rattle.index_core.specs.Kept.{AreKept}
 use Rattle.index_core.specs.Ordered.{IdsRise}
 use Rattle.index_core.specs.Putting.{put_all, HavePlaces, rows_come}
 use Rattle.index_core.proofs.Finding.{ids-rise}
-use Rattle.index_core.proofs.Putting.{admitted-puts, Puts}
+use Rattle.index_core.proofs.Putting.{admitted-puts}
 use Rattle.index_core.proofs.change.store_documents.Goals as goal
 
 pub put_all-requires-clause-rise : goal.put_all-requires-clause-rise

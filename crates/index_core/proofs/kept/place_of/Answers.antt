@@ -1,4 +1,4 @@
-use Rattle.std.proofs.Common.{◌≡◌, ◌+◌, ◌-◌, ◌<◌, ◌≤◌, ◌/◌, length, arith, ap}
+use Rattle.std.proofs.Common.{◌+◌, ◌-◌, ◌/◌, arith, ap}
 use Rattle.index_core.proofs.Putting.{below-middle, from-middle}
 use Rattle.index_core.proofs.kept.place_of.Goals as goal
 

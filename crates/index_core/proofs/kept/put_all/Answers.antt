@@ -1,6 +1,6 @@
-use Rattle.std.proofs.Common.{◌≡◌, ◌∷◌, ◌+◌, ap, sym, ◌∙◌, subst, length, arith}
+use Rattle.std.proofs.Common.{◌≡◌, ◌∷◌, ap, sym, ◌∙◌, subst, length, arith}
 use Rattle.index_core.specs.Ordered.{IdsRise}
-use Rattle.index_core.specs.Putting.{put_kept, put_all, HavePlaces}
+use Rattle.index_core.specs.Putting.{put_all, HavePlaces}
 use Rattle.index_core.proofs.Putting.{rises-put}
 use Rattle.index_core.proofs.kept.put_all.Goals as goal
 

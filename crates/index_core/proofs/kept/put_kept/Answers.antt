@@ -1,5 +1,4 @@
-use Rattle.std.proofs.Common.{◌≡◌, ◌<◌, ◌∙◌, sym, ap, subst, length, arith, rules}
-use Rattle.std.specs.Prelude.{vec_len}
+use Rattle.std.proofs.Common.{◌≡◌, ◌<◌, ◌∙◌, sym, ap, subst, length, arith}
 use Rattle.index_core.proofs.Putting.{put-within, put-behind, AreBelow, AreFrom}
 use Rattle.index_core.proofs.kept.put_kept.Goals as goal
 

@@ -1,7 +1,7 @@
-use Rattle.std.proofs.Common.{◌≡◌, ◌+◌, ◌∷◌, drop, ap, ◌∙◌, sym, arith, None, Some}
+use Rattle.std.proofs.Common.{◌≡◌, ◌+◌, ◌∷◌, drop, ap, ◌∙◌, sym, arith}
 use Rattle.std.specs.Option.{option_map}
 use Rattle.std.proofs.lemmas.List.{drop_more}
-use Rattle.index_core.specs.Matching.{Match, match_at, match_of}
+use Rattle.index_core.specs.Matching.{match_at, match_of}
 use Rattle.index_core.proofs.Collecting.{collecting-match, collecting-none}
 use Rattle.index_core.proofs.search.find_best.Goals as goal
 use Rattle.index_core.proofs.search.find_best.Goals.{in-Some+in_ok-place, in_default}

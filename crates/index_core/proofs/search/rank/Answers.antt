@@ -1,9 +1,9 @@
-use Rattle.std.proofs.Common.{◌≡◌, List, [], ◌∷◌, refl, arith, map, take, drop, length, ap, ◌∙◌, sym, rules}
+use Rattle.std.proofs.Common.{◌≡◌, List, [], ◌∷◌, refl, arith, map, take, drop, length, ap, ◌∙◌, sym}
 use Rattle.std.specs.Prelude.{◌-◌}
 use Rattle.std.proofs.lemmas.Bool.{eqb-true}
 use Rattle.search_base.specs.GraphView.{GraphView}
 use Rattle.index_core.specs.Matching.{query_of}
-use Rattle.index_core.specs.Hits.{window_end, hits_of}
+use Rattle.index_core.specs.Hits.{window_end}
 use Rattle.index_core.specs.Ordered.{matches_in, placed_all}
 use Rattle.index_core.proofs.Collecting.{hits-empty, total-empty, hits-collected}
 use Rattle.index_core.proofs.search.rank.Goals as goal

@@ -1,4 +1,4 @@
-use Rattle.std.proofs.Common.{◌≡◌, ◌∷◌, ◌+◌, ◌≤◌, sym, ap, ◌∙◌, subst, length, filter, Some}
+use Rattle.std.proofs.Common.{◌+◌, ◌≤◌, sym, ap, ◌∙◌, subst, length, filter, Some}
 use Rattle.std.specs.BTreeMap.{UpdatesBy, is_at}
 use Rattle.std.specs.Map.{lookup}
 use Rattle.std.specs.Cmp.Lexicographic.{slice_cmp}
@@ -7,7 +7,7 @@ use Rattle.doc_store.specs.Store.{externals, id_of}
 use Rattle.index_core.specs.Index.{document_under}
 use Rattle.index_core.specs.Plans.{is_named, over}
 use Rattle.index_core.specs.Updating.{last_of, or_else, reads}
-use Rattle.index_core.proofs.Updating.{Updates, updates-start, updates-one, updates-few, updates-all}
+use Rattle.index_core.proofs.Updating.{Updates, updates-start, updates-one, updates-few}
 use Rattle.index_core.proofs.update.update_rows.Goals as goal
 
 pub loop-row-init : goal.loop-row-init

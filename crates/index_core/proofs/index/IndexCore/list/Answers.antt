@@ -1,9 +1,9 @@
-use Rattle.std.proofs.Common.{◌≡◌, ◌+◌, ap, ◌∙◌, sym, map, take, drop, length}
+use Rattle.std.proofs.Common.{◌≡◌, ap, ◌∙◌, map, take, drop}
 use Rattle.std.specs.Option.{option_map}
 use Rattle.std.specs.List.{filter_map}
 use Rattle.doc_store.specs.Store.{row_at}
 use Rattle.index_core.specs.Index.{Index, documents}
-use Rattle.index_core.proofs.Finding.{part-read, part-length}
+use Rattle.index_core.proofs.Finding.{part-read}
 use Rattle.index_core.proofs.index.IndexCore.list.Goals as goal
 
 pub returns-clause-documents : goal.returns-clause-documents
