@@ -3,10 +3,14 @@
 #![tactic(auto)]
 
 use outside_io::StdLink;
+use search_base::Steps;
 use search_server::{Status, run_search_server};
 use std::env;
 use std::io::{self, ErrorKind};
 use std::process::ExitCode;
+
+// What is counted while the server runs: stored documents that are read.
+struct StoredDocument;
 
 // The words after the program's own name.
 fn words(rt: &HostRuntime) -> io::Result<Vec<String>> {
@@ -19,8 +23,9 @@ fn words(rt: &HostRuntime) -> io::Result<Vec<String>> {
 
 fn main(rt: HostRuntime) -> ExitCode {
     let mut pipe = StdLink::new(&rt);
+    let mut fetches: Steps<StoredDocument> = Steps::new();
     let status = match words(&rt) {
-        Ok(words) => run_search_server(rt.alloc(), &words, &mut pipe),
+        Ok(words) => run_search_server(rt.alloc(), &words, &mut pipe, &mut fetches),
         // A word that is no UTF-8 is none that the server knows.
         Err(e) => if e.kind() == ErrorKind::InvalidData {
             Status::BadWords

@@ -1,20 +1,20 @@
 -- The statuses of replies, and which of them come with a change.
-use Rattle.std.proofs.Common.{◌≡◌, ◌≢◌, ◌⊎◌, ℕ, ◌+◌, List, length, Option, Some, None, Result, Ok, Err, codes, refl, inl, inr, arith}
-use Rattle.std.specs.Prelude.{min}
+use Rattle.std.proofs.Common.{◌≡◌, ◌≢◌, ◌⊎◌, ℕ, ◌+◌, List, length, Option, Some, None, Result, Ok, Err, refl, inl, inr, arith}
 use Rattle.serde_json.specs.Data.{Data}
-use Rattle.doc_values.specs.Changes.{KindData, create, drop_index, replace, update, remove, clear, patch, reset}
+use Rattle.doc_values.specs.Changes.{KindData}
 use Rattle.http_wire.specs.Stream.{Request}
-use Rattle.index_core.specs.Index.{Index, documents}
-use Rattle.search_routes.specs.declared.refusal.Refusal.{Refusal}
-use Rattle.search_routes.specs.declared.refusal.Refusal.TheVariants.{NoRoute, MethodNotAllowed, InvalidUid, Unknown, NotBuilt, NotJson, NotList, NotObject, NumberNotWhole, NoIndex, KeyDiffers, NoCandidate, SeveralCandidates, MissingId, BadId, ChangesSpent, IndexesSpent, IdsSpent, PathsSpent}
-use Rattle.search_routes.specs.declared.call.SearchCall.{SearchCall}
-use Rattle.search_routes.specs.declared.call.ReadCall.TheVariants.{Search}
-use Rattle.search_routes.specs.Refusals.{told_of}
-use Rattle.search_routes.specs.Replies.{accepted, hits}
-use Rattle.search_routes.specs.Trying.{◌>>=◌, or_refuse}
-use Rattle.search_routes.specs.State.{State}
-use Rattle.search_routes.specs.Calls.{CallData, write, read, call_of}
-use Rattle.search_routes.specs.Machine.{Step, told, unless_refused, index_at, indexes_after, added, searched, changed, outcome, window, most_hits, step}
+use Rattle.http_wire.specs.Reply.{Answer}
+use Rattle.index_core.specs.Index.{Index, documents as documents_in, document_under}
+use Rattle.index_core.specs.Hits.{found}
+use Rattle.search_calls.specs.declared.refusal.Refusal.{Refusal}
+use Rattle.search_calls.specs.declared.refusal.Refusal.TheVariants.{NoRoute, MethodNotAllowed, InvalidUid, Unknown, NotBuilt, NotJson, NotList, NotObject, NumberNotWhole, BadListedId, MissingUid, NoIndex, IndexExists, NoDocument, KeyDiffers, NoCandidate, SeveralCandidates, MissingId, BadId, ChangesSpent, IndexesSpent, IdsSpent, PathsSpent}
+use Rattle.search_calls.specs.Refusals.{told_of}
+use Rattle.search_calls.specs.Trying.{◌>>=◌, or_refuse}
+use Rattle.search_calls.specs.Asked.{ReadData, health, indexes, index, documents, document, search, CallData, write, read}
+use Rattle.search_calls.specs.Calls.{call_of}
+use Rattle.search_routes.specs.Replies as replies
+use Rattle.search_routes.specs.State.{State, Indexes}
+use Rattle.search_routes.specs.Machine.{Step, told, unless_refused, indexes_after, type_of, changed, index_at, slice, core_call, hits_answer, answer_to, outcome, step}
 use Rattle.search_routes.specs.Laws.{IsCounted}
 
 -- the statuses of what is not refused
@@ -22,35 +22,45 @@ abbrev IsGood : State → Result Step Refusal → Type 0
 IsGood s (Ok t) = ((t.answer.status ≡ 202) × (t.state.changes ≡ s.changes + 1)) ⊎ ((t.answer.status ≡ 200) × (t.state ≡ s))
 IsGood s (Err r) = Unit {0}
 
-good_added : (s : State) (uid : List ℕ) (given : Option (List ℕ)) (ds : List Data) → IsGood s (added s uid given ds)
-good_added s uid given ds = go (indexes_after s uid given ds)
+good_changed : (s : State) (uid : List ℕ) (kind : KindData) → IsGood s (changed s uid kind)
+good_changed s uid kind = go (indexes_after s.changes s.indexes uid kind)
   where
-    go : (r : Result (List (List ℕ × Index)) Refusal)
-        → IsGood s (r >>= λ es. Ok (record { answer = accepted uid (codes "documentAdditionOrUpdate") s.changes; state = record { changes = s.changes + 1; indexes = es } }))
+    go : (r : Result Indexes Refusal)
+        → IsGood s (r >>= λ es. Ok (record { answer = replies.accepted uid (type_of kind) s.changes; state = record { changes = s.changes + 1; indexes = es } }))
     go (Ok es) = inl (refl, refl)
     go (Err e) = tt
 
-good_searched : (s : State) (uid : List ℕ) (c : SearchCall) → IsGood s (searched s uid c)
-good_searched s uid c = go (index_at uid s)
-  where
-    go : (o : Option Index)
-        → IsGood s (or_refuse (NoIndex uid) o >>= λ index. Ok (told s (hits c (min (length (documents index)) most_hits) (window c (documents index)))))
-    go None = tt
-    go (Some index) = inr (refl, refl)
+abbrev IsShown : Result Answer Refusal → Type 0
+IsShown (Ok a) = a.status ≡ 200
+IsShown (Err r) = Unit {0}
 
-good_changed : (s : State) (uid : List ℕ) (kind : KindData) → IsGood s (changed s uid kind)
-good_changed s uid (replace given ds) = good_added s uid given ds
-good_changed s uid (create key) = tt
-good_changed s uid drop_index = tt
-good_changed s uid (update key ds) = tt
-good_changed s uid (remove ids) = tt
-good_changed s uid clear = tt
-good_changed s uid (patch members) = tt
-good_changed s uid reset = tt
+-- an answer from an index, if that is there
+shown_of : (o : Option Index) (e : Refusal) (f : Index → Result Answer Refusal) → ((i : Index) → IsShown (f i)) → IsShown (or_refuse e o >>= f)
+shown_of None e f each = tt
+shown_of (Some i) e f each = each i
+
+shown_document : (fields : List (List ℕ)) (o : Option Data) (e : Refusal) → IsShown (or_refuse e o >>= λ d. Ok (replies.one_document fields d))
+shown_document fields None e = tt
+shown_document fields (Some d) e = refl
+
+shown_answer : (es : Indexes) (c : ReadData) → IsShown (answer_to es c)
+shown_answer es health = refl
+shown_answer es (indexes offset limit) = refl
+shown_answer es (index uid) = shown_of (index_at uid es) _ (λ i. Ok (replies.one_index uid i.key)) (λ i. refl)
+shown_answer es (documents uid offset limit fields) =
+    shown_of (index_at uid es) _ (λ i. Ok (replies.documents_listing offset limit fields (slice offset limit (documents_in i)) (length (documents_in i)))) (λ i. refl)
+shown_answer es (document uid id fields) =
+    shown_of (index_at uid es) _ (λ i. or_refuse (NoDocument id) (document_under id i.store.rows) >>= λ d. Ok (replies.one_document fields d))
+    (λ i. shown_document fields (document_under id i.store.rows) (NoDocument id))
+shown_answer es (search uid c) = shown_of (index_at uid es) _ (λ i. Ok (hits_answer c (found i.store (core_call c)))) (λ i. refl)
+
+good_answered : (s : State) (r : Result Answer Refusal) → IsShown r → IsGood s (r >>= λ a. Ok (told s a))
+good_answered s (Ok a) is = inr (is, refl)
+good_answered s (Err e) is = tt
 
 good_outcome : (s : State) (c : CallData) → IsGood s (outcome s c)
 good_outcome s (write change) = good_changed s change.uid change.kind
-good_outcome s (read (Search uid c)) = good_searched s uid c
+good_outcome s (read c) = good_answered s (answer_to s.indexes c) (shown_answer s.indexes c)
 
 good_called : (s : State) (r : Result CallData Refusal) → IsGood s (r >>= outcome s)
 good_called s (Ok c) = good_outcome s c
@@ -69,7 +79,11 @@ refusing NotJson = (λ e. absurd (omega (arith, e)), λ e. absurd (omega (arith,
 refusing NotList = (λ e. absurd (omega (arith, e)), λ e. absurd (omega (arith, e)))
 refusing (NotObject k) = (λ e. absurd (omega (arith, e)), λ e. absurd (omega (arith, e)))
 refusing (NumberNotWhole k path) = (λ e. absurd (omega (arith, e)), λ e. absurd (omega (arith, e)))
+refusing (BadListedId k) = (λ e. absurd (omega (arith, e)), λ e. absurd (omega (arith, e)))
+refusing MissingUid = (λ e. absurd (omega (arith, e)), λ e. absurd (omega (arith, e)))
 refusing (NoIndex uid) = (λ e. absurd (omega (arith, e)), λ e. absurd (omega (arith, e)))
+refusing (IndexExists uid) = (λ e. absurd (omega (arith, e)), λ e. absurd (omega (arith, e)))
+refusing (NoDocument id) = (λ e. absurd (omega (arith, e)), λ e. absurd (omega (arith, e)))
 refusing KeyDiffers = (λ e. absurd (omega (arith, e)), λ e. absurd (omega (arith, e)))
 refusing NoCandidate = (λ e. absurd (omega (arith, e)), λ e. absurd (omega (arith, e)))
 refusing SeveralCandidates = (λ e. absurd (omega (arith, e)), λ e. absurd (omega (arith, e)))

@@ -1,8 +1,6 @@
-pub mod Splits
-pub mod RouteLemmas
-pub mod JsonBodies
-pub mod Floats
+pub mod PrintLemmas
+pub mod ShownLemmas
+pub mod RowLemmas
 pub mod MapLemmas
 pub mod Steps
-pub mod Windows
 pub mod LawLemmas

@@ -1,64 +1,97 @@
--- A change of one index, as a change of the indexes.
-use Rattle.std.proofs.Common.{◌≡◌, ℕ, ◌+◌, Bool, true, false, List, length, Option, Some, None, Result, Ok, Err, refl, sym, ap, ap₂, ◌∙◌}
-use Rattle.std.specs.Prelude.{nat_le, min}
+-- From what a call did to the step that it made.
+use Rattle.std.proofs.Common.{◌≡◌, ℕ, ◌+◌, Bool, true, false, List, Some, None, Result, Ok, Err, refl, sym, ap, ap₂, ◌∙◌}
 use Rattle.std.specs.Ordering.{nat_cmp}
 use Rattle.std.specs.Cmp.Lexicographic.{slice_cmp, nat_list_cmp_total}
-use Rattle.std.specs.Map.{lookup, set_value, keys_of}
+use Rattle.std.specs.Map.{set_value, keys_of}
 use Rattle.std.specs.BTreeMap.{is_at}
 use Rattle.std.specs.List.Sorted.{IsStrictlySortedBy}
 use Rattle.std.proofs.lemmas.Map.Steps.{set_value_same}
-use Rattle.serde_json.specs.Data.{Data}
+use Rattle.doc_values.specs.Changes.{KindData}
+use Rattle.http_wire.specs.Stream.{Request}
 use Rattle.http_wire.specs.Reply.{Answer}
 use Rattle.http_wire.specs.declared.reply.Reply.{Reply}
-use Rattle.index_core.specs.Index.{Index, empty_index, documents}
-use Rattle.search_routes.specs.declared.refusal.Refusal.{Refusal}
-use Rattle.search_routes.specs.declared.refusal.Fault.{Fault}
-use Rattle.search_routes.specs.declared.refusal.Fault.TheVariants as fault
-use Rattle.search_routes.specs.Gives.{Fails}
-use Rattle.search_routes.specs.Trying.{◌>>=◌}
-use Rattle.http_wire.specs.Stream.{Request}
-use Rattle.search_routes.specs.declared.call.Call.{Call}
-use Rattle.search_routes.specs.declared.call.Call.TheVariants as call
-use Rattle.search_routes.specs.State.{State}
-use Rattle.search_routes.specs.Calls.{call_of}
-use Rattle.search_routes.specs.declared.call.SearchCall.{SearchCall}
-use Rattle.http_wire.specs.Sent.{IsSentAs}
-use Rattle.search_routes.specs.Replies.{accepted, hits}
-use Rattle.search_routes.specs.Machine.{Step, index_after, indexes_after, index_at, addition, added, searched, window, told, most_hits, most_indexes, unless_refused, step}
-use Rattle.search_routes.specs.Done.{Grows, Steps, Answers, Makes, Performs, IsCall}
+use Rattle.index_core.specs.Index.{Index, empty_index}
+use Rattle.search_calls.specs.declared.refusal.Refusal.{Refusal}
+use Rattle.search_calls.specs.declared.refusal.Fault.{Fault}
+use Rattle.search_calls.specs.declared.refusal.Fault.TheVariants as fault
+use Rattle.search_calls.specs.declared.call.Call.{Call}
+use Rattle.search_calls.specs.declared.call.Call.TheVariants as call
+use Rattle.search_calls.specs.Asked.{ReadData, read}
+use Rattle.search_calls.specs.Calls.{call_of, IsCall}
+use Rattle.search_calls.specs.Gives.{Fails}
+use Rattle.search_calls.specs.Trying.{◌>>=◌}
+use Rattle.search_routes.specs.Replies.{accepted}
+use Rattle.search_routes.specs.State.{State, Indexes}
+use Rattle.search_routes.specs.Machine.{Step, with_index, index_after, indexes_after, index_at, type_of, changed, filled, emptied, answer_to, outcome, told, is_full, unless_refused, step}
+use Rattle.search_routes.specs.Needs.{needed_fetches}
+use Rattle.search_routes.specs.Done.{Grows, Steps, Sends, Answers, Makes, Performs, held_need}
 use Rattle.search_routes.proofs.MapLemmas.{set_value-insert}
-
--- the index is there
-pub grow_there : (before : ℕ) (es : List (List ℕ × Index)) (uid : List ℕ) (given : Option (List ℕ)) (ds : List Data) (old new : Index) (a : Answer) (r : Result Reply Fault)
-    → IsStrictlySortedBy (slice_cmp nat_cmp) (keys_of es) → lookup (is_at (slice_cmp nat_cmp uid)) es ≡ Some old
-    → Grows (index_after before false old given ds) a old r new
-    → Grows (indexes_after (record { changes = before; indexes = es }) uid given ds) a es r (set_value (is_at (slice_cmp nat_cmp uid)) es new)
-grow_there before es uid given ds old new a (Ok reply) up at (is, sent) =
-    (rw (at, is) (ap Ok (sym (set_value-insert (slice_cmp nat_cmp) nat_list_cmp_total uid old new es up at))), sent)
-grow_there before es uid given ds old new a (Err fault.NoMemory) up at (is, same) = (tt, rw same (set_value_same _ es old at))
-grow_there before es uid given ds old new a (Err (fault.Refused r)) up at (is, same) = (rw (at, is) refl, rw same (set_value_same _ es old at))
 
 -- a bind keeps a refusal
 pub fails_bind : {A B : Type 0} (f : Fault) (r : Result A Refusal) (g : A → Result B Refusal) → Fails f r → Fails f (r >>= g)
 fails_bind fault.NoMemory r g is = tt
 fails_bind (fault.Refused e) r g is = rw is refl
 
+-- ---- one index, and all
+
+-- documents come to an index that is there
+pub filled_there : (before : ℕ) (es : Indexes) (uid : List ℕ) (change : KindData) (old new : Index) (a : Answer) (r : Result Reply Fault)
+    → IsStrictlySortedBy (slice_cmp nat_cmp) (keys_of es) → index_at uid es ≡ Some old
+    → Grows (index_after before false old change) a old r new
+    → Grows (filled before es uid change) a es r (set_value (is_at (slice_cmp nat_cmp uid)) es new)
+filled_there before es uid change old new a (Ok reply) up at (is, sent) =
+    (rw (at, is) (ap Ok (sym (set_value-insert (slice_cmp nat_cmp) nat_list_cmp_total uid old new es up at))), sent)
+filled_there before es uid change old new a (Err fault.NoMemory) up at (is, same) = (tt, rw same (set_value_same _ es old at))
+filled_there before es uid change old new a (Err (fault.Refused r)) up at (is, same) = (rw (at, is) refl, rw same (set_value_same _ es old at))
+
+-- documents go from it
+pub emptied_there : (before : ℕ) (es : Indexes) (uid : List ℕ) (change : KindData) (old new : Index) (a : Answer) (r : Result Reply Fault)
+    → IsStrictlySortedBy (slice_cmp nat_cmp) (keys_of es) → index_at uid es ≡ Some old
+    → Grows (index_after before false old change) a old r new
+    → Grows (emptied before es uid change) a es r (set_value (is_at (slice_cmp nat_cmp uid)) es new)
+emptied_there before es uid change old new a (Ok reply) up at (is, sent) =
+    (rw (at, is) (ap Ok (sym (set_value-insert (slice_cmp nat_cmp) nat_list_cmp_total uid old new es up at))), sent)
+emptied_there before es uid change old new a (Err fault.NoMemory) up at (is, same) = (tt, rw same (set_value_same _ es old at))
+emptied_there before es uid change old new a (Err (fault.Refused r)) up at (is, same) = (rw (at, is) refl, rw same (set_value_same _ es old at))
+
 -- the index is not there, and making it is refused
-pub fails_new : (before : ℕ) (es : List (List ℕ × Index)) (uid : List ℕ) (given : Option (List ℕ)) (ds : List Data) (full : Bool) (index : Index) (f : Fault)
-    → lookup (is_at (slice_cmp nat_cmp uid)) es ≡ None → full ≡ nat_le most_indexes (length es) → index ≡ empty_index
-    → Fails f (index_after before full index given ds) → Fails f (indexes_after (record { changes = before; indexes = es }) uid given ds)
-fails_new before es uid given ds full index fault.NoMemory none is_full is_new fails = tt
-fails_new before es uid given ds full index (fault.Refused r) none is_full is_new fails =
-    let refused : index_after before (nat_le most_indexes (length es)) empty_index given ds ≡ Err r =
-    sym (ap₂ (λ v i. index_after before v i given ds) is_full is_new) ∙ fails in
+pub filled_not : (before : ℕ) (es : Indexes) (uid : List ℕ) (change : KindData) (full : Bool) (index : Index) (f : Fault)
+    → index_at uid es ≡ None → full ≡ is_full es → index ≡ empty_index
+    → Fails f (index_after before full index change) → Fails f (filled before es uid change)
+filled_not before es uid change full index fault.NoMemory none full_is is_new fails = tt
+filled_not before es uid change full index (fault.Refused r) none full_is is_new fails =
+    let refused : index_after before (is_full es) empty_index change ≡ Err r =
+    sym (ap₂ (λ v i. index_after before v i change) full_is is_new) ∙ fails in
     rw (none, refused) refl
 
+-- the index is not there, and is made
+pub filled_new : (before : ℕ) (es : Indexes) (uid : List ℕ) (change : KindData) (full : Bool) (index after : Index)
+    → index_at uid es ≡ None → full ≡ is_full es → index ≡ empty_index
+    → index_after before full index change ≡ Ok after → filled before es uid change ≡ Ok (with_index uid after es)
+filled_new before es uid change full index after none full_is is_new is =
+    let made : index_after before (is_full es) empty_index change ≡ Ok after =
+    sym (ap₂ (λ v i. index_after before v i change) full_is is_new) ∙ is in
+    rw (none, made) refl
+
+-- ---- steps
+
 -- a change of the indexes, as a step
-pub steps_added : (s : State) (uid : List ℕ) (given : Option (List ℕ)) (ds : List Data) (reply : Reply) (es : List (List ℕ × Index))
-    → Grows (indexes_after s uid given ds) (accepted uid addition s.changes) s.indexes (Ok reply) es
-    → Steps s (added s uid given ds) (Ok reply) (record { changes = s.changes + 1; indexes = es })
-steps_added s uid given ds reply es (is, sent) =
-    (record { answer = accepted uid addition s.changes; state = record { changes = s.changes + 1; indexes = es } }, rw is refl, sent, refl)
+pub steps_changed : (s : State) (uid : List ℕ) (kind : KindData) (reply : Reply) (es : Indexes)
+    → Grows (indexes_after s.changes s.indexes uid kind) (accepted uid (type_of kind) s.changes) s.indexes (Ok reply) es
+    → Steps s (changed s uid kind) (Ok reply) (record { changes = s.changes + 1; indexes = es })
+steps_changed s uid kind reply es (is, sent) =
+    (record { answer = accepted uid (type_of kind) s.changes; state = record { changes = s.changes + 1; indexes = es } }, rw is refl, sent, refl)
+
+-- a change that is not made
+pub steps_unchanged : (s : State) (uid : List ℕ) (kind : KindData) (f : Fault) (es : Indexes)
+    → Grows (indexes_after s.changes s.indexes uid kind) (accepted uid (type_of kind) s.changes) s.indexes (Err f) es
+    → Steps s (changed s uid kind) (Err f) (record { changes = s.changes; indexes = es })
+steps_unchanged s uid kind f es (fails, same) = (fails_bind f (indexes_after s.changes s.indexes uid kind) _ fails, rw same refl)
+
+-- an answer that changes nothing, as a step
+pub steps_read : (s : State) (c : ReadData) (r : Result Reply Fault) → Sends (answer_to s.indexes c) r → Steps s (outcome s (read c)) r s
+steps_read s c (Ok reply) (a, is, sent) = (told s a, rw is refl, sent, refl)
+steps_read s c (Err f) fails = (fails_bind f (answer_to s.indexes c) _ fails, refl)
 
 -- a step that was made or refused, and the reply to that
 pub makes : (old : State) (defined : Result Step Refusal) (done : Result Reply Fault) (reply : Reply) (new : State)
@@ -76,10 +109,9 @@ step_made s q (call.Refused given) reply new (r, is, sent) (same, state) = (fals
 step_made s q (call.Write change) reply new is (starved, sent, state) = (starved, rw is sent, rw is state)
 step_made s q (call.Read c) reply new is (starved, sent, state) = (starved, rw is sent, rw is state)
 
--- a search of an index that is there
-pub steps_searched : (s : State) (uid : List ℕ) (c : SearchCall) (index : Index) (reply : Reply)
-    → index_at uid s ≡ Some index
-    → IsSentAs reply (hits c (min (length (documents index)) most_hits) (window c (documents index)))
-    → Steps s (searched s uid c) (Ok reply) s
-steps_searched s uid c index reply found sent =
-    (told s (hits c (min (length (documents index)) most_hits) (window c (documents index))), rw found refl, sent, refl)
+-- and what it needs is what the request needs
+pub need_made : (s : State) (q : Request) (call : Call) → IsCall call (call_of q) → held_need s call ≡ needed_fetches s q
+unfolding needed_fetches
+need_made s q (call.Refused given) (r, is, sent) = rw is refl
+need_made s q (call.Write change) is = rw is refl
+need_made s q (call.Read c) is = rw is refl

@@ -7,23 +7,18 @@ use Rattle.http_wire.specs.declared.reply.Reply.{Reply}
 use Rattle.http_wire.specs.declared.reply.Reply.TheVariants.{Memory}
 use Rattle.index_core.specs.declared.fault.CoreFault.{CoreFault}
 use Rattle.index_core.specs.declared.fault.CoreFault.TheVariants as core
-use Rattle.search_routes.specs.declared.refusal.Refusal.{Refusal}
-use Rattle.search_routes.specs.declared.refusal.Fault.{Fault}
-use Rattle.search_routes.specs.declared.refusal.Fault.TheVariants as fault
-use Rattle.search_routes.specs.declared.call.Call.{Call}
-use Rattle.search_routes.specs.declared.call.Call.TheVariants as call
-use Rattle.search_routes.specs.Gives.{Fails}
+use Rattle.search_calls.specs.declared.refusal.Refusal.{Refusal}
+use Rattle.search_calls.specs.declared.refusal.Fault.{Fault}
+use Rattle.search_calls.specs.declared.refusal.Fault.TheVariants as fault
+use Rattle.search_calls.specs.declared.call.Call.{Call}
+use Rattle.search_calls.specs.declared.call.Call.TheVariants as call
+use Rattle.search_calls.specs.Asked.{write, read, read_view}
+use Rattle.search_calls.specs.Gives.{Fails}
+use Rattle.search_calls.specs.Refusals.{refused}
 use Rattle.search_routes.specs.State.{State}
-use Rattle.search_routes.specs.Refusals.{refused}
-use Rattle.search_routes.specs.Calls.{CallData, write, read}
 use Rattle.search_routes.specs.Machine.{Step, performed, core_refusal}
+use Rattle.search_routes.specs.Needs.{call_need}
 use Rattle.search_routes.specs.Chosen.{or_memory, answer_in, state_in}
-
--- the call is that of the definition; a refused one comes with its reply
-abbrev pub IsCall : Call → Result CallData Refusal → Type 0
-IsCall (call.Refused reply) defined = (r : Refusal) × (defined ≡ Err r) × IsSentAs reply (refused r)
-IsCall (call.Write change) defined = defined ≡ Ok (write (change_view change))
-IsCall (call.Read c) defined = defined ≡ Ok (read c)
 
 -- the step was made, or there was no memory
 abbrev pub Makes : Step → State → Reply → State → Type 0
@@ -33,7 +28,13 @@ Makes t old reply new = (starved : Bool) × IsSentAs reply (answer_in t starved)
 abbrev pub Performs : State → Call → Reply → State → Type 0
 Performs old (call.Refused given) reply new = (reply ≡ given) × (new ≡ old)
 Performs old (call.Write change) reply new = Makes (performed old (write (change_view change))) old reply new
-Performs old (call.Read c) reply new = Makes (performed old (read c)) old reply new
+Performs old (call.Read c) reply new = Makes (performed old (read (read_view c))) old reply new
+
+-- how many stored documents a call needs to read; a refused one needs none
+abbrev pub held_need : State → Call → ℕ
+held_need s (call.Refused given) = 0
+held_need s (call.Write change) = call_need s (write (change_view change))
+held_need s (call.Read c) = call_need s (read (read_view c))
 
 -- ---- inside
 
@@ -46,6 +47,11 @@ Steps old defined (Err f) new = Fails f defined × (new ≡ old)
 abbrev pub Grows : {A : Type 0} → Result A Refusal → Answer → A → Result Reply Fault → A → Type 0
 Grows defined answer old (Ok reply) new = (defined ≡ Ok new) × IsSentAs reply answer
 Grows defined answer old (Err f) new = Fails f defined × (new ≡ old)
+
+-- an answer that is sent, or why there is none
+abbrev pub Sends : Result Answer Refusal → Result Reply Fault → Type 0
+Sends defined (Ok reply) = (a : Answer) × (defined ≡ Ok a) × IsSentAs reply a
+Sends defined (Err f) = Fails f defined
 
 -- the reply to what was done, or to why it was not
 abbrev pub Answers : Result Reply Fault → Reply → Type 0

@@ -1,14 +1,8 @@
-pub mod Trying
-pub mod Refusals
-pub mod Routes
-pub mod Query
-pub mod Bodies
-pub mod Calls
+pub mod State
+pub mod Shown
 pub mod Replies
 pub mod Machine
+pub mod Needs
 pub mod Chosen
-pub mod State
-pub mod Gives
-pub mod Held
 pub mod Done
 pub mod Laws

@@ -1,42 +1,58 @@
 -- The plain machine: what it answers to a request, and what it holds after that.
-use Rattle.std.specs.Prelude.{ℕ, ◌+◌, ◌-◌, min, List, [], ◌∷◌, length, take, drop, Bool, nat_le, codes, Option, Some, None, is_none, unwrap_or, ◌&&◌, Result, Ok, Err}
+use Rattle.std.specs.Prelude.{ℕ, ◌+◌, List, [], ◌∷◌, length, map, take, drop, Bool, false, nat_le, codes, Option, Some, None, is_none, is_some, unwrap_or, ◌&&◌, Result, Ok, Err}
 use Rattle.std.specs.Ordering.{nat_cmp}
 use Rattle.std.specs.Cmp.Lexicographic.{slice_cmp}
-use Rattle.std.specs.Map.{lookup}
+use Rattle.std.specs.Map.{lookup, remove_entry}
 use Rattle.std.specs.Result.{result_unwrap_or}
-use Rattle.doc_values.specs.Ids.{key_of}
 use Rattle.std.specs.BTreeMap.{is_at, insert_entry}
 use Rattle.serde_json.specs.Data.{Data}
-use Rattle.doc_values.specs.Changes.{KindData, replace}
+use Rattle.doc_values.specs.Changes.{KindData, create, drop_index, replace, update, remove, clear, patch, reset}
+use Rattle.doc_values.specs.Ids.{key_of}
 use Rattle.http_wire.specs.Stream.{Request}
 use Rattle.http_wire.specs.Reply.{Answer}
-use Rattle.index_core.specs.Index.{Index, empty_index, documents}
+use Rattle.index_core.specs.Index.{Index, empty_index, documents as documents_in, document_under}
 use Rattle.index_core.specs.Plans.{planned, applied}
+use Rattle.index_core.specs.Hits.{Found, found}
+use Rattle.index_core.specs.declared.call.SearchCall.{SearchCall as CoreCall}
 use Rattle.index_core.specs.declared.fault.CoreFault.{CoreFault}
 use Rattle.index_core.specs.declared.fault.CoreFault.TheVariants as core
-use Rattle.search_routes.specs.declared.refusal.Refusal.{Refusal}
-use Rattle.search_routes.specs.declared.refusal.Refusal.TheVariants.{NotBuilt, NoIndex, KeyDiffers, NoCandidate, SeveralCandidates, MissingId, BadId, ChangesSpent, IndexesSpent, IdsSpent, PathsSpent}
-use Rattle.search_routes.specs.declared.call.SearchCall.{SearchCall}
-use Rattle.search_routes.specs.declared.call.ReadCall.TheVariants.{Search}
-use Rattle.search_routes.specs.Trying.{◌>>=◌, ◌>>◌, first_of, refuse_if, or_refuse}
-use Rattle.search_routes.specs.Refusals.{refused}
-use Rattle.search_routes.specs.State.{State}
-use Rattle.search_routes.specs.Calls.{CallData, write, read, call_of}
-use Rattle.search_routes.specs.Replies.{accepted, hits}
+use Rattle.search_calls.specs.declared.refusal.Refusal.{Refusal}
+use Rattle.search_calls.specs.declared.refusal.Refusal.TheVariants.{NotBuilt, NoIndex, IndexExists, NoDocument, KeyDiffers, NoCandidate, SeveralCandidates, MissingId, BadId, ChangesSpent, IndexesSpent, IdsSpent, PathsSpent}
+use Rattle.search_calls.specs.declared.call.SearchCall.{SearchCall}
+use Rattle.search_calls.specs.Trying.{◌>>=◌, ◌>>◌, first_of, refuse_if, or_refuse}
+use Rattle.search_calls.specs.Refusals.{refused}
+use Rattle.search_calls.specs.Asked.{ReadData, health, indexes, index, documents, document, search, CallData, write, read}
+use Rattle.search_calls.specs.Calls.{call_of}
+use Rattle.search_routes.specs.State.{State, Indexes}
+use Rattle.search_routes.specs.Replies as replies
 
 -- ---- what the machine holds
 
 abbrev pub empty_state : State
 empty_state = record { changes = 0; indexes = [] }
 
-abbrev pub index_at : List ℕ → State → Option Index
-index_at uid s = lookup (is_at (slice_cmp nat_cmp uid)) s.indexes
+abbrev pub index_at : List ℕ → Indexes → Option Index
+index_at uid es = lookup (is_at (slice_cmp nat_cmp uid)) es
+
+-- the index of this uid, or its refusal
+abbrev pub index_named : List ℕ → Indexes → Result Index Refusal
+index_named uid es = or_refuse (NoIndex uid) (index_at uid es)
+
+-- the indexes with this one under the uid
+abbrev pub with_index : List ℕ → Index → Indexes → Indexes
+with_index uid i es = insert_entry (slice_cmp nat_cmp) es uid i
+
+abbrev pub without_index : List ℕ → Indexes → Indexes
+without_index uid es = remove_entry (is_at (slice_cmp nat_cmp uid)) es
 
 abbrev pub most_changes : ℕ
 most_changes = 1000000000
 
 abbrev pub most_indexes : ℕ
 most_indexes = 1000
+
+abbrev pub is_full : Indexes → Bool
+is_full es = nat_le most_indexes (length es)
 
 -- ---- a step
 
@@ -54,7 +70,7 @@ abbrev pub unless_refused : State → Result Step Refusal → Step
 unless_refused s (Ok t) = t
 unless_refused s (Err r) = told s (refused r)
 
--- ---- documents are added
+-- ---- a change of one index
 
 -- Why an index refuses a change, whose documents have their ids under this key. (Want of memory is no fault of a
 -- change, and never comes from the definition of one.)
@@ -72,77 +88,142 @@ abbrev pub core_result : {A : Type 0} → List ℕ → Result A CoreFault → Re
 core_result key (Ok x) = Ok x
 core_result key (Err fault) = Err (core_refusal key fault)
 
--- The name of the member by which the documents of a change have their ids: the key of the index, or else the given
--- one, or else that of the first document, and an empty name where none of them has one.
+-- The name of the member by which documents have their ids: the key of the index, or else the given one, or else that
+-- of the first document, and an empty name where none of them has one.
 abbrev pub id_member : Option (List ℕ) → Option (List ℕ) → List Data → List ℕ
 id_member (Some key) given ds = key
 id_member None (Some key) ds = key
 id_member None None [] = []
 id_member None None (d ∷ ds) = result_unwrap_or (key_of d) []
 
+-- the same for a change; one that stores no documents needs none
+abbrev pub id_member_for : Option (List ℕ) → KindData → List ℕ
+id_member_for own (replace given ds) = id_member own given ds
+id_member_for own (update given ds) = id_member own given ds
+id_member_for own (create key) = []
+id_member_for own drop_index = []
+id_member_for own (remove ids) = []
+id_member_for own clear = []
+id_member_for own (patch members) = []
+id_member_for own reset = []
+
 -- no change more, or no index more
 abbrev pub limits : ℕ → Bool → Option Refusal
 limits before full = first_of (refuse_if (nat_le most_changes before) ChangesSpent) (refuse_if full IndexesSpent)
 
--- An index after documents were added, where so many changes were accepted before, and the machine may be full. The
--- key is tried, then the ids of the documents in their order, and then the limits: those of the machine, of internal
--- ids and of paths.
-abbrev pub index_after : ℕ → Bool → Index → Option (List ℕ) → List Data → Result Index Refusal
-index_after before full old given documents =
-    let key = id_member old.key given documents in
+-- An index after a change of its documents, where so many changes were accepted before, and the machine may be full.
+-- The key is tried, then the ids of the documents in their order, and then the limits: those of the machine, of
+-- internal ids and of paths.
+abbrev pub index_after : ℕ → Bool → Index → KindData → Result Index Refusal
+index_after before full old change =
+    let key = id_member_for old.key change in
     do
-      plan ← core_result key (planned old given documents)
+      plan ← core_result key (planned old change)
       limits before full
       core_result key (applied plan old)
 
--- a change of an index that is not there makes it
-abbrev pub is_full : State → Option Index → Bool
-is_full s found = is_none found && nat_le most_indexes (length s.indexes)
+-- ---- changes
 
--- the indexes after documents were added to one of them
-abbrev pub indexes_after : State → List ℕ → Option (List ℕ) → List Data → Result (List (List ℕ × Index)) Refusal
-indexes_after s uid given documents =
-    let found = index_at uid s in
+-- an index is made, with a key or without
+abbrev pub created : ℕ → Indexes → List ℕ → Option (List ℕ) → Result Indexes Refusal
+created before es uid key = do
+  refuse_if (is_some (index_at uid es)) (IndexExists uid)
+  limits before (is_full es)
+  Ok (with_index uid (record { key = key; store = empty_index.store }) es)
+
+-- an index goes
+abbrev pub dropped : ℕ → Indexes → List ℕ → Result Indexes Refusal
+dropped before es uid = do
+  i ← index_named uid es
+  limits before false
+  Ok (without_index uid es)
+
+-- documents come to an index, which is made where it is not there
+abbrev pub filled : ℕ → Indexes → List ℕ → KindData → Result Indexes Refusal
+filled before es uid change =
+    let there = index_at uid es in
     do
-      index ← index_after s.changes (is_full s found) (unwrap_or found empty_index) given documents
-      Ok (insert_entry (slice_cmp nat_cmp) s.indexes uid index)
+      i ← index_after before (is_none there && is_full es) (unwrap_or there empty_index) change
+      Ok (with_index uid i es)
 
-abbrev pub addition : List ℕ
-addition = codes "documentAdditionOrUpdate"
+-- documents go from an index
+abbrev pub emptied : ℕ → Indexes → List ℕ → KindData → Result Indexes Refusal
+emptied before es uid change = do
+  old ← index_named uid es
+  i ← index_after before false old change
+  Ok (with_index uid i es)
 
-abbrev pub added : State → List ℕ → Option (List ℕ) → List Data → Result Step Refusal
-added s uid given documents = do
-  indexes ← indexes_after s uid given documents
-  Ok (record { answer = accepted uid addition s.changes; state = record { changes = s.changes + 1; indexes = indexes } })
+-- the indexes after a change of the one named `uid`. (No route makes a change of settings yet.)
+abbrev pub indexes_after : ℕ → Indexes → List ℕ → KindData → Result Indexes Refusal
+indexes_after before es uid (create key) = created before es uid key
+indexes_after before es uid drop_index = dropped before es uid
+indexes_after before es uid (replace given ds) = filled before es uid (replace given ds)
+indexes_after before es uid (update given ds) = filled before es uid (update given ds)
+indexes_after before es uid (remove ids) = emptied before es uid (remove ids)
+indexes_after before es uid clear = emptied before es uid clear
+indexes_after before es uid (patch members) = Err (NotBuilt (codes "settings"))
+indexes_after before es uid reset = Err (NotBuilt (codes "settings"))
 
--- ---- searches
+-- what the reply to a change calls it
+abbrev pub type_of : KindData → List ℕ
+type_of (create key) = codes "indexCreation"
+type_of drop_index = codes "indexDeletion"
+type_of (replace given ds) = codes "documentAdditionOrUpdate"
+type_of (update given ds) = codes "documentAdditionOrUpdate"
+type_of (remove ids) = codes "documentDeletion"
+type_of clear = codes "documentDeletion"
+type_of (patch members) = codes "settingsUpdate"
+type_of reset = codes "settingsUpdate"
 
-abbrev pub most_hits : ℕ
-most_hits = 1000
-
--- the places from `offset` on, `limit` of them, and none from `most_hits` on
-abbrev pub window : SearchCall → List Data → List Data
-window call ds = take (min (call.offset + call.limit) most_hits - call.offset) (drop call.offset ds)
-
-abbrev pub searched : State → List ℕ → SearchCall → Result Step Refusal
-searched s uid call = do
-  index ← or_refuse (NoIndex uid) (index_at uid s)
-  Ok (told s (hits call (min (length (documents index)) most_hits) (window call (documents index))))
-
--- ---- one equation a call
-
--- (no route makes the other changes yet)
+-- an accepted change is counted, and its reply has the count before it
 abbrev pub changed : State → List ℕ → KindData → Result Step Refusal
-changed s uid (replace given documents) = added s uid given documents
-changed s uid other = Err (NotBuilt (codes "change"))
+changed s uid kind = do
+  es ← indexes_after s.changes s.indexes uid kind
+  Ok (record { answer = replies.accepted uid (type_of kind) s.changes; state = record { changes = s.changes + 1; indexes = es } })
+
+-- ---- reads
+
+-- of some things those from a place on, at most so many
+abbrev pub slice : {A : Type 0} → ℕ → ℕ → List A → List A
+slice offset limit xs = take limit (drop offset xs)
+
+abbrev pub index_rows : Indexes → List Data
+index_rows es = map (λ e. replies.index_data e.0 e.1.key) es
+
+abbrev pub core_call : SearchCall → CoreCall
+core_call call = record { q = call.q; offset = call.offset; limit = call.limit }
+
+abbrev pub hits_answer : SearchCall → Found → Answer
+hits_answer call f = replies.hits call.q call.offset call.limit f.total f.hits
+
+-- one equation a route
+abbrev pub answer_to : Indexes → ReadData → Result Answer Refusal
+answer_to es health = Ok replies.health
+answer_to es (indexes offset limit) = Ok (replies.listing offset limit (slice offset limit (index_rows es)) (length es))
+answer_to es (index uid) = do
+  i ← index_named uid es
+  Ok (replies.one_index uid i.key)
+answer_to es (documents uid offset limit fields) = do
+  i ← index_named uid es
+  Ok (replies.documents_listing offset limit fields (slice offset limit (documents_in i)) (length (documents_in i)))
+answer_to es (document uid id fields) = do
+  i ← index_named uid es
+  d ← or_refuse (NoDocument id) (document_under id i.store.rows)
+  Ok (replies.one_document fields d)
+answer_to es (search uid call) = do
+  i ← index_named uid es
+  Ok (hits_answer call (found i.store (core_call call)))
 
 abbrev pub outcome : State → CallData → Result Step Refusal
 outcome s (write change) = changed s change.uid change.kind
-outcome s (read (Search uid call)) = searched s uid call
+outcome s (read call) = do
+  a ← answer_to s.indexes call
+  Ok (told s a)
+
+-- ---- a request
 
 abbrev pub performed : State → CallData → Step
 performed s call = unless_refused s (outcome s call)
 
--- one request
 unfoldable pub step : State → Request → Step
 step s q = unless_refused s (call_of q >>= outcome s)

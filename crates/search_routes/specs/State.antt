@@ -3,10 +3,14 @@ use Rattle.std.specs.Prelude.{ℕ, List, refl}
 use Rattle.std.specs.Coded.{Coded, code_by, coded×, coded_ℕ, coded_list}
 use Rattle.index_core.specs.Index.{Index, index_code}
 
--- how many changes were accepted, and the indexes by their uids, in the order of the uids' bytes
+-- the indexes by their uids, in the order of the uids' bytes
+abbrev pub Indexes : Type 0
+Indexes = List (List ℕ × Index)
+
+-- how many changes were accepted, and the indexes
 pub record State : Type 0 where
   pub changes : ℕ
-  pub indexes : List (List ℕ × Index)
+  pub indexes : Indexes
 
 abbrev pub state_code : Coded State
 state_code = code_by (ℕ × List (List ℕ × Index)) (coded× coded_ℕ (coded_list (coded× (coded_list coded_ℕ) index_code))) (λ s. (s.changes, s.indexes)) (λ p. record { changes = p.0; indexes = p.1 }) (λ _. refl)

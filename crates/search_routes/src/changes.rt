@@ -1,18 +1,24 @@
-ghost use Rattle.std.specs.Prelude.{◌≡◌, ◌<◌, ◌≤◌, ◌∷◌, [], Bool, IfOk, OnOk, OnErr, codes, map, nat_le, option_copied, length};
+// The calls that change an index. All that can be refused, and all memory, comes before the first effect.
+ghost use Rattle.std.specs.Prelude.{◌≡◌, ◌+◌, ◌<◌, ◌≤◌, [], IfOk, OnOk, OnErr};
+ghost use Rattle.std.specs.Option.{option_copied};
 ghost use Rattle.std.specs.Result.{result_unwrap_or};
+ghost use Rattle.doc_values.specs.Changes.{kind_view, create, drop_index};
 ghost use Rattle.doc_values.specs.Ids.{key_of};
+ghost use Rattle.index_core.specs.Index.{empty_index};
 ghost use Rattle.index_core.specs.Plans.{planned, applied};
+ghost use Rattle.index_core.specs.Fetches.{needed};
+ghost use Rattle.search_calls.specs.Gives.{Gives, Checks};
 ghost use Rattle.search_routes.specs.Done.{Grows, Turns, fault_of};
-ghost use Rattle.search_routes.specs.Gives.{Gives, Checks};
-ghost use Rattle.search_routes.specs.Machine.{id_member as id_member_of, core_result, limits, index_after, indexes_after, addition, most_changes};
+ghost use Rattle.search_routes.specs.Machine.{id_member as id_member_of, id_member_for as id_member_of_change, core_result, limits, index_at, index_after, indexes_after, filled, emptied, type_of as type_in, most_changes};
+ghost use Rattle.search_routes.specs.Needs.{change_need, documents_need, need_in};
 ghost use Rattle.search_routes.specs.Replies.{accepted};
 
-use crate::refusal::{Fault, Refusal};
 use crate::replies::accepted_reply;
-use doc_values::{Document, KeyFault, infer_key};
+use doc_values::{Change, ChangeKind, Document, KeyFault, infer_key};
 use http_wire::Reply;
 use index_core::{CoreFault, IndexCore, Plan};
-use search_base::{NoMemory, Word};
+use search_base::{NoMemory, Steps, Word};
+use search_calls::{Fault, Refusal};
 use std::alloc::Global;
 use std::collections::BTreeMap;
 
@@ -23,34 +29,148 @@ const MOST_CHANGES: u64 = 1_000_000_000;
 
 const MOST_INDEXES: usize = 1_000;
 
-/// Adds documents to the index of this uid, which is made where it is not there, after so many accepted changes. On an
-/// error the indexes are as they were.
-pub(crate) fn add_documents(
+/// Makes a change after so many accepted ones, and gives its reply. On an error the indexes are as they were.
+pub(crate) fn change_indexes<F>(
+    alloc: Global,
+    indexes: &mut Indexes,
+    before: u64,
+    change: Change,
+    fetches: &mut Steps<F>,
+) -> Result<Reply, Fault>
+    ensures grows { Grows (indexes_after before indexes.old.entries change.uid (kind_view change.kind))
+        (accepted change.uid (type_in (kind_view change.kind)) before) indexes.old.entries result indexes.new.entries }
+    ensures room { OnOk result (before < most_changes) }
+    ensures fetched { fetches.new ≤ fetches.old + change_need indexes.old.entries change.uid (kind_view change.kind) }
+{
+    let Change { uid, kind } = change;
+    match kind {
+        ChangeKind::Create { key } => create_index(alloc, indexes, before, uid, key, fetches),
+        ChangeKind::Drop => drop_named(alloc, indexes, before, uid),
+        ChangeKind::Replace { key, documents } => {
+            let change = ChangeKind::Replace { key, documents };
+            fill(alloc, indexes, before, uid, change, fetches)
+        }
+        ChangeKind::Update { key, documents } => {
+            let change = ChangeKind::Update { key, documents };
+            fill(alloc, indexes, before, uid, change, fetches)
+        }
+        ChangeKind::Remove { ids } => {
+            let change = ChangeKind::Remove { ids };
+            empty(alloc, indexes, before, uid, change, fetches)
+        }
+        ChangeKind::Clear => empty(alloc, indexes, before, uid, ChangeKind::Clear, fetches),
+        ChangeKind::Patch { .. } | ChangeKind::Reset => Err(Fault::from(Refusal::NotBuilt {
+            name: Word::new(alloc, "settings")?,
+        })),
+    }
+}
+
+// What the reply to a change calls it.
+fn type_of(change: &ChangeKind) -> &'static str
+    ensures { result.now ≡ type_in (kind_view change.now) }
+{
+    match change {
+        ChangeKind::Create { .. } => "indexCreation",
+        ChangeKind::Drop => "indexDeletion",
+        ChangeKind::Replace { .. } | ChangeKind::Update { .. } => "documentAdditionOrUpdate",
+        ChangeKind::Remove { .. } | ChangeKind::Clear => "documentDeletion",
+        ChangeKind::Patch { .. } | ChangeKind::Reset => "settingsUpdate",
+    }
+}
+
+// Makes an index.
+fn create_index<F>(
     alloc: Global,
     indexes: &mut Indexes,
     before: u64,
     uid: Word,
-    given: Option<Word>,
-    documents: Vec<Document>,
+    key: Option<Word>,
+    fetches: &mut Steps<F>,
 ) -> Result<Reply, Fault>
-    ensures grows { Grows (indexes_after (record { changes = before; indexes = indexes.old.entries }) uid given documents.items)
-        (accepted uid addition before) indexes.old.entries result indexes.new.entries }
+    ensures grows { Grows (indexes_after before indexes.old.entries uid (create key))
+        (accepted uid (type_in (create key)) before) indexes.old.entries result indexes.new.entries }
+    ensures room { OnOk result (before < most_changes) }
+    ensures fetched { fetches.new ≤ fetches.old }
+{
+    if indexes.contains_key(&uid) {
+        return Err(Fault::from(Refusal::IndexExists { uid }));
+    }
+    check_limits(before, indexes.len() >= MOST_INDEXES)?;
+    let reply = accepted_reply(alloc, uid.as_str(), "indexCreation", before)?;
+    let index = new_index(alloc, key, fetches)?;
+    indexes.insert(uid, index)?;
+    Ok(reply)
+}
+
+// An index with this key, or none, and no documents.
+fn new_index<F>(
+    alloc: Global,
+    key: Option<Word>,
+    fetches: &mut Steps<F>,
+) -> Result<IndexCore, NoMemory>
+    ensures index { IfOk result (λ index. index ≡ record { key = key; store = empty_index.store }) }
+    ensures fetched { fetches.new ≤ fetches.old }
+{
+    let mut index = IndexCore::new(alloc)?;
+    let change = ChangeKind::Replace {
+        key,
+        documents: Vec::new(alloc),
+    };
+    // A change of no documents gives the index its key. Memory alone can be wanting.
+    let Ok(plan) = index.plan(alloc, change) else {
+        return Err(NoMemory);
+    };
+    match index.apply(alloc, plan, fetches) {
+        Ok(()) => Ok(index),
+        Err(_) => Err(NoMemory),
+    }
+}
+
+// Takes an index away, with its documents.
+fn drop_named(alloc: Global, indexes: &mut Indexes, before: u64, uid: Word) -> Result<Reply, Fault>
+    ensures grows { Grows (indexes_after before indexes.old.entries uid drop_index)
+        (accepted uid (type_in drop_index) before) indexes.old.entries result indexes.new.entries }
     ensures room { OnOk result (before < most_changes) }
 {
+    if !indexes.contains_key(&uid) {
+        return Err(Fault::from(Refusal::NoIndex { uid }));
+    }
+    check_limits(before, false)?;
+    let reply = accepted_reply(alloc, uid.as_str(), "indexDeletion", before)?;
+    indexes.remove(&uid);
+    Ok(reply)
+}
+
+// Adds documents to the index of this uid, which is made where it is not there.
+fn fill<F>(
+    alloc: Global,
+    indexes: &mut Indexes,
+    before: u64,
+    uid: Word,
+    change: ChangeKind,
+    fetches: &mut Steps<F>,
+) -> Result<Reply, Fault>
+    ensures grows { Grows (filled before indexes.old.entries uid (kind_view change))
+        (accepted uid (type_in (kind_view change)) before) indexes.old.entries result indexes.new.entries }
+    ensures room { OnOk result (before < most_changes) }
+    ensures fetched { fetches.new ≤ fetches.old + need_in (index_at uid indexes.old.entries) (kind_view change) }
+{
     match indexes.get_mut(&uid) {
-        Some(index) => return grow(alloc, index, before, false, uid.as_str(), given, documents),
+        Some(index) => {
+            return change_index(alloc, index, before, false, uid.as_str(), change, fetches);
+        }
         None => {}
     }
     let is_full = indexes.len() >= MOST_INDEXES;
     let mut index = IndexCore::new(alloc)?;
-    match grow(
+    match change_index(
         alloc,
         &mut index,
         before,
         is_full,
         uid.as_str(),
-        given,
-        documents,
+        change,
+        fetches,
     ) {
         Ok(reply) => {
             indexes.insert(uid, index)?;
@@ -60,29 +180,61 @@ pub(crate) fn add_documents(
     }
 }
 
-// Adds documents to an index. All that can be refused comes before the index changes.
-fn grow(
+// Takes documents out of the index of this uid.
+fn empty<F>(
+    alloc: Global,
+    indexes: &mut Indexes,
+    before: u64,
+    uid: Word,
+    change: ChangeKind,
+    fetches: &mut Steps<F>,
+) -> Result<Reply, Fault>
+    ensures grows { Grows (emptied before indexes.old.entries uid (kind_view change))
+        (accepted uid (type_in (kind_view change)) before) indexes.old.entries result indexes.new.entries }
+    ensures room { OnOk result (before < most_changes) }
+    ensures fetched { fetches.new ≤ fetches.old + need_in (index_at uid indexes.old.entries) (kind_view change) }
+{
+    match indexes.get_mut(&uid) {
+        Some(index) => change_index(alloc, index, before, false, uid.as_str(), change, fetches),
+        None => Err(Fault::from(Refusal::NoIndex { uid })),
+    }
+}
+
+// Changes the documents of an index.
+fn change_index<F>(
     alloc: Global,
     index: &mut IndexCore,
     before: u64,
     is_full: bool,
     uid: &str,
-    given: Option<Word>,
-    documents: Vec<Document>,
+    change: ChangeKind,
+    fetches: &mut Steps<F>,
 ) -> Result<Reply, Fault>
-    ensures grows { Grows (index_after before is_full index.old given documents.items)
-        (accepted uid.now addition before) index.old result index.new }
+    ensures grows { Grows (index_after before is_full index.old (kind_view change))
+        (accepted uid.now (type_in (kind_view change)) before) index.old result index.new }
     ensures room { OnOk result (before < most_changes) }
+    ensures fetched { fetches.new ≤ fetches.old + documents_need index.old (kind_view change) }
 {
-    let key = id_member(alloc, index.key(), given.as_ref(), &documents)?;
-    let plan = plan_of(alloc, index, &key, given, documents)?;
+    let called = type_of(&change);
+    let key = id_member_for(alloc, index.key(), &change)?;
+    let plan = plan_of(alloc, index, &key, change)?;
     check_limits(before, is_full)?;
-    let reply = accepted_reply(alloc, uid, "documentAdditionOrUpdate", before)?;
-    apply(alloc, index, &key, plan)?;
+    let reply = accepted_reply(alloc, uid, called, before)?;
+    apply(alloc, index, &key, plan, fetches)?;
     Ok(reply)
 }
 
-// The name of the member by which the documents of a change have their ids, or an empty name where there is none.
+// The name of the member by which the documents of a change have their ids, or an empty name.
+fn id_member_for(alloc: Global, own: Option<&Word>, change: &ChangeKind) -> Result<Word, NoMemory>
+    ensures { IfOk result (λ key. key ≡ id_member_of_change (option_copied own.entry) (kind_view change.now)) }
+{
+    match change {
+        ChangeKind::Replace { key, documents } => id_member(alloc, own, key.as_ref(), documents),
+        ChangeKind::Update { key, documents } => id_member(alloc, own, key.as_ref(), documents),
+        _ => Word::new(alloc, ""),
+    }
+}
+
 fn id_member(
     alloc: Global,
     own: Option<&Word>,
@@ -114,26 +266,27 @@ fn inferred_key(alloc: Global, document: &Document) -> Result<Word, NoMemory>
     }
 }
 
-fn plan_of(
-    alloc: Global,
-    index: &IndexCore,
-    key: &Word,
-    given: Option<Word>,
-    documents: Vec<Document>,
-) -> Result<Plan, Fault>
-    ensures { Gives (λ plan. plan) result (core_result key.now (planned index.now given documents.items)) }
+fn plan_of(alloc: Global, index: &IndexCore, key: &Word, change: ChangeKind) -> Result<Plan, Fault>
+    ensures { Gives (λ plan. plan) result (core_result key.now (planned index.now (kind_view change))) }
 {
-    match index.plan(alloc, given, documents) {
+    match index.plan(alloc, change) {
         Ok(plan) => Ok(plan),
         Err(fault) => Err(fault_in(key, fault)),
     }
 }
 
-fn apply(alloc: Global, index: &mut IndexCore, key: &Word, plan: Plan) -> Result<(), Fault>
+fn apply<F>(
+    alloc: Global,
+    index: &mut IndexCore,
+    key: &Word,
+    plan: Plan,
+    fetches: &mut Steps<F>,
+) -> Result<(), Fault>
     ensures applied { Gives (λ _. index.new) result (core_result key.now (applied plan index.old)) }
     ensures stays { OnErr result (index.new ≡ index.old) }
+    ensures fetched { fetches.new ≤ fetches.old + needed plan.work index.old.store }
 {
-    match index.apply(alloc, plan) {
+    match index.apply(alloc, plan, fetches) {
         Ok(()) => Ok(()),
         Err(fault) => Err(fault_in(key, fault)),
     }

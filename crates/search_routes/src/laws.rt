@@ -1,9 +1,4 @@
-ghost use Rattle.search_routes.specs.Laws.{OneRouteAtMost, AcceptedIsCounted, NoneAnswers503};
-
-/// No two rows of the table of routes have the method and the path of one request.
-pub fn one_route_at_most()
-    ensures { OneRouteAtMost }
-{}
+ghost use Rattle.search_routes.specs.Laws.{AcceptedIsCounted, NoneAnswers503};
 
 /// A request that is answered by 202 was counted as a change, and one that is answered otherwise changed nothing.
 pub fn what_is_accepted_is_counted()

@@ -1,15 +1,16 @@
-ghost use Rattle.std.specs.Prelude.{◌≡◌, IfOk};
-ghost use Rattle.search_routes.specs.Done.{Steps};
-ghost use Rattle.search_routes.specs.Machine.{added, searched, empty_state};
+ghost use Rattle.std.specs.Prelude.{◌≡◌, ◌+◌, ◌≤◌, IfOk};
+ghost use Rattle.doc_values.specs.Changes.{kind_view};
+ghost use Rattle.search_calls.specs.Asked.{read_view};
+ghost use Rattle.search_routes.specs.Done.{Sends, Steps as MakesStep};
+ghost use Rattle.search_routes.specs.Machine.{answer_to, changed, empty_state};
+ghost use Rattle.search_routes.specs.Needs.{change_need, read_need};
 
-use crate::call::SearchCall;
-use crate::changes::add_documents;
-use crate::refusal::{Fault, Refusal};
-use crate::replies::hits_reply;
-use doc_values::Document;
+use crate::changes::{Indexes, change_indexes};
+use crate::reads::read_indexes;
+use doc_values::Change;
 use http_wire::Reply;
-use index_core::IndexCore;
-use search_base::{NoMemory, Word};
+use search_base::{NoMemory, Steps};
+use search_calls::{Fault, ReadCall};
 use std::alloc::Global;
 use std::collections::BTreeMap;
 use std::marker::Model;
@@ -18,7 +19,7 @@ use std::marker::Model;
 #[derive(Drop)]
 pub struct Machine {
     changes: u64,
-    indexes: BTreeMap<Word, IndexCore>,
+    indexes: Indexes,
 }
 
 impl Model for Machine {
@@ -49,36 +50,32 @@ impl Machine {
         self.changes
     }
 
-    /// Adds documents to the index of this uid, which is made where it is not there. On an error the machine is as it
-    /// was.
-    pub(crate) fn add(
+    /// Makes a change and counts it. On an error the machine is as it was.
+    pub(crate) fn change<F>(
         &mut self,
         alloc: Global,
-        uid: Word,
-        given: Option<Word>,
-        documents: Vec<Document>,
+        change: Change,
+        fetches: &mut Steps<F>,
     ) -> Result<Reply, Fault>
-        ensures { Steps self.old (added self.old uid given documents.items) result self.new }
+        ensures step { MakesStep self.old (changed self.old change.uid (kind_view change.kind)) result self.new }
+        ensures fetched { fetches.new ≤ fetches.old + change_need self.old.indexes change.uid (kind_view change.kind) }
     {
         let before = self.changes;
-        let reply = add_documents(alloc, &mut self.indexes, before, uid, given, documents)?;
+        let reply = change_indexes(alloc, &mut self.indexes, before, change, fetches)?;
         self.changes += 1;
         Ok(reply)
     }
 
-    /// The hits of a search.
-    pub(crate) fn search(&self, alloc: Global, uid: Word, call: SearchCall) -> Result<Reply, Fault>
-        ensures { Steps self.now (searched self.now uid call) result self.now }
+    /// Answers a call that changes nothing.
+    pub(crate) fn read<F>(
+        &self,
+        alloc: Global,
+        call: ReadCall,
+        fetches: &mut Steps<F>,
+    ) -> Result<Reply, Fault>
+        ensures answer { Sends (answer_to self.now.indexes (read_view call)) result }
+        ensures fetched { fetches.new ≤ fetches.old + read_need self.now.indexes (read_view call) }
     {
-        let Some(index) = self.indexes.get(&uid) else {
-            return Err(Fault::from(Refusal::NoIndex { uid }));
-        };
-        let total = index.len().min(MOST_HITS);
-        let end = call.offset.saturating_add(call.limit).min(MOST_HITS);
-        let documents = index.page(alloc, call.offset, end)?;
-        Ok(hits_reply(alloc, &call, total, &documents)?)
+        read_indexes(alloc, &self.indexes, call, fetches)
     }
 }
-
-// No place from this on is a hit.
-const MOST_HITS: u64 = 1_000;

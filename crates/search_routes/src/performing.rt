@@ -1,31 +1,29 @@
-ghost use Rattle.std.specs.Prelude.{◌≡◌, Bool};
-ghost use Rattle.doc_values.specs.Changes.{kind_view};
+ghost use Rattle.std.specs.Prelude.{◌≡◌, ◌+◌, ◌≤◌, Bool};
 ghost use Rattle.http_wire.specs.Sent.{IsSentAs};
 ghost use Rattle.http_wire.specs.Wire.{request_of};
-ghost use Rattle.search_routes.specs.Calls.{read as read_data};
+ghost use Rattle.search_calls.specs.Refusals.{refused};
 ghost use Rattle.search_routes.specs.Chosen.{or_memory, answer_of, state_after};
-ghost use Rattle.search_routes.specs.Done.{Answers, Makes, Performs, Steps};
-ghost use Rattle.search_routes.specs.Machine.{changed, outcome, step};
-ghost use Rattle.search_routes.specs.Refusals.{refused};
+ghost use Rattle.search_routes.specs.Done.{Answers, Performs, held_need};
+ghost use Rattle.search_routes.specs.Needs.{needed_fetches};
 
-use crate::call::{Call, ReadCall, read_call};
 use crate::machine::Machine;
-use crate::refusal::{Fault, Refusal, refusal_reply};
-use doc_values::{Change, ChangeKind};
 use http_wire::{Reply, Wire};
-use search_base::Word;
+use search_base::Steps;
+use search_calls::{Call, Fault, Refusal, read_call, refusal_reply};
 use std::alloc::Global;
 
 /// Answers one request.
 ///
 /// The reply and the state after it are those of `step` in specs/Machine.antt; or there was no memory, the reply says so
-/// and the machine is as it was.
-pub fn answer(alloc: Global, machine: &mut Machine, wire: &Wire) -> Reply
-    ensures { (starved : Bool) × IsSentAs result (answer_of machine.old (request_of wire.now) starved)
+/// and the machine is as it was. `fetches` counts the stored documents that are read: at most those that the request
+/// needs, by specs/Needs.antt.
+pub fn answer<F>(alloc: Global, machine: &mut Machine, wire: &Wire, fetches: &mut Steps<F>) -> Reply
+    ensures answered { (starved : Bool) × IsSentAs result (answer_of machine.old (request_of wire.now) starved)
         × (machine.new ≡ state_after machine.old (request_of wire.now) starved) }
+    ensures fetched { fetches.new ≤ fetches.old + needed_fetches machine.old (request_of wire.now) }
 {
     match read_call(alloc, wire) {
-        Ok(call) => perform(alloc, machine, call),
+        Ok(call) => perform(alloc, machine, call, fetches),
         Err(_) => Reply::Memory,
     }
 }
@@ -34,40 +32,22 @@ pub fn answer(alloc: Global, machine: &mut Machine, wire: &Wire) -> Reply
 ///
 /// The reply and the state after it are those of `performed` in specs/Machine.antt; or there was no memory, the reply
 /// says so and the machine is as it was. A call that is refused gives its own reply and changes nothing. A change takes
-/// its memory before it changes anything, and is counted last.
-pub fn perform(alloc: Global, machine: &mut Machine, call: Call) -> Reply
-    ensures { Performs machine.old call result machine.new }
+/// its memory before it changes anything, that of its reply too, and is counted last. `fetches` counts the stored
+/// documents that are read: at most those that the call needs, by specs/Needs.antt.
+pub fn perform<F>(alloc: Global, machine: &mut Machine, call: Call, fetches: &mut Steps<F>) -> Reply
+    ensures performed { Performs machine.old call result machine.new }
+    ensures fetched { fetches.new ≤ fetches.old + held_need machine.old call }
 {
     match call {
         Call::Refused(reply) => reply,
         Call::Write(change) => {
-            let done = write(alloc, machine, change);
+            let done = machine.change(alloc, change, fetches);
             reply_to(alloc, done)
         }
         Call::Read(call) => {
-            let done = read(alloc, machine, call);
+            let done = machine.read(alloc, call, fetches);
             reply_to(alloc, done)
         }
-    }
-}
-
-fn write(alloc: Global, machine: &mut Machine, change: Change) -> Result<Reply, Fault>
-    ensures { Steps machine.old (changed machine.old change.uid (kind_view change.kind)) result machine.new }
-{
-    let Change { uid, kind } = change;
-    match kind {
-        ChangeKind::Replace { key, documents } => machine.add(alloc, uid, key, documents),
-        _ => Err(Fault::from(Refusal::NotBuilt {
-            name: Word::new(alloc, "change")?,
-        })),
-    }
-}
-
-fn read(alloc: Global, machine: &Machine, call: ReadCall) -> Result<Reply, Fault>
-    ensures { Steps machine.now (outcome machine.now (read_data call)) result machine.now }
-{
-    match call {
-        ReadCall::Search { uid, call } => machine.search(alloc, uid, call),
     }
 }
 

@@ -1,11 +1,12 @@
 -- Runs that go on by one request.
-use Rattle.std.proofs.Common.{◌≡◌, ℕ, ◌-◌, List, [], ◌∷◌, ◌++◌, length, Option, Some, None, refl, ap, sym, ◌∙◌, subst, arith}
+use Rattle.std.proofs.Common.{◌≡◌, ℕ, ◌+◌, ◌-◌, List, [], ◌∷◌, ◌++◌, length, Option, Some, None, refl, ap, sym, ◌∙◌, subst, arith}
 use Rattle.std.specs.Io.KnownBytes.{prepend_known}
 use Rattle.std.proofs.lemmas.List.{append_assoc}
 use Rattle.http_wire.specs.Stream.{Request, Stream, Follows, Takes, IsAwake, after_request}
 use Rattle.search_routes.specs.State.{State}
 use Rattle.search_routes.specs.Chosen.{state_after}
-use Rattle.search_server.specs.Run.{Event, requests_of, replies, reply_to, after}
+use Rattle.search_routes.specs.Needs.{needed_fetches}
+use Rattle.search_server.specs.Run.{Event, requests_of, replies, reply_to, after, needs}
 
 -- one more request
 pub follows_more : (s : Stream) (qs : List Request) (t : Stream) (q : Request) (rest : List ℕ)
@@ -29,6 +30,12 @@ replies_more left s (f ∷ events) e =
 pub after_more : (s : State) (events : List Event) (e : Event) → after s (events ++ e ∷ []) ≡ state_after (after s events) e.request e.starved
 after_more s [] e = refl
 after_more s (f ∷ events) e = after_more (state_after s f.request f.starved) events e
+
+pub needs_more : (s : State) (events : List Event) (e : Event) → needs s (events ++ e ∷ []) ≡ needs s events + needed_fetches (after s events) e.request
+needs_more s [] e = omega arith
+needs_more s (f ∷ events) e =
+    let more = needs_more (state_after s f.request f.starved) events e in
+    omega (arith, more)
 
 pub requests_more : (events : List Event) (e : Event) → requests_of (events ++ e ∷ []) ≡ requests_of events ++ e.request ∷ []
 requests_more [] e = refl

@@ -1,9 +1,10 @@
 -- A run of the machine: requests one after the other, each of which may find no memory.
-use Rattle.std.specs.Prelude.{ℕ, ◌-◌, ◌==◌, ◌||◌, Bool, true, List, [], ◌∷◌, ◌++◌, map}
+use Rattle.std.specs.Prelude.{ℕ, ◌+◌, ◌-◌, ◌==◌, ◌||◌, Bool, true, List, [], ◌∷◌, ◌++◌, map}
 use Rattle.http_wire.specs.Stream.{Request, End, between, closed, spent, rest, bad, most_requests}
 use Rattle.http_wire.specs.Reply.{wire, refusal_answer}
 use Rattle.search_routes.specs.State.{State}
 use Rattle.search_routes.specs.Chosen.{answer_of, state_after}
+use Rattle.search_routes.specs.Needs.{needed_fetches}
 
 -- a request, and whether it finds no memory
 pub record Event : Type 0 where
@@ -30,6 +31,11 @@ replies left s (e ∷ events) = reply_to left s e ∷ replies (left - 1) (state_
 abbrev pub after : State → List Event → State
 after s [] = s
 after s (e ∷ events) = after (state_after s e.request e.starved) events
+
+-- how many stored documents a run needs to read
+abbrev pub needs : State → List Event → ℕ
+needs s [] = 0
+needs s (e ∷ events) = needed_fetches s e.request + needs (state_after s e.request e.starved) events
 
 -- the reply to what ends a link, if there is one
 abbrev pub end_replies : End → List (List ℕ)

@@ -8,6 +8,7 @@ ghost use Rattle.search_server.specs.Words.{IsPipe};
 
 use crate::{Status, serve_link};
 use outside_io::Link;
+use search_base::Steps;
 use search_routes::Machine;
 use std::alloc::Global;
 
@@ -22,35 +23,41 @@ fn is_pipe(words: &[String]) -> bool
 }
 
 // Serves a link from a machine that holds nothing.
-fn serve_anew<P: Link>(alloc: Global, pipe: &mut P) -> Status
+fn serve_anew<P: Link, F>(alloc: Global, pipe: &mut P, fetches: &mut Steps<F>) -> Status
     ensures promise { (bytes : List ℕ) → P.left pipe.old ≡ Some bytes → (end : State) × (requests : ℕ)
-        × Served bytes (P.told pipe.old) empty_state (P.left pipe.new) (P.told pipe.new) end result requests }
+        × Served bytes (P.told pipe.old) empty_state fetches.old (P.left pipe.new) (P.told pipe.new) end fetches.new result requests }
     ensures cause { IsCaused (P.read_faults pipe.old) (P.read_faults pipe.new) (P.write_faults pipe.old) (P.write_faults pipe.new) result }
     ensures read_later { P.read_faults pipe.old ≤ P.read_faults pipe.new }
     ensures write_later { P.write_faults pipe.old ≤ P.write_faults pipe.new }
 {
     match Machine::new(alloc) {
         Err(_) => Status::NoMemory,
-        Ok(mut machine) => serve_link(alloc, &mut machine, pipe).status,
+        Ok(mut machine) => serve_link(alloc, &mut machine, pipe, fetches).status,
     }
 }
 
 /// Does what the words of the command line, after the program's own name, ask for.
 ///
 /// The one word `pipe` serves the link from a machine that holds nothing, as `serve_link` says.
-/// `BadWords` comes exactly for every other list of words, and then the link is left as it was.
-pub fn run_search_server<P: Link>(alloc: Global, words: &[String], pipe: &mut P) -> Status
+/// `BadWords` comes exactly for every other list of words, and then the link is left as it
+/// was. `fetches` counts the stored documents that are read.
+pub fn run_search_server<P: Link, F>(
+    alloc: Global,
+    words: &[String],
+    pipe: &mut P,
+    fetches: &mut Steps<F>,
+) -> Status
     ensures bad_words { (result ≡ Status.BadWords) ↔ ¬ (IsPipe words.now) }
-    ensures untouched { ¬ (IsPipe words.now) → pipe.new ≡ pipe.old }
+    ensures untouched { ¬ (IsPipe words.now) → (pipe.new ≡ pipe.old) × (fetches.new ≡ fetches.old) }
     ensures promise { IsPipe words.now → (bytes : List ℕ) → P.left pipe.old ≡ Some bytes → (end : State) × (requests : ℕ)
-        × Served bytes (P.told pipe.old) empty_state (P.left pipe.new) (P.told pipe.new) end result requests }
+        × Served bytes (P.told pipe.old) empty_state fetches.old (P.left pipe.new) (P.told pipe.new) end fetches.new result requests }
     ensures cause { IsPipe words.now
         → IsCaused (P.read_faults pipe.old) (P.read_faults pipe.new) (P.write_faults pipe.old) (P.write_faults pipe.new) result }
     ensures read_later { P.read_faults pipe.old ≤ P.read_faults pipe.new }
     ensures write_later { P.write_faults pipe.old ≤ P.write_faults pipe.new }
 {
     if is_pipe(words) {
-        serve_anew(alloc, pipe)
+        serve_anew(alloc, pipe, fetches)
     } else {
         Status::BadWords
     }

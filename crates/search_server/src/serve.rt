@@ -7,6 +7,7 @@ use crate::turn::{Turn, serve_one};
 use crate::{LinkEnd, Status};
 use http_wire::Kept;
 use outside_io::Link;
+use search_base::Steps;
 use search_routes::Machine;
 use std::alloc::Global;
 
@@ -19,10 +20,17 @@ const MOST_REQUESTS: u64 = 1_000_000;
 /// Where the link tells its bytes, `promise` says what was written by the status: all replies for
 /// `Done`, `CutShort`, `BadHead` and `RequestsSpent`; the replies to all that the link gave for
 /// `ReadFault`; all but the last, and of it a part, for `WriteFault`; the replies to the first
-/// requests for `NoMemory`.
-pub fn serve_link<P: Link>(alloc: Global, machine: &mut Machine, link: &mut P) -> LinkEnd
+/// requests for `NoMemory`. `fetches` counts the stored documents that are read: at most those that
+/// these requests need, one after the other.
+pub fn serve_link<P: Link, F>(
+    alloc: Global,
+    machine: &mut Machine,
+    link: &mut P,
+    fetches: &mut Steps<F>,
+) -> LinkEnd
     ensures promise { (bytes : List ℕ) → P.left link.old ≡ Some bytes
-        → Served bytes (P.told link.old) machine.old (P.left link.new) (P.told link.new) machine.new result.status result.requests }
+        → Served bytes (P.told link.old) machine.old fetches.old
+        (P.left link.new) (P.told link.new) machine.new fetches.new result.status result.requests }
     ensures cause { IsCaused (P.read_faults link.old) (P.read_faults link.new) (P.write_faults link.old) (P.write_faults link.new) result.status }
     ensures requests { result.requests ≤ 1000000 }
     ensures read_later { P.read_faults link.old ≤ P.read_faults link.new }
@@ -35,7 +43,14 @@ pub fn serve_link<P: Link>(alloc: Global, machine: &mut Machine, link: &mut P) -
         };
     };
     for served in 0..MOST_REQUESTS {
-        match serve_one(alloc, machine, link, &mut kept, MOST_REQUESTS - served) {
+        match serve_one(
+            alloc,
+            machine,
+            link,
+            &mut kept,
+            MOST_REQUESTS - served,
+            fetches,
+        ) {
             Turn::Next => {}
             Turn::Closed => {
                 return LinkEnd {

@@ -3,6 +3,7 @@ ghost use Rattle.std.specs.Prelude.{◌<◌};
 use crate::{LinkEnd, Status, run_search_server, serve_link};
 use http_wire::HeadKind;
 use outside_io::MemoryLink;
+use search_base::Steps;
 use search_routes::Machine;
 use std::alloc::Global;
 use std::str;
@@ -33,7 +34,8 @@ fn serve(
     let failing = failing.to_vec(alloc)?;
     let mut link = MemoryLink::paced(alloc, input, failing, most)?;
     let mut machine = Machine::new(alloc)?;
-    let end = serve_link(alloc, &mut machine, &mut link);
+    let mut fetches: Steps<()> = Steps::new();
+    let end = serve_link(alloc, &mut machine, &mut link, &mut fetches);
     Ok((end, link.written().to_vec(alloc)?))
 }
 
@@ -130,9 +132,10 @@ fn a_link_that_failed_once_is_served_afterwards(rt: HostRuntime) -> Result<(), F
     let input = ADD_AND_SEARCH.to_vec(rt.alloc())?;
     let mut link = MemoryLink::new(rt.alloc(), input, [0].to_vec(rt.alloc())?)?;
     let mut machine = Machine::new(rt.alloc())?;
-    let end = serve_link(rt.alloc(), &mut machine, &mut link);
+    let mut fetches: Steps<()> = Steps::new();
+    let end = serve_link(rt.alloc(), &mut machine, &mut link, &mut fetches);
     assert_eq!(rt; end, ended(Status::ReadFault, 0));
-    let end = serve_link(rt.alloc(), &mut machine, &mut link);
+    let end = serve_link(rt.alloc(), &mut machine, &mut link, &mut fetches);
     assert_eq!(rt; end, ended(Status::Done, 2));
     assert_eq!(rt; link.written(), ADDED_AND_FOUND);
     Ok(())
@@ -144,7 +147,8 @@ fn the_word_pipe_and_no_other(rt: HostRuntime) -> Result<(), Fail> {
         let words = vec![in rt.alloc(); word.to_string(rt.alloc())?]?;
         let input = b"GET /none HTTP/1.0\n\n".to_vec(rt.alloc())?;
         let mut link = MemoryLink::new(rt.alloc(), input, Vec::new(rt.alloc()))?;
-        let end = run_search_server(rt.alloc(), &words, &mut link);
+        let mut fetches: Steps<()> = Steps::new();
+        let end = run_search_server(rt.alloc(), &words, &mut link, &mut fetches);
         assert_eq!(rt; end.number(), status, "{word}");
         assert_eq!(rt; link.written().is_empty(), word != "pipe");
     }

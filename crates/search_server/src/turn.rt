@@ -5,6 +5,7 @@ ghost use Rattle.search_server.specs.Turns.{TurnIs};
 
 use http_wire::{HeadKind, Kept, WireEnd, read_request, write_refusal, write_reply};
 use outside_io::{Failed, Link};
+use search_base::Steps;
 use search_routes::{Machine, answer};
 use std::alloc::Global;
 
@@ -35,16 +36,17 @@ fn says_close(closes: bool, left: u64) -> bool
 }
 
 /// Reads one request and writes its reply, where `left` requests may still come.
-pub fn serve_one<P: Link>(
+pub fn serve_one<P: Link, F>(
     alloc: Global,
     machine: &mut Machine,
     link: &mut P,
     kept: &mut Kept,
     left: u64,
+    fetches: &mut Steps<F>,
 ) -> Turn
     ensures turn { TurnIs left
-        (record { pending = prepend_known kept.old (P.left link.old); told = P.told link.old; state = machine.old })
-        (record { pending = prepend_known kept.new (P.left link.new); told = P.told link.new; state = machine.new })
+        (record { pending = prepend_known kept.old (P.left link.old); told = P.told link.old; state = machine.old; fetches = fetches.old })
+        (record { pending = prepend_known kept.new (P.left link.new); told = P.told link.new; state = machine.new; fetches = fetches.new })
         kept.new (P.read_faults link.old) (P.read_faults link.new) (P.write_faults link.old) (P.write_faults link.new) result }
     ensures read_later { P.read_faults link.old ≤ P.read_faults link.new }
     ensures write_later { P.write_faults link.old ≤ P.write_faults link.new }
@@ -60,7 +62,7 @@ pub fn serve_one<P: Link>(
         Err(WireEnd::NoMemory) => Turn::NoMemory,
         Ok(wire) => {
             let closes = wire.closes;
-            let reply = answer(alloc, machine, &wire);
+            let reply = answer(alloc, machine, &wire, fetches);
             let says = says_close(closes, left);
             match write_reply(link, &reply, says) {
                 Err(Failed) => Turn::ReplyFault,

@@ -1,0 +1,86 @@
+-- How many stored documents a call needs to read.
+use Rattle.std.specs.Prelude.{ℕ, List, length, filter, Option, Some, None, unwrap_or, Result, Ok, Err}
+use Rattle.serde_json.specs.Data.{Data}
+use Rattle.doc_values.specs.Changes.{KindData, create, drop_index, replace, update, remove, clear, patch, reset}
+use Rattle.doc_store.specs.Store.{Store, externals}
+use Rattle.http_wire.specs.Stream.{Request}
+use Rattle.index_core.specs.Index.{Index, empty_index, documents as documents_in, document_under}
+use Rattle.index_core.specs.PlanView.{Work, PlanView}
+use Rattle.index_core.specs.PlanView as work
+use Rattle.index_core.specs.Plans.{planned, is_named}
+use Rattle.index_core.specs.Hits.{found}
+use Rattle.index_core.specs.declared.fault.CoreFault.{CoreFault}
+use Rattle.search_calls.specs.declared.refusal.Refusal.{Refusal}
+use Rattle.search_calls.specs.Asked.{ReadData, health, indexes, index, documents, document, search, CallData, write, read}
+use Rattle.search_calls.specs.Calls.{call_of}
+use Rattle.search_routes.specs.State.{State, Indexes}
+use Rattle.search_routes.specs.Machine.{index_at, slice, core_call}
+
+-- ---- changes
+
+-- how many documents that are there these external ids name
+abbrev pub named_there : List (List ℕ) → Store → ℕ
+named_there ids s = length (filter (is_named ids) s.rows)
+
+-- the documents that are added, updated or removed and were there before
+abbrev pub work_need : Work → Store → ℕ
+work_need (work.replace rows) s = named_there (externals rows) s
+work_need (work.update rows) s = named_there (externals rows) s
+work_need (work.remove ids) s = named_there ids s
+work_need work.clear s = 0
+
+-- a change that is refused by its key or its ids needs none
+abbrev pub plan_need : Result PlanView CoreFault → Store → ℕ
+plan_need (Ok plan) s = work_need plan.work s
+plan_need (Err fault) s = 0
+
+abbrev pub documents_need : Index → KindData → ℕ
+documents_need i change = plan_need (planned i change) i.store
+
+-- the same of the index that is there, if there is one
+abbrev pub need_in : Option Index → KindData → ℕ
+need_in there change = documents_need (unwrap_or there empty_index) change
+
+abbrev pub change_need : Indexes → List ℕ → KindData → ℕ
+change_need es uid (create key) = 0
+change_need es uid drop_index = 0
+change_need es uid (replace given ds) = need_in (index_at uid es) (replace given ds)
+change_need es uid (update given ds) = need_in (index_at uid es) (update given ds)
+change_need es uid (remove ids) = need_in (index_at uid es) (remove ids)
+change_need es uid clear = need_in (index_at uid es) clear
+change_need es uid (patch members) = 0
+change_need es uid reset = 0
+
+-- ---- reads
+
+-- of an index that is there
+abbrev pub there_need : Option Index → (Index → ℕ) → ℕ
+there_need None need = 0
+there_need (Some i) need = need i
+
+abbrev pub one_if_some : Option Data → ℕ
+one_if_some None = 0
+one_if_some (Some d) = 1
+
+-- the documents in the reply
+abbrev pub read_need : Indexes → ReadData → ℕ
+read_need es health = 0
+read_need es (indexes offset limit) = 0
+read_need es (index uid) = 0
+read_need es (documents uid offset limit fields) = there_need (index_at uid es) (λ i. length (slice offset limit (documents_in i)))
+read_need es (document uid id fields) = there_need (index_at uid es) (λ i. one_if_some (document_under id i.store.rows))
+read_need es (search uid call) = there_need (index_at uid es) (λ i. length (found i.store (core_call call)).hits)
+
+-- ---- calls and requests
+
+abbrev pub call_need : State → CallData → ℕ
+call_need s (write change) = change_need s.indexes change.uid change.kind
+call_need s (read call) = read_need s.indexes call
+
+-- a request that is refused by what it says alone needs none
+abbrev pub asked_need : State → Result CallData Refusal → ℕ
+asked_need s (Ok call) = call_need s call
+asked_need s (Err r) = 0
+
+unfoldable pub needed_fetches : State → Request → ℕ
+needed_fetches s q = asked_need s (call_of q)
