@@ -8,6 +8,8 @@
 
 mod run;
 mod serve;
+#[cfg(test)]
+mod starving;
 mod status;
 #[cfg(test)]
 mod tests;
