@@ -1,0 +1,102 @@
+-- The records of a journal, one after the other.
+use Rattle.std.proofs.Common.{◌≡◌, ◌≢◌, ℕ, suc, ◌+◌, ◌<◌, ◌≤◌, List, [], ◌∷◌, ◌++◌, length, get_or, take, drop, refl, sym, ◌∙◌, ap, subst, arith, length-take, length-drop}
+use Rattle.std.proofs.lemmas.List.{drop_more, drop_all, drop-drop}
+use Rattle.std.specs.Prelude.{Some, Ok, Err}
+use Rattle.std.specs.Option.{option_map}
+use Rattle.change_journal.specs.Format.{Field, payload, bad_field, field_in, Walk, shut, broken, entry, walk_field, walk, payloads, end_of, look, opened, found_at, active_of, by_count, by_walk, by_end}
+use Rattle.change_journal.specs.Image.{image_count}
+use Rattle.change_journal.specs.Fits.{Holds}
+use Rattle.change_journal.specs.declared.opening.Opened.{Opened}
+use Rattle.change_journal.proofs.Grow.{opened_as}
+use Rattle.change_journal.specs.Opens.{behind, Stands}
+use Rattle.change_journal.specs.declared.opening.StoredChange.{StoredChange}
+use Rattle.change_journal.proofs.Walks.{walk_step, walk_skip, walk_shut}
+
+pub behind_push : (changes : List StoredChange) (change : StoredChange) (w : Walk) → behind (changes ++ change ∷ []) w ≡ behind changes (entry change.place change.payload.items w)
+behind_push [] change w = refl
+behind_push (c ∷ changes) change w = ap (λ (v : Walk). entry c.place c.payload.items v) (behind_push changes change w)
+
+module _ (bs : List ℕ) (at n : ℕ) where
+  pub records_end : length bs ≤ at → walk 0 at n (drop at bs) ≡ broken at
+  unfolding walk
+  records_end le = ap (λ (l : List ℕ). walk 0 at n l) (drop_all at bs le)
+
+  module _ (within : at < length bs) where
+    split : drop at bs ≡ get_or bs at 0 ∷ drop (at + 1) bs
+    split = drop_more bs at 0 within
+
+    pub records_shut : get_or bs at 0 ≡ 0 → walk 0 at n (drop at bs) ≡ shut at
+    records_shut e = ap (λ (l : List ℕ). walk 0 at n l) (split ∙ ap (λ (b : ℕ). b ∷ drop (at + 1) bs) e) ∙ walk_shut at n (drop (at + 1) bs)
+
+    opened_by : get_or bs at 0 ≢ 0 → walk 0 at n (drop at bs) ≡ walk_field at (field_in n (drop (at + 1) bs)) (λ size. walk (12 + size) (at + 1) (n + 1) (drop (at + 1) bs))
+    opened_by ne = ap (λ (l : List ℕ). walk 0 at n l) split ∙ walk_step at n (get_or bs at 0) (drop (at + 1) bs) ne
+
+    pub records_bad : (k : ℕ) → get_or bs at 0 ≢ 0 → field_in n (drop (at + 1) bs) ≡ bad_field k → walk 0 at n (drop at bs) ≡ broken (at + k)
+    unfolding walk_field
+    records_bad k ne e = opened_by ne ∙ ap (λ (f : Field). walk_field at f (λ size. walk (12 + size) (at + 1) (n + 1) (drop (at + 1) bs))) e
+
+    pub records_step : (size : ℕ) → get_or bs at 0 ≢ 0 → field_in n (drop (at + 1) bs) ≡ payload (take size (drop 12 (drop (at + 1) bs))) → 12 + size ≤ length (drop (at + 1) bs)
+        → walk 0 at n (drop at bs) ≡ entry (at + 13) (take size (drop (at + 13) bs)) (walk 0 (at + (13 + size)) (n + 1) (drop (at + (13 + size)) bs))
+    unfolding walk_field
+    records_step size ne e fits =
+        let rest = drop (at + 1) bs in
+        let bytes = take size (drop 12 rest) in
+        let long : length bytes ≡ size = omega (arith, length-take size (drop 12 rest), length-drop 12 rest) in
+        let place : at + 1 + (12 + length bytes) ≡ at + (13 + size) = omega (arith, long) in
+        let place_13 : at + 1 + 12 ≡ at + 13 = omega arith in
+        opened_by ne
+        ∙ ap (λ (f : Field). walk_field at f (λ size. walk (12 + size) (at + 1) (n + 1) rest)) e
+        ∙ ap (λ (v : Walk). entry (at + 13) bytes v)
+        (walk_skip (12 + length bytes) (at + 1) (n + 1) rest (omega (arith, long))
+        ∙ ap (λ (l : List ℕ). walk 0 (at + 1 + (12 + length bytes)) (n + 1) l) (drop-drop (12 + length bytes) (at + 1) bs)
+        ∙ ap (λ (i : ℕ). walk 0 i (n + 1) (drop i bs)) place)
+        ∙ ap (λ (l : List ℕ). entry (at + 13) (take size l) (walk 0 (at + (13 + size)) (n + 1) (drop (at + (13 + size)) bs)))
+        (drop-drop 12 (at + 1) bs ∙ ap (λ (i : ℕ). drop i bs) place_13)
+
+-- the active disk
+
+pub end_behind : (changes : List StoredChange) (w : Walk) → end_of (behind changes w) ≡ end_of w
+end_behind [] w = refl
+end_behind (c ∷ changes) w = end_behind changes w
+
+pub count_behind : (changes : List StoredChange) (gate : ℕ) → length (payloads (behind changes (shut gate))) ≡ length changes
+count_behind [] gate = refl
+count_behind (c ∷ changes) gate = ap suc (count_behind changes gate)
+
+pub fault_image : (d g l place : ℕ) (xs : List ℕ) → image_count (take l (drop 24 xs)) ≡ Err place
+    → active_of d g l xs ≡ Err (record { disk = d; place = 24 + place; found = found_at (take l (drop 24 xs)) place })
+unfolding active_of by_count
+fault_image d g l place xs e = ap (λ r. by_count d g l xs (take l (drop 24 xs)) r) e
+
+pub fault_walk : (d g l n place : ℕ) (xs : List ℕ) (w : Walk) → image_count (take l (drop 24 xs)) ≡ Ok n → walk 0 (24 + l) n (drop (24 + l) xs) ≡ w → end_of w ≡ Err place
+    → active_of d g l xs ≡ Err (record { disk = d; place = place; found = found_at xs place })
+unfolding active_of by_count by_walk by_end
+fault_walk d g l n place xs w image e end =
+    let im = take l (drop 24 xs) in
+    ap (λ r. by_count d g l xs im r) image ∙ ap (λ (v : Walk). by_walk d g xs im n v) e ∙ ap (λ r. by_end d g xs im n w r) end
+
+module _ (o : Opened) (d g l n : ℕ) (xs : List ℕ) (e : look xs ≡ opened g l) (image : image_count (take l (drop 24 xs)) ≡ Ok n)
+    (w : walk 0 (24 + l) n (drop (24 + l) xs) ≡ behind o.changes.items (shut o.journal.gate)) where
+  ends : end_of (walk 0 (24 + l) n (drop (24 + l) xs)) ≡ Ok o.journal.gate
+  ends = ap end_of w ∙ end_behind o.changes.items (shut o.journal.gate)
+
+  pub opens : o.active ≡ d → option_map (λ v. v.items) o.image ≡ Some (take l (drop 24 xs)) → o.image_at ≡ 24 → Stands o (active_of d g l xs)
+  opens active bytes at = subst (λ r. Stands o r) (sym (opened_as d g l xs n o.journal.gate image ends)) (record {
+    stored = record { active = d; generation = g; image = take l (drop 24 xs); before = n; records = walk 0 (24 + l) n (drop (24 + l) xs); gate = o.journal.gate };
+    is = refl;
+    active = active;
+    image = bytes;
+    image_at = at;
+    changes = sym w;
+  })
+
+  pub opens_holds : o.journal.generation ≡ g → o.journal.count ≡ n + length o.changes.items → o.journal.gate + 1 ≡ 24 + l + o.journal.size → Holds o.journal xs
+  opens_holds same count long = record {
+    size = l;
+    before = n;
+    looks = e ∙ ap (λ (k : ℕ). opened k l) (sym same);
+    image = image;
+    ends = ends;
+    counts = omega (arith, count, ap (λ (v : Walk). length (payloads v)) w, count_behind o.changes.items o.journal.gate);
+    long = long;
+  }

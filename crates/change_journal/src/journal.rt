@@ -1,0 +1,188 @@
+ghost use Rattle.std.specs.Prelude.{◌≡◌, ◌≢◌, ◌⊎◌, ◌+◌, ◌<◌, ◌≤◌, ◌^◌, ◌-◌, ◌↔◌, [], ◌∷◌, IsTrue, Ok, List, ℕ, None, Some, OnOk, OnErr, length};
+ghost use Rattle.outside_io.specs.Faults.{HasCause, Rose};
+ghost use Rattle.outside_io.specs.Disks.{Contents, Told, fresh, LeavesOnly};
+ghost use Rattle.change_journal.specs.Format.{stored_pair, pair_in, look};
+ghost use Rattle.change_journal.specs.Image.{image_count};
+ghost use Rattle.change_journal.specs.Fits.{IsSettled, Holds, Fits, alone, Grows, grown, IsBeforeOrAfter, PairsOnly, IsOlder, IsOldOrImage, image_pair, StandsFor};
+ghost use Rattle.change_journal.specs.Shut.{Remade, image_disk};
+
+use crate::Record;
+use crate::add::add;
+use crate::remake::remake;
+use outside_io::{Disk, Failed};
+
+// The length of a journal above which a checkpoint is due.
+const LONG: u64 = 16_777_216;
+
+/// One of the two disks: `A` is number 0, `B` is number 1.
+#[derive(Clone, Copy, Debug, PartialEq, Eq)]
+pub enum Side {
+    A,
+    B,
+}
+
+/// Where the journal of two disks goes on: which disk is active, its generation, the place of its
+/// shut gate, the count of changes held, and the bytes of the journal, its gates included. Made by
+/// `open`; after a `Failed` of its calls the disks are opened again.
+#[derive(Drop)]
+pub struct Journal {
+    pub(crate) active: Option<Side>,
+    pub(crate) generation: u64,
+    pub(crate) gate: u64,
+    pub(crate) count: u64,
+    pub(crate) size: u64,
+}
+
+impl Journal {
+    /// Adds a change to the journal on the active disk, behind those that are there, in a journal
+    /// that has an image; it takes no memory. The record has the number of changes held before.
+    ///
+    /// A crash at any moment since the start of the call leaves the stored pair from before, or
+    /// that one with the new payload last; after `Ok` every crash leaves the latter, and nothing is
+    /// pending. `Failed`: a disk's count of faults rose.
+    pub fn append<K: Disk>(
+        &mut self,
+        disk_a: &mut K,
+        disk_b: &mut K,
+        entry: Record,
+    ) -> Result<(), Failed>
+        requires active { self.old.active ≢ None }
+        requires fits { Fits self.old (K.contents disk_a.old) (K.contents disk_b.old) }
+        requires number { entry.number ≡ self.old.count }
+        requires room { entry.number + 1 < 2 ^ 64 }
+        ensures any_moment { (a b : List ℕ) → K.contents disk_a.old ≡ Some (fresh a) → K.contents disk_b.old ≡ Some (fresh b)
+            → PairsOnly K.moment K.left_since disk_a.old disk_b.old disk_a.new disk_b.new
+            (λ c d. IsBeforeOrAfter entry.payload (stored_pair a b) (stored_pair c d)) }
+        ensures now { OnOk result ((a b : List ℕ) → K.contents disk_a.old ≡ Some (fresh a) → K.contents disk_b.old ≡ Some (fresh b)
+            → StandsFor (K.contents disk_a.new) (K.contents disk_b.new) (grown entry.payload (stored_pair a b))) }
+        ensures fits { OnOk result (Fits self.new (K.contents disk_a.new) (K.contents disk_b.new)) }
+        ensures count { OnOk result (self.new.count ≡ self.old.count + 1) }
+        ensures size { OnOk result (self.new.size ≡ self.old.size + length entry.payload + 13) }
+        ensures active { self.new.active ≡ self.old.active }
+        ensures generation { self.new.generation ≡ self.old.generation }
+        ensures cause { OnErr result (Rose (K.disk_faults disk_a.old) (K.disk_faults disk_a.new) ⊎ Rose (K.disk_faults disk_b.old) (K.disk_faults disk_b.new)) }
+        ensures later_a { K.disk_faults disk_a.old ≤ K.disk_faults disk_a.new }
+        ensures later_b { K.disk_faults disk_b.old ≤ K.disk_faults disk_b.new }
+    {
+        match self.active {
+            Some(Side::A) => self.append_on(disk_a, &entry),
+            Some(Side::B) => self.append_on(disk_b, &entry),
+            None => unreachable!(),
+        }
+    }
+
+    /// Makes the disk that is not active anew, with an image and no change behind it, and takes it
+    /// as the active one; it takes no memory. The image counts the changes held. At generation
+    /// 2^64 - 1 nothing is done, and the answer is `Ok`.
+    ///
+    /// A crash at any moment since the start of the call leaves the stored pair from before, or the
+    /// image without changes; after `Ok` every crash leaves the latter, and nothing is pending.
+    /// `Failed`: a disk's count of faults rose.
+    pub fn checkpoint<K: Disk>(
+        &mut self,
+        disk_a: &mut K,
+        disk_b: &mut K,
+        image: &[u8],
+    ) -> Result<(), Failed>
+        requires fits { Fits self.old (K.contents disk_a.old) (K.contents disk_b.old) }
+        requires image { image_count image.now ≡ Ok self.old.count }
+        ensures any_moment { (a b : List ℕ) → K.contents disk_a.old ≡ Some (fresh a) → K.contents disk_b.old ≡ Some (fresh b)
+            → PairsOnly K.moment K.left_since disk_a.old disk_b.old disk_a.new disk_b.new
+            (λ c d. IsOldOrImage image.now (stored_pair a b) (stored_pair c d)) }
+        ensures now { OnOk result (self.old.generation < 2 ^ 64 - 1
+            → (a b : List ℕ) → K.contents disk_a.old ≡ Some (fresh a) → K.contents disk_b.old ≡ Some (fresh b)
+            → StandsFor (K.contents disk_a.new) (K.contents disk_b.new) (Ok (image_pair image.now))) }
+        ensures last { 2 ^ 64 - 1 ≤ self.old.generation → (result ≡ Ok tt) × (self.new ≡ self.old) × (disk_a.new ≡ disk_a.old) × (disk_b.new ≡ disk_b.old) }
+        ensures fits { OnOk result (Fits self.new (K.contents disk_a.new) (K.contents disk_b.new)) }
+        ensures active { OnOk result (self.old.generation < 2 ^ 64 - 1 → self.new.active ≢ None) }
+        ensures count { self.new.count ≡ self.old.count }
+        ensures size { OnOk result (self.old.generation < 2 ^ 64 - 1 → self.new.size ≡ 1) }
+        ensures cause { OnErr result (Rose (K.disk_faults disk_a.old) (K.disk_faults disk_a.new) ⊎ Rose (K.disk_faults disk_b.old) (K.disk_faults disk_b.new)) }
+        ensures later_a { K.disk_faults disk_a.old ≤ K.disk_faults disk_a.new }
+        ensures later_b { K.disk_faults disk_b.old ≤ K.disk_faults disk_b.new }
+    {
+        if self.generation == u64::MAX {
+            return Ok(());
+        }
+        match self.active {
+            Some(Side::A) => self.checkpoint_on(disk_b, Side::B, image),
+            Some(Side::B) => self.checkpoint_on(disk_a, Side::A, image),
+            None => self.checkpoint_on(disk_a, Side::A, image),
+        }
+    }
+
+    /// The count of changes held.
+    pub fn count(&self) -> u64
+        ensures { result ≡ self.now.count }
+    {
+        self.count
+    }
+
+    /// Whether a checkpoint is due: the journal is longer than 16,777,216 bytes, and the generation
+    /// is not the last.
+    pub fn due(&self) -> bool
+        ensures { IsTrue result ↔ (16777216 < self.now.size) × (self.now.generation < 2 ^ 64 - 1) }
+    {
+        self.size > LONG && self.generation < u64::MAX
+    }
+
+    // The same on the disk that is not active, where there is a generation left.
+    fn checkpoint_on<K: Disk>(
+        &mut self,
+        disk: &mut K,
+        side: Side,
+        image: &[u8],
+    ) -> Result<(), Failed>
+        requires few { self.old.generation < 2 ^ 64 - 1 }
+        requires older { Told (K.contents disk.old) (λ ys. IsOlder self.old.generation (look ys)) }
+        requires image { image_count image.now ≡ Ok self.old.count }
+        ensures any_moment { (ys : List ℕ) → K.contents disk.old ≡ Some (fresh ys)
+            → LeavesOnly K.moment K.left_since disk.old disk.new (Remade self.old.generation (self.old.generation + 1) image.now) }
+        ensures now { OnOk result ((ys : List ℕ) → K.contents disk.old ≡ Some (fresh ys) → K.contents disk.new ≡ Some (fresh (1 ∷ image_disk (self.old.generation + 1) image.now))) }
+        ensures holds { OnOk result (Told (K.contents disk.new) (Holds self.new)) }
+        ensures room { OnOk result (self.new.gate + 1 < 2 ^ 64) }
+        ensures within { OnOk result (self.new.size ≤ self.new.gate + 1) }
+        ensures size { OnOk result (self.new.size ≡ 1) }
+        ensures count { self.new.count ≡ self.old.count }
+        ensures active { OnOk result (self.new.active ≡ Some side) }
+        ensures generation { OnOk result (self.new.generation ≡ self.old.generation + 1) }
+        ensures cause { HasCause (K.disk_faults disk.old) (K.disk_faults disk.new) result }
+    {
+        let next = self.generation + 1;
+        remake(disk, self.generation, next, image)?;
+        self.active = Some(side);
+        self.generation = next;
+        self.gate = 24 + image.len() as u64;
+        self.size = 1;
+        Ok(())
+    }
+
+    // An addition to the active disk.
+    fn append_on<K: Disk>(&mut self, disk: &mut K, entry: &Record) -> Result<(), Failed>
+        requires room { self.old.gate + 1 < 2 ^ 64 }
+        requires within { self.old.size ≤ self.old.gate + 1 }
+        requires holds { Told (K.contents disk.old) (Holds self.old) }
+        requires number { entry.now.number ≡ self.old.count }
+        requires few { entry.now.number + 1 < 2 ^ 64 }
+        ensures any_moment { (xs : List ℕ) → K.contents disk.old ≡ Some (fresh xs)
+            → LeavesOnly K.moment K.left_since disk.old disk.new (Grows xs entry.now.payload) }
+        ensures holds { OnOk result (Told (K.contents disk.new) (Holds self.new)) }
+        ensures now { OnOk result ((xs : List ℕ) → K.contents disk.old ≡ Some (fresh xs) → (c : List ℕ) × (K.contents disk.new ≡ Some (fresh c)) × (look c ≡ look xs)
+            × ((d : ℕ) → pair_in (alone d c) ≡ grown entry.now.payload (pair_in (alone d xs)))) }
+        ensures room { OnOk result (self.new.gate + 1 < 2 ^ 64) }
+        ensures within { OnOk result (self.new.size ≤ self.new.gate + 1) }
+        ensures count { OnOk result (self.new.count ≡ self.old.count + 1) }
+        ensures size { OnOk result (self.new.size ≡ self.old.size + length entry.now.payload + 13) }
+        ensures active { self.new.active ≡ self.old.active }
+        ensures generation { self.new.generation ≡ self.old.generation }
+        ensures cause { HasCause (K.disk_faults disk.old) (K.disk_faults disk.new) result }
+    {
+        let piece = entry.bytes();
+        add(disk, self.gate, piece)?;
+        let more = piece.len() as u64;
+        self.gate += more;
+        self.size += more;
+        self.count += 1;
+        Ok(())
+    }
+}
