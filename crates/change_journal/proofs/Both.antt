@@ -1,11 +1,11 @@
 -- From the active disk to both.
-use Rattle.std.proofs.Common.{◌≡◌, ◌⊎◌, inl, inr, ℕ, suc, ◌+◌, ◌<◌, ◌≤◌, ◌^◌, List, [], ◌∷◌, ◌++◌, length, take, drop, refl, sym, ◌∙◌, ap, subst, arith, Result, Ok, Err, OnOk}
+use Rattle.std.proofs.Common.{◌≡◌, inl, inr, ℕ, ◌+◌, ◌<◌, ◌^◌, List, ◌∷◌, ◌++◌, length, take, drop, sym, ◌∙◌, ap, subst, arith, Result, Ok, Err, OnOk}
 use Rattle.std.specs.Prelude.{Option, Some, None}
 use Rattle.std.specs.Option.{option_map}
 use Rattle.outside_io.specs.Disks.{Contents, fresh, Told, MayLeave, LeavesOnly}
-use Rattle.change_journal.specs.Format.{opened, look, Pair, pair_in, stored, stored_pair, entry_bytes}
+use Rattle.change_journal.specs.Format.{look, pair_in, stored_pair, entry_bytes}
 use Rattle.change_journal.specs.Adding.{added}
-use Rattle.change_journal.specs.Fits.{Holds, IsOlder, alone, grown, IsBeforeOrAfter, Grows, PairsOnly, BothTold, StandsFor}
+use Rattle.change_journal.specs.Fits.{Holds, IsOlder, alone, grown, IsBeforeOrAfter, Grows, PairsOnly, StandsFor}
 use Rattle.change_journal.specs.declared.journal.Journal.{Journal}
 use Rattle.change_journal.proofs.Left.{only_fresh}
 use Rattle.change_journal.proofs.Runs.{left_of}
@@ -50,7 +50,7 @@ module _ (j : Journal) (bytes : List ℕ) (small : j.count < 2 ^ 64) (short : le
         open_stands j xs h bytes (put xs) more 0 small short (shape xs h),
       )
 
--- ---- both disks
+-- both disks
 
 pub now_first : (j : Journal) (bytes a b : List ℕ) (p q : Option Contents) → Holds j a → IsOlder j.generation (look b) → q ≡ Some (fresh b)
     → (c : List ℕ) × (p ≡ Some (fresh c)) × (look c ≡ look a) × ((d : ℕ) → pair_in (alone d c) ≡ grown bytes (pair_in (alone d a))) → StandsFor p q (grown bytes (stored_pair a b))

@@ -1,20 +1,20 @@
 -- An image on one disk, and both disks beside it.
-use Rattle.std.proofs.Common.{◌≡◌, ◌⊎◌, inl, inr, ℕ, zero, suc, ◌+◌, ◌-◌, ◌<◌, ◌≤◌, ◌^◌, Bool, true, false, List, [], ◌∷◌, ◌++◌, length, get_or, take, drop, refl, sym, ◌∙◌, ap, subst, arith, rules, length-append, append_assoc, Result, Ok, Err}
-use Rattle.std.specs.Prelude.{Option, Some, None, nat_eq, bytes_eq, codes}
+use Rattle.std.proofs.Common.{◌≡◌, inl, inr, ℕ, suc, ◌+◌, ◌<◌, ◌^◌, Bool, true, false, List, [], ◌∷◌, ◌++◌, length, take, drop, refl, sym, ◌∙◌, ap, subst, arith, rules, length-append, append_assoc, Ok}
+use Rattle.std.specs.Prelude.{Option, Some, None, bytes_eq, codes}
 use Rattle.std.specs.Int.{w64, from_le_bytes, to_le_bytes}
 use Rattle.std.proofs.lemmas.Nat.{from_le_bytes-to_le_bytes_8}
 use Rattle.std.proofs.lemmas.List.{take_at, drop_at, drop-drop}
 use Rattle.std.proofs.lemmas.Bool.Decides.{nat_tests}
 use Rattle.std.proofs.lemmas.Slice.Eq.{bytes_eq-Decides}
 use Rattle.outside_io.specs.Disks.{Contents, fresh, Told}
-use Rattle.change_journal.specs.Format.{Look, closed, bad, opened, look, generation_in, length_in, Walk, shut, walk, end_of, payloads, by_looks, stored, Pair, pair_in, stored_pair}
+use Rattle.change_journal.specs.Format.{Look, closed, bad, opened, look, generation_in, length_in, Walk, shut, walk, end_of, payloads, by_looks, stored, pair_in, stored_pair}
 use Rattle.change_journal.specs.Image.{image_count}
 use Rattle.change_journal.specs.Fits.{Holds, IsOlder, IsSettled, alone, image_pair, IsOldOrImage, StandsFor}
-use Rattle.change_journal.specs.Shut.{header_bytes, image_disk, is_told, IsImage, Remade}
+use Rattle.change_journal.specs.Shut.{image_disk, is_told, Remade}
 use Rattle.change_journal.specs.declared.journal.Journal.{Journal}
 use Rattle.change_journal.proofs.Walks.{walk_shut}
 use Rattle.change_journal.proofs.Looks.{look_is, alone_is, first_active, second_active}
-use Rattle.change_journal.proofs.Grow.{body, opened_as}
+use Rattle.change_journal.proofs.Grow.{opened_as}
 
 long_8 : (n : ℕ) → length (to_le_bytes w64 n) ≡ 8
 long_8 n = search rules
@@ -42,8 +42,16 @@ module _ (g : ℕ) (image : List ℕ) (b : ℕ) (positive : 0 < g) (small : g < 
   at_24 = sym (drop-drop 8 16 file) ∙ ap (λ (l : List ℕ). drop 8 l) at_16 ∙ drop_at (to_le_bytes w64 (length image)) end 8 (long_8 (length image))
 
   long : length file ≡ 25 + length image
-  long = omega (arith, ap length flat, length-append name (to_le_bytes w64 g ++ (to_le_bytes w64 (length image) ++ end)), length-append (to_le_bytes w64 g) (to_le_bytes w64 (length image) ++ end),
-    length-append (to_le_bytes w64 (length image)) end, length-append image (0 ∷ []), long_8 g, long_8 (length image))
+  long = omega (
+    arith,
+    ap length flat,
+    length-append name (to_le_bytes w64 g ++ (to_le_bytes w64 (length image) ++ end)),
+    length-append (to_le_bytes w64 g) (to_le_bytes w64 (length image) ++ end),
+    length-append (to_le_bytes w64 (length image)) end,
+    length-append image (0 ∷ []),
+    long_8 g,
+    long_8 (length image),
+  )
 
   generation_is : generation_in file ≡ g
   unfolding generation_in
@@ -91,7 +99,7 @@ module _ (g : ℕ) (image : List ℕ) (b : ℕ) (positive : 0 < g) (small : g < 
       ∙ ap (λ (im : List ℕ). Ok (record { image = Some im; changes = payloads (walk 0 (24 + length image) n (drop (24 + length image) file)) })) image_is
       ∙ ap (λ (w : Walk). Ok (record { image = Some image; changes = payloads w })) (walk_is n)
 
--- ---- both disks
+-- both disks
 
 opened_older : (last next l : ℕ) (v : Look) → v ≡ opened last l → last < next → IsOlder next v
 opened_older last next l v e lt = subst (IsOlder next) (sym e) lt

@@ -1,14 +1,14 @@
 -- What an addition to the journal of an active disk leaves of it.
-use Rattle.std.proofs.Common.{◌≡◌, ◌≢◌, ◌⊎◌, inl, inr, ⊎_elim, ℕ, zero, suc, ◌+◌, ◌-◌, ◌*◌, ◌<◌, ◌≤◌, ◌^◌, List, [], ◌∷◌, ◌++◌, length, get_or, take, drop, refl, sym, ◌∙◌, ap, subst, arith, append_assoc, length-append, length-take, length-drop, Result, Ok, Err}
-use Rattle.std.specs.Prelude.{Option, Some, None}
-use Rattle.std.proofs.lemmas.List.{get_or-drop, take-take, take_at, take_more, take_all, drop-take, drop-append-le}
-use Rattle.change_journal.specs.Format.{Look, opened, look, Walk, shut, entry, walk, payloads, end_of, Spot, Stored, by_end, by_walk, by_count, active_of, Pair, pair_in, with_change, entry_bytes}
+use Rattle.std.proofs.Common.{◌≡◌, inl, inr, ℕ, zero, suc, ◌+◌, ◌-◌, ◌<◌, ◌≤◌, ◌^◌, List, [], ◌∷◌, ◌++◌, length, get_or, take, drop, sym, ◌∙◌, ap, arith, append_assoc, length-append, length-take, length-drop, Result, Ok}
+use Rattle.std.specs.Prelude.{Option, Some}
+use Rattle.std.proofs.lemmas.List.{get_or-drop, take_at, take_more, drop-take, drop-append-le}
+use Rattle.change_journal.specs.Format.{opened, look, Walk, shut, entry, walk, payloads, end_of, Spot, Stored, by_end, by_walk, by_count, active_of, pair_in, entry_bytes}
 use Rattle.change_journal.specs.Image.{image_count}
-use Rattle.change_journal.specs.Adding.{Staged, Unlocked, Adds}
-use Rattle.change_journal.specs.Fits.{Holds, alone, grown, IsBeforeOrAfter, Grows}
+use Rattle.change_journal.specs.Adding.{Adds}
+use Rattle.change_journal.specs.Fits.{Holds, alone, grown, Grows}
 use Rattle.change_journal.specs.declared.journal.Journal.{Journal}
 use Rattle.change_journal.proofs.Walks.{goes, join, join_shut, end_join, payloads_join, walk_shut, walk_open, part_same}
-use Rattle.change_journal.proofs.Looks.{looks, look_front, alone_is}
+use Rattle.change_journal.proofs.Looks.{look_front, alone_is}
 
 abbrev pub body : ℕ → ℕ → List ℕ → ℕ → Walk → ℕ → Result (Option Stored) Spot
 body d g image n w gate = Ok (Some (record { active = d; generation = g; image = image; before = n; records = w; gate = gate }))
@@ -78,11 +78,11 @@ module _ (j : Journal) (xs : List ℕ) (h : Holds j xs) where
         record {
           looks = same ∙ sym h.looks;
           stands = λ d. inl (ap pair_in
-          (alone_is d j.generation h.size c same
-          ∙ opened_as d j.generation h.size c h.before j.gate (ap image_count images ∙ h.image) (ap end_of shut_walk ∙ h.ends)
-          ∙ ap (λ (im : List ℕ). body d j.generation im h.before (walk 0 rest_at h.before (drop rest_at c)) j.gate) images
-          ∙ ap (λ (w : Walk). body d j.generation (take h.size (drop 24 xs)) h.before w j.gate) shut_walk
-          ∙ sym (stands d)));
+              (alone_is d j.generation h.size c same
+              ∙ opened_as d j.generation h.size c h.before j.gate (ap image_count images ∙ h.image) (ap end_of shut_walk ∙ h.ends)
+              ∙ ap (λ (im : List ℕ). body d j.generation im h.before (walk 0 rest_at h.before (drop rest_at c)) j.gate) images
+              ∙ ap (λ (w : Walk). body d j.generation (take h.size (drop 24 xs)) h.before w j.gate) shut_walk
+              ∙ sym (stands d)));
         }
 
   -- an open gate and a record behind it
@@ -125,7 +125,7 @@ module _ (j : Journal) (xs : List ℕ) (h : Holds j xs) where
       image = ap image_count images ∙ h.image;
       ends = let same : j.gate + 13 + length bytes ≡ i.gate = omega arith in open_ends ∙ ap Ok same;
       counts = let more_one = ap length (ap payloads open_walk ∙ payloads_join records next j.gate h.ends) in
-        omega (arith, h.counts, length-append (payloads records) (bytes ∷ []), more_one);
+          omega (arith, h.counts, length-append (payloads records) (bytes ∷ []), more_one);
       long = omega (arith, h.long);
     }
 

@@ -1,7 +1,7 @@
 -- The records of a journal, one after the other.
-use Rattle.std.proofs.Common.{◌≡◌, ◌≢◌, ℕ, zero, suc, ◌+◌, ◌<◌, ◌≤◌, List, [], ◌∷◌, ◌++◌, length, get_or, take, drop, refl, sym, ◌∙◌, ap, subst, arith, length-take, length-drop}
+use Rattle.std.proofs.Common.{◌≡◌, ◌≢◌, ℕ, suc, ◌+◌, ◌<◌, ◌≤◌, List, [], ◌∷◌, ◌++◌, length, get_or, take, drop, refl, sym, ◌∙◌, ap, subst, arith, length-take, length-drop}
 use Rattle.std.proofs.lemmas.List.{drop_more, drop_all, drop-drop}
-use Rattle.std.specs.Prelude.{Option, Some, None, Result, Ok, Err}
+use Rattle.std.specs.Prelude.{Some, Ok, Err}
 use Rattle.std.specs.Option.{option_map}
 use Rattle.change_journal.specs.Format.{Field, payload, bad_field, field_in, Walk, shut, broken, entry, walk_field, walk, payloads, end_of, look, opened, found_at, active_of, by_count, by_walk, by_end}
 use Rattle.change_journal.specs.Image.{image_count}
@@ -47,13 +47,13 @@ module _ (bs : List ℕ) (at n : ℕ) where
         opened_by ne
         ∙ ap (λ (f : Field). walk_field at f (λ size. walk (12 + size) (at + 1) (n + 1) rest)) e
         ∙ ap (λ (v : Walk). entry (at + 13) bytes v)
-          (walk_skip (12 + length bytes) (at + 1) (n + 1) rest (omega (arith, long))
-          ∙ ap (λ (l : List ℕ). walk 0 (at + 1 + (12 + length bytes)) (n + 1) l) (drop-drop (12 + length bytes) (at + 1) bs)
-          ∙ ap (λ (i : ℕ). walk 0 i (n + 1) (drop i bs)) place)
+        (walk_skip (12 + length bytes) (at + 1) (n + 1) rest (omega (arith, long))
+        ∙ ap (λ (l : List ℕ). walk 0 (at + 1 + (12 + length bytes)) (n + 1) l) (drop-drop (12 + length bytes) (at + 1) bs)
+        ∙ ap (λ (i : ℕ). walk 0 i (n + 1) (drop i bs)) place)
         ∙ ap (λ (l : List ℕ). entry (at + 13) (take size l) (walk 0 (at + (13 + size)) (n + 1) (drop (at + (13 + size)) bs)))
-          (drop-drop 12 (at + 1) bs ∙ ap (λ (i : ℕ). drop i bs) place_13)
+        (drop-drop 12 (at + 1) bs ∙ ap (λ (i : ℕ). drop i bs) place_13)
 
--- ---- the active disk
+-- the active disk
 
 pub end_behind : (changes : List StoredChange) (w : Walk) → end_of (behind changes w) ≡ end_of w
 end_behind [] w = refl

@@ -1,8 +1,8 @@
 -- A journal as `open` and the calls after it left it on two disks, and what a call may leave there.
-use Rattle.std.specs.Prelude.{◌≡◌, ◌⊎◌, ℕ, ◌+◌, ◌<◌, ◌≤◌, ◌^◌, List, [], ◌∷◌, ◌++◌, length, take, drop, Option, Some, None, Result, Ok, Err}
+use Rattle.std.specs.Prelude.{◌≡◌, ◌⊎◌, ℕ, ◌+◌, ◌<◌, ◌≤◌, ◌^◌, List, [], length, take, drop, Option, Some, None, Result, Ok, Err}
 use Rattle.std.specs.Option.{option_map}
-use Rattle.outside_io.specs.Disks.{Contents, Told, settled, fresh, MayLeave}
-use Rattle.change_journal.specs.Format.{Look, closed, bad, opened, look, Walk, walk, payloads, end_of, Spot, Stored, active_of, Pair, pair_in, stored_pair, with_change}
+use Rattle.outside_io.specs.Disks.{Contents, Told, settled, fresh}
+use Rattle.change_journal.specs.Format.{Look, closed, bad, opened, look, walk, payloads, end_of, Spot, Stored, active_of, Pair, pair_in, stored_pair, with_change}
 use Rattle.change_journal.specs.Image.{image_count}
 use Rattle.change_journal.specs.declared.journal.Journal.{Journal}
 use Rattle.change_journal.specs.declared.journal.Side.TheVariants.{A, B}

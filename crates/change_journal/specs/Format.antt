@@ -1,10 +1,12 @@
--- What the bytes of two disks stand for.
-use Rattle.std.specs.Prelude.{◌≡◌, ℕ, suc, zero, ◌+◌, ◌-◌, ◌==◌, ◌&&◌, nat_le, nat_lt, List, [], ◌∷◌, ◌++◌, length, take, drop, slice_index, Option, Some, None, Result, Ok, Err, if◌then◌else◌, bytes_eq, codes}
+-- What the bytes of two disks stand for. On a disk, with all numbers little-endian: byte 0 is a gate; bytes 1 to 7 are the
+-- name RANKIDX; bytes 8 to 15 are the generation, from 1; bytes 16 to 23 are the length L of the image; the image stands at
+-- 24, and the journal at 24 + L. A journal is a gate and, where it is not 0, the number of a change (8 bytes), the length of
+-- its payload (4 bytes), the payload, and the next gate. The disk with the greater generation is the active one.
+use Rattle.std.specs.Prelude.{ℕ, suc, zero, ◌+◌, ◌==◌, ◌&&◌, nat_le, nat_lt, List, [], ◌∷◌, ◌++◌, length, take, drop, slice_index, Option, Some, None, Result, Ok, Err, if◌then◌else◌, bytes_eq, codes}
 use Rattle.std.specs.Int.{w32, w64, from_le_bytes, to_le_bytes}
 use Rattle.change_journal.specs.Image.{image_count}
 
--- ---- the header of a disk
-
+-- the header of a disk. It is closed where the disk is shorter than 24 bytes or its gate is 0
 pub data Look : Type 0 where
   closed : Look
   -- the first field that is not allowed
@@ -32,8 +34,6 @@ look_gate xs = if slice_index xs 0 == 0 then closed else look_name xs
 
 unfoldable pub look : List ℕ → Look
 look xs = if nat_le 24 (length xs) then look_gate xs else closed
-
--- ---- the journal
 
 -- what stands after an open gate: a payload, or the place of the first bad field, from the gate on
 pub data Field : Type 0 where
@@ -76,8 +76,6 @@ end_of (shut at) = Ok at
 end_of (broken at) = Err at
 end_of (entry at bytes w) = end_of w
 
--- ---- two disks
-
 -- a byte that is not allowed: the disk, the place, and what stands there, if anything does
 pub record Spot : Type 0 where
   pub disk : ℕ
@@ -91,7 +89,7 @@ pub record Stored : Type 0 where
   pub active : ℕ
   pub generation : ℕ
   pub image : List ℕ
-  pub before : ℕ          -- the changes before the journal's
+  pub before : ℕ  -- the changes before the journal's
   pub records : Walk
   pub gate : ℕ
 
@@ -141,12 +139,11 @@ stored_pair a b = pair_in (stored a b)
 abbrev pub with_change : List ℕ → Pair → Pair
 with_change bytes p = record { image = p.image; changes = p.changes ++ bytes ∷ [] }
 
--- ---- a record
-
+-- a record: the number of a change, and its payload
 pub record Entry : Type 0 where
   pub number : ℕ
   pub payload : List ℕ
 
--- its bytes, and a shut gate
+-- the bytes that are written behind a gate: a record, and a shut gate
 abbrev pub entry_bytes : ℕ → List ℕ → List ℕ
 entry_bytes number bytes = to_le_bytes w64 number ++ (to_le_bytes w32 (length bytes) ++ (bytes ++ 0 ∷ []))

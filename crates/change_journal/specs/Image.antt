@@ -1,6 +1,6 @@
 -- What a journal reads of an image: the version and the count of changes, its first two fields. The rest is for those who
 -- read the image.
-use Rattle.std.specs.Prelude.{ℕ, ◌+◌, ◌-◌, ◌==◌, ◌&&◌, nat_le, List, length, take, drop, slice_index, Result, Ok, Err, if◌then◌else◌}
+use Rattle.std.specs.Prelude.{ℕ, ◌==◌, ◌&&◌, nat_le, List, length, take, drop, slice_index, Result, Ok, Err, if◌then◌else◌}
 use Rattle.std.specs.Int.{w64, from_le_bytes}
 
 -- the changes counted by bytes 1 to 8, at most 1,000,000,000, or the place of this field

@@ -1,5 +1,5 @@
 -- What opening gives.
-use Rattle.std.specs.Prelude.{◌≡◌, ◌≢◌, MatchOption, ℕ, ◌+◌, ◌<◌, ◌≤◌, ◌^◌, List, [], ◌∷◌, ◌++◌, length, take, drop, Option, Some, None, Result, Ok, Err}
+use Rattle.std.specs.Prelude.{◌≡◌, ◌≢◌, MatchOption, ℕ, ◌+◌, ◌<◌, ◌≤◌, ◌^◌, List, [], ◌∷◌, length, take, drop, Option, Some, None, Result, Ok, Err}
 use Rattle.change_journal.specs.Format.{Look, closed, bad, opened, Field, payload, bad_field, Walk, shut, broken, entry, Spot, Stored}
 use Rattle.change_journal.specs.declared.opening.Head.{Head}
 use Rattle.change_journal.specs.declared.opening.Head.TheVariants.{Closed, Bad, Open}
@@ -12,7 +12,7 @@ use Rattle.change_journal.specs.declared.journal.Side.{Side}
 use Rattle.change_journal.specs.declared.opening.Opened.{Opened}
 use Rattle.change_journal.specs.declared.opening.JournalFault.{JournalFault}
 use Rattle.std.specs.Option.{option_map}
-use Rattle.outside_io.specs.Disks.{Contents, Told, fresh}
+use Rattle.outside_io.specs.Disks.{Contents}
 use Rattle.change_journal.specs.Image.{image_count}
 use Rattle.change_journal.specs.Fits.{Holds, Fits}
 use Rattle.outside_io.specs.Faults.{Rose}

@@ -52,7 +52,7 @@ impl Journal {
         requires room { entry.number + 1 < 2 ^ 64 }
         ensures any_moment { (a b : List ℕ) → K.contents disk_a.old ≡ Some (fresh a) → K.contents disk_b.old ≡ Some (fresh b)
             → PairsOnly K.moment K.left_since disk_a.old disk_b.old disk_a.new disk_b.new
-                (λ c d. IsBeforeOrAfter entry.payload (stored_pair a b) (stored_pair c d)) }
+            (λ c d. IsBeforeOrAfter entry.payload (stored_pair a b) (stored_pair c d)) }
         ensures now { OnOk result ((a b : List ℕ) → K.contents disk_a.old ≡ Some (fresh a) → K.contents disk_b.old ≡ Some (fresh b)
             → StandsFor (K.contents disk_a.new) (K.contents disk_b.new) (grown entry.payload (stored_pair a b))) }
         ensures fits { OnOk result (Fits self.new (K.contents disk_a.new) (K.contents disk_b.new)) }
@@ -88,7 +88,7 @@ impl Journal {
         requires image { image_count image.now ≡ Ok self.old.count }
         ensures any_moment { (a b : List ℕ) → K.contents disk_a.old ≡ Some (fresh a) → K.contents disk_b.old ≡ Some (fresh b)
             → PairsOnly K.moment K.left_since disk_a.old disk_b.old disk_a.new disk_b.new
-                (λ c d. IsOldOrImage image.now (stored_pair a b) (stored_pair c d)) }
+            (λ c d. IsOldOrImage image.now (stored_pair a b) (stored_pair c d)) }
         ensures now { OnOk result (self.old.generation < 2 ^ 64 - 1
             → (a b : List ℕ) → K.contents disk_a.old ≡ Some (fresh a) → K.contents disk_b.old ≡ Some (fresh b)
             → StandsFor (K.contents disk_a.new) (K.contents disk_b.new) (Ok (image_pair image.now))) }
@@ -127,7 +127,12 @@ impl Journal {
     }
 
     // The same on the disk that is not active, where there is a generation left.
-    fn checkpoint_on<K: Disk>(&mut self, disk: &mut K, side: Side, image: &[u8]) -> Result<(), Failed>
+    fn checkpoint_on<K: Disk>(
+        &mut self,
+        disk: &mut K,
+        side: Side,
+        image: &[u8],
+    ) -> Result<(), Failed>
         requires few { self.old.generation < 2 ^ 64 - 1 }
         requires older { Told (K.contents disk.old) (λ ys. IsOlder self.old.generation (look ys)) }
         requires image { image_count image.now ≡ Ok self.old.count }

@@ -5,7 +5,6 @@ ghost use Rattle.outside_io.specs.Disks.{Contents, Told, fresh, LeavesOnly};
 ghost use Rattle.change_journal.specs.Format.{look, opened, field_in, walk, found_at, active_of, stored};
 ghost use Rattle.change_journal.specs.Fits.{Fits, BothTold};
 ghost use Rattle.change_journal.specs.Opens.{look_of, IsPiece, tail_of, behind, IsFault, IsWithin, TailWithin, AnswersOne, Answers, AnswersAll, IsReadFault, IsReady};
-
 ghost use Rattle.change_journal.specs.declared.opening.JournalFault.TheVariants.{NoMemory, DiskFault};
 
 use crate::image::count_of;
@@ -148,7 +147,11 @@ fn piece_at(rest: &[u8], number: u64) -> Piece
 fn found(bytes: &[u8], place: u64) -> Option<u8>
     ensures { result ≡ found_at bytes.now place }
 {
-    if place < bytes.len() as u64 { Some(bytes[place as usize]) } else { None }
+    if place < bytes.len() as u64 {
+        Some(bytes[place as usize])
+    } else {
+        None
+    }
 }
 
 fn rest_of(bytes: &[u8], at: usize) -> &[u8]
@@ -166,7 +169,12 @@ fn part_of(bytes: &[u8], at: usize, size: usize) -> &[u8]
 }
 
 // The records from a place on, with the numbers from that one on, and how they end.
-fn read_records(alloc: Global, bytes: &[u8], start: usize, before: u64) -> Result<(Vec<StoredChange>, Tail), AllocError>
+fn read_records(
+    alloc: Global,
+    bytes: &[u8],
+    start: usize,
+    before: u64,
+) -> Result<(Vec<StoredChange>, Tail), AllocError>
     requires within { start ≤ length bytes.now }
     requires few { before ≤ 1000000000 }
     ensures walk { IfOk result (λ read. walk 0 start before (drop start bytes.now) ≡ behind read.0.items (tail_of read.1)) }
@@ -180,7 +188,10 @@ fn read_records(alloc: Global, bytes: &[u8], start: usize, before: u64) -> Resul
             Piece::BadField(k) => return Ok((changes, Tail::Broken(at as u64 + k))),
             Piece::Payload(size) => {
                 let payload = part_of(bytes, at + 13, size).to_vec(alloc)?;
-                changes.push(StoredChange { place: at as u64 + 13, payload })?;
+                changes.push(StoredChange {
+                    place: at as u64 + 13,
+                    payload,
+                })?;
                 at += 13 + size;
                 number += 1;
             }
@@ -194,7 +205,14 @@ fn read_records(alloc: Global, bytes: &[u8], start: usize, before: u64) -> Resul
 }
 
 // What the active disk holds.
-fn open_active(alloc: Global, disk: u8, side: Side, generation: u64, size: u64, bytes: &[u8]) -> Result<Opened, JournalFault>
+fn open_active(
+    alloc: Global,
+    disk: u8,
+    side: Side,
+    generation: u64,
+    size: u64,
+    bytes: &[u8],
+) -> Result<Opened, JournalFault>
     requires look { look bytes.now ≡ opened generation size }
     requires within { 25 + size ≤ length bytes.now }
     ensures { AnswersOne result (active_of disk generation size bytes.now) side generation bytes.now }
@@ -216,7 +234,11 @@ fn open_active(alloc: Global, disk: u8, side: Side, generation: u64, size: u64, 
         Err(_) => return Err(JournalFault::NoMemory),
     };
     let gate = match tail {
-        Tail::Broken(place) => return Err(JournalFault::Damaged { disk, place, found: found(bytes, place) }),
+        Tail::Broken(place) => return Err(JournalFault::Damaged {
+            disk,
+            place,
+            found: found(bytes, place),
+        }),
         Tail::Shut(gate) => gate,
     };
     let image = match image.to_vec(alloc) {
@@ -230,7 +252,13 @@ fn open_active(alloc: Global, disk: u8, side: Side, generation: u64, size: u64, 
         count: before + changes.len() as u64,
         size: gate + 1 - start as u64,
     };
-    Ok(Opened { journal, active: disk, image: Some(image), image_at: 24, changes })
+    Ok(Opened {
+        journal,
+        active: disk,
+        image: Some(image),
+        image_at: 24,
+        changes,
+    })
 }
 
 // What two disks hold, by their bytes.
@@ -238,11 +266,25 @@ fn choose(alloc: Global, a: &[u8], b: &[u8]) -> Result<Opened, JournalFault>
     ensures { Answers result (stored a.now b.now) (Some (fresh a.now)) (Some (fresh b.now)) }
 {
     match look_at(a) {
-        Head::Bad(place) => Err(JournalFault::Damaged { disk: 0, place, found: found(a, place) }),
+        Head::Bad(place) => Err(JournalFault::Damaged {
+            disk: 0,
+            place,
+            found: found(a, place),
+        }),
         Head::Closed => match look_at(b) {
-            Head::Bad(place) => Err(JournalFault::Damaged { disk: 1, place, found: found(b, place) }),
+            Head::Bad(place) => Err(JournalFault::Damaged {
+                disk: 1,
+                place,
+                found: found(b, place),
+            }),
             Head::Closed => Ok(Opened {
-                journal: Journal { active: None, generation: 0, gate: 0, count: 0, size: 0 },
+                journal: Journal {
+                    active: None,
+                    generation: 0,
+                    gate: 0,
+                    count: 0,
+                    size: 0,
+                },
                 active: 0,
                 image: None,
                 image_at: 0,
@@ -251,11 +293,22 @@ fn choose(alloc: Global, a: &[u8], b: &[u8]) -> Result<Opened, JournalFault>
             Head::Open { generation, size } => open_active(alloc, 1, Side::B, generation, size, b),
         },
         Head::Open { generation, size } => match look_at(b) {
-            Head::Bad(place) => Err(JournalFault::Damaged { disk: 1, place, found: found(b, place) }),
+            Head::Bad(place) => Err(JournalFault::Damaged {
+                disk: 1,
+                place,
+                found: found(b, place),
+            }),
             Head::Closed => open_active(alloc, 0, Side::A, generation, size, a),
-            Head::Open { generation: other, size: other_size } => {
+            Head::Open {
+                generation: other,
+                size: other_size,
+            } => {
                 if generation == other {
-                    return Err(JournalFault::Damaged { disk: 1, place: 8, found: found(b, 8) });
+                    return Err(JournalFault::Damaged {
+                        disk: 1,
+                        place: 8,
+                        found: found(b, 8),
+                    });
                 }
                 if other < generation {
                     return open_active(alloc, 0, Side::A, generation, size, a);

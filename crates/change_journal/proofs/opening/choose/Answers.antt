@@ -1,6 +1,5 @@
-use Rattle.std.proofs.Common.{rules, ◌≡◌, ◌≢◌, ◌∙◌, ◌<◌, List, ℕ, refl, sym, subst, ap, arith}
-use Rattle.std.specs.Prelude.{Option, Some, None, Err}
-use Rattle.outside_io.specs.Disks.{fresh}
+use Rattle.std.proofs.Common.{◌∙◌, ℕ, refl, sym, subst, ap, arith}
+use Rattle.std.specs.Prelude.{Option, None, Err}
 use Rattle.change_journal.specs.Format.{opened}
 use Rattle.change_journal.specs.Opens.{Stands}
 use Rattle.change_journal.specs.declared.opening.Opened.{Opened}

@@ -1,9 +1,9 @@
-use Rattle.std.proofs.Common.{rules, ◌≡◌, ◌∙◌, ◌+◌, ◌-◌, ◌<◌, ◌≤◌, ◌^◌, List, ℕ, length, take, drop, refl, sym, subst, ap, arith}
-use Rattle.std.specs.Prelude.{Option, Some, None, Ok, Err}
-use Rattle.change_journal.specs.Format.{Walk, shut, broken, walk, found_at}
+use Rattle.std.proofs.Common.{rules, ◌≡◌, ◌∙◌, ◌+◌, ◌-◌, ◌<◌, ◌^◌, ℕ, length, take, drop, refl, sym, subst, ap, arith}
+use Rattle.std.specs.Prelude.{Option, Some, Err}
+use Rattle.change_journal.specs.Format.{Walk, shut, broken, found_at}
 use Rattle.change_journal.specs.Image.{image_count}
 use Rattle.change_journal.specs.Opens.{tail_of, behind, TailWithin}
-use Rattle.change_journal.specs.declared.opening.Tail.TheVariants.{Shut, Broken}
+use Rattle.change_journal.specs.declared.opening.Tail.TheVariants.{Shut}
 use Rattle.change_journal.specs.declared.opening.Opened.{Opened}
 use Rattle.change_journal.proofs.Records.{end_behind, fault_image, fault_walk, opens, opens_holds}
 use Rattle.change_journal.proofs.opening.open_active.Goals as goal

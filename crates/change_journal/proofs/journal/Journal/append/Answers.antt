@@ -1,5 +1,5 @@
-use Rattle.std.proofs.Common.{rules, ◌≡◌, ◌∙◌, List, ℕ, Some, sym, subst, ap}
-use Rattle.outside_io.specs.Disks.{Contents, fresh, Told}
+use Rattle.std.proofs.Common.{rules, ◌≡◌, Some, subst}
+use Rattle.outside_io.specs.Disks.{Told}
 use Rattle.change_journal.specs.Format.{look, stored_pair}
 use Rattle.change_journal.specs.Fits.{Holds, IsOlder, FitsAt, Grows, IsBeforeOrAfter}
 use Rattle.change_journal.specs.declared.journal.Side.TheVariants.{A, B}

@@ -1,4 +1,4 @@
-use Rattle.std.proofs.Common.{◌≡◌, ◌∙◌, ◌+◌, ◌<◌, ◌≤◌, ◌^◌, List, ℕ, length, Some, refl, sym, subst, ap, arith}
+use Rattle.std.proofs.Common.{◌≡◌, ◌∙◌, ◌+◌, ◌<◌, ◌^◌, ℕ, length, refl, subst, ap, arith}
 use Rattle.std.specs.Option.{option_map}
 use Rattle.outside_io.specs.Disks.{Contents, fresh, Told}
 use Rattle.change_journal.specs.Format.{entry_bytes}

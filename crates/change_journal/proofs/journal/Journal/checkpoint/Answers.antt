@@ -1,6 +1,6 @@
-use Rattle.std.proofs.Common.{rules, ◌≡◌, ◌∙◌, ◌+◌, ◌<◌, ◌^◌, List, ℕ, length, inl, refl, sym, subst, ap, arith}
+use Rattle.std.proofs.Common.{rules, ◌≡◌, ◌∙◌, ◌+◌, ◌<◌, ◌^◌, List, ℕ, length, inl, subst, ap, arith}
 use Rattle.std.specs.Prelude.{Some, None}
-use Rattle.outside_io.specs.Disks.{Contents, fresh, Told}
+use Rattle.outside_io.specs.Disks.{Told}
 use Rattle.change_journal.specs.Format.{look, stored_pair}
 use Rattle.change_journal.specs.Fits.{Holds, IsOlder, FitsAt, IsOldOrImage}
 use Rattle.change_journal.specs.Shut.{Remade}
@@ -17,9 +17,9 @@ returns-then-self-clause-any_moment g c =
       later_a = omega arith;
       later_b = omega arith;
       each = λ x y left_x left_y.
-      let ex = only_fresh a x (left_of x was_a (g.met.K.Disk.only_now c.args.disk_a.now x left_x)) in
-      let ey = only_fresh b y (left_of y was_b (g.met.K.Disk.only_now c.args.disk_b.now y left_y)) in
-      inl (ap (λ (l : List ℕ). stored_pair l y) ex ∙ ap (λ (l : List ℕ). stored_pair a l) ey);
+          let ex = only_fresh a x (left_of x was_a (g.met.K.Disk.only_now c.args.disk_a.now x left_x)) in
+          let ey = only_fresh b y (left_of y was_b (g.met.K.Disk.only_now c.args.disk_b.now y left_y)) in
+          inl (ap (λ (l : List ℕ). stored_pair l y) ex ∙ ap (λ (l : List ℕ). stored_pair a l) ey);
     }
 
 pub returns-in-Some-A-clause-any_moment : goal.returns-in-Some-A-clause-any_moment

@@ -1,5 +1,4 @@
-use Rattle.std.proofs.Common.{rules, ◌≡◌, ◌+◌, ◌<◌, ◌^◌, List, ℕ, length, sym, refl, subst, arith, ◌∷◌, []}
-use Rattle.outside_io.specs.Disks.{Told}
+use Rattle.std.proofs.Common.{rules, ◌≡◌, ◌+◌, ◌<◌, ◌^◌, length, sym, refl, subst, arith, ◌∷◌}
 use Rattle.change_journal.specs.Fits.{Holds}
 use Rattle.change_journal.specs.Shut.{image_disk}
 use Rattle.change_journal.proofs.Both.{told_map}
