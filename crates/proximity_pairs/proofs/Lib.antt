@@ -1,0 +1,3 @@
+-- What is found of pairs.
+pub mod PairLemmas
+pub mod IndexLemmas
