@@ -1,0 +1,7 @@
+mod Ordered
+mod Endings
+mod Printed
+mod Bounds
+mod Lengths
+mod Once
+mod RuleTexts

@@ -1,0 +1,413 @@
+use crate::{
+    RankingRule, Settings, SettingsFault, is_covered, is_displayed, patch, rank_of, ranking_rule,
+    to_json,
+};
+use search_base::Word;
+use serde_json::Value;
+use std::alloc::Global;
+use std::process::Abort;
+use std::test::Fail;
+
+const DEFAULTS: &str =
+    "{\"displayedAttributes\":[\"*\"],\"distinctAttribute\":null,\"faceting\":{\"maxValuesPerFacet\":100},\"filterableAttributes\":[],\"pagination\":{\"maxTotalHits\":1000},\"rankingRules\":[\"words\",\"typo\",\"proximity\",\"attribute\",\"sort\",\"exactness\"],\"searchableAttributes\":[\"*\"],\"sortableAttributes\":[],\"stopWords\":[],\"synonyms\":{}}";
+
+fn printed(rt: &impl Abort, alloc: Global, settings: &Settings) -> String {
+    let value = to_json(alloc, settings).expect(rt, "memory");
+    value.to_string(alloc).expect(rt, "memory")
+}
+
+fn defaults(rt: &impl Abort, alloc: Global) -> Settings {
+    Settings::defaults(alloc).expect(rt, "memory")
+}
+
+fn patched(rt: &impl Abort, alloc: Global, old: &Settings, text: &str) -> Settings {
+    let members = Value::from_str(alloc, text).expect(rt, "JSON");
+    match patch(alloc, old, &members) {
+        Ok(settings) => settings,
+        Err(_) => panic!(rt; "refused: {text}"),
+    }
+}
+
+// The fault of a patch of the defaults, or `none`.
+fn fault_of(rt: &impl Abort, alloc: Global, text: &str) -> String {
+    let members = Value::from_str(alloc, text).expect(rt, "JSON");
+    let shown = match &patch(alloc, &defaults(rt, alloc), &members) {
+        Ok(_) => String::from_str(alloc, "none"),
+        Err(SettingsFault::UnknownMember { member }) => format!(in alloc;
+            "unknown {}",
+            member.as_str()
+        ),
+        Err(SettingsFault::WrongShape { member }) => format!(in alloc; "shape {}", member.as_str()),
+        Err(SettingsFault::BadRankingRule { text }) => format!(in alloc; "rule {}", text.as_str()),
+        Err(SettingsFault::NotBuilt { member }) => format!(in alloc;
+            "not built {}",
+            member.as_str()
+        ),
+        Err(SettingsFault::NoMemory) => String::from_str(alloc, "no memory"),
+    };
+    shown.expect(rt, "memory")
+}
+
+fn assert_faults(rt: &impl Abort, alloc: Global, cases: &[(&str, &str)]) {
+    for (text, want) in cases {
+        let shown = fault_of(rt, alloc, text);
+        assert_eq!(rt; shown.as_str(), *want, "at {text}");
+    }
+}
+
+#[test]
+fn a_reset_member_gives_the_defaults(rt: HostRuntime) {
+    let alloc = rt.alloc();
+    let old = defaults(&rt, alloc);
+    assert_eq!(rt; printed(&rt, alloc, &old).as_str(), DEFAULTS);
+    let named = patched(
+        &rt,
+        alloc,
+        &old,
+        "{\"stopWords\":[\"the\",\"of the\",\"\"]}",
+    );
+    assert_eq!(rt; named.stop_words().len(), 3);
+    let again = patched(&rt, alloc, &named, "{\"stopWords\":null}");
+    assert_eq!(rt; printed(&rt, alloc, &again).as_str(), DEFAULTS);
+}
+
+#[test]
+fn a_patch_replaces_what_it_names(rt: HostRuntime) {
+    let alloc = rt.alloc();
+    let text =
+        "{\"displayedAttributes\":[\"id\",\"id\"],\"distinctAttribute\":null,\"faceting\":{\"maxValuesPerFacet\":0},\"filterableAttributes\":[\"b\",\"a\"],\"pagination\":{\"maxTotalHits\":1000000},\"rankingRules\":[\"x:y:asc\",\"words\",\"words\",\"a:desc:asc\"],\"searchableAttributes\":[],\"sortableAttributes\":[\"é\"],\"stopWords\":[\"a b\"],\"synonyms\":{\"b\":[],\"a\":[\"x\",\"x\"]}}";
+    let all = patched(&rt, alloc, &defaults(&rt, alloc), text);
+    let want =
+        "{\"displayedAttributes\":[\"id\",\"id\"],\"distinctAttribute\":null,\"faceting\":{\"maxValuesPerFacet\":0},\"filterableAttributes\":[\"b\",\"a\"],\"pagination\":{\"maxTotalHits\":1000000},\"rankingRules\":[\"x:y:asc\",\"words\",\"words\",\"a:desc:asc\"],\"searchableAttributes\":[],\"sortableAttributes\":[\"é\"],\"stopWords\":[\"a b\"],\"synonyms\":{\"a\":[\"x\",\"x\"],\"b\":[]}}";
+    assert_eq!(rt; printed(&rt, alloc, &all).as_str(), want);
+    let kept = patched(
+        &rt,
+        alloc,
+        &all,
+        "{\"faceting\":{},\"pagination\":{},\"synonyms\":{\"a\":[\"x\",\"x\"],\"b\":[]}}",
+    );
+    assert_eq!(rt; printed(&rt, alloc, &kept).as_str(), want);
+    let back = patched(
+        &rt,
+        alloc,
+        &all,
+        "{\"displayedAttributes\":null,\"distinctAttribute\":null,\"faceting\":null,\"filterableAttributes\":null,\"pagination\":{\"maxTotalHits\":null},\"rankingRules\":null,\"searchableAttributes\":null,\"sortableAttributes\":null,\"stopWords\":null,\"synonyms\":null}",
+    );
+    assert_eq!(rt; printed(&rt, alloc, &back).as_str(), DEFAULTS);
+}
+
+// The one text of a list, or `not one`.
+fn only(list: &[Word]) -> &str {
+    match list {
+        [text] => text.as_str(),
+        _ => "not one",
+    }
+}
+
+#[test]
+fn the_members_of_the_settings(rt: HostRuntime) {
+    let alloc = rt.alloc();
+    let all = patched(
+        &rt,
+        alloc,
+        &defaults(&rt, alloc),
+        "{\"displayedAttributes\":[\"a\"],\"faceting\":{\"maxValuesPerFacet\":7},\"filterableAttributes\":[\"b\"],\"pagination\":{\"maxTotalHits\":8},\"rankingRules\":[\"c:asc\"],\"searchableAttributes\":[\"d\"],\"sortableAttributes\":[\"e\"],\"stopWords\":[\"f\"],\"synonyms\":{\"g\":[\"h\"]}}",
+    );
+    let lists = [
+        all.displayed_attributes(),
+        all.filterable_attributes(),
+        all.ranking_rules(),
+        all.searchable_attributes(),
+        all.sortable_attributes(),
+        all.stop_words(),
+    ];
+    let wants = ["a", "b", "c:asc", "d", "e", "f"];
+    for (list, want) in lists.iter().zip(wants) {
+        assert_eq!(rt; only(list), want);
+    }
+    assert_eq!(rt; all.max_values_per_facet(), 7);
+    assert_eq!(rt; all.max_total_hits(), 8);
+    assert!(rt; all.distinct_attribute().is_none());
+    match all.synonyms() {
+        [list] => {
+            assert_eq!(rt; list.key.as_str(), "g");
+            assert_eq!(rt; only(&list.texts), "h");
+        }
+        _ => panic!(rt; "not one list"),
+    }
+}
+
+#[test]
+fn each_member_with_a_wrong_shape(rt: HostRuntime) {
+    assert_faults(
+        &rt,
+        rt.alloc(),
+        &[
+            ("[]", "shape "),
+            ("null", "shape "),
+            ("\"stopWords\"", "shape "),
+            (
+                "{\"displayedAttributes\":\"a\"}",
+                "shape displayedAttributes",
+            ),
+            ("{\"displayedAttributes\":[1]}", "shape displayedAttributes"),
+            (
+                "{\"searchableAttributes\":{}}",
+                "shape searchableAttributes",
+            ),
+            (
+                "{\"searchableAttributes\":[[\"a\"]]}",
+                "shape searchableAttributes",
+            ),
+            (
+                "{\"filterableAttributes\":true}",
+                "shape filterableAttributes",
+            ),
+            (
+                "{\"filterableAttributes\":[\"a\",null]}",
+                "shape filterableAttributes",
+            ),
+            ("{\"sortableAttributes\":0}", "shape sortableAttributes"),
+            ("{\"stopWords\":1}", "shape stopWords"),
+            ("{\"rankingRules\":\"words\"}", "shape rankingRules"),
+            ("{\"rankingRules\":[\"x\",1]}", "shape rankingRules"),
+            ("{\"synonyms\":[]}", "shape synonyms"),
+            ("{\"synonyms\":{\"a\":\"b\"}}", "shape synonyms"),
+            (
+                "{\"synonyms\":{\"a\":[\"b\"],\"c\":null}}",
+                "shape synonyms",
+            ),
+            ("{\"distinctAttribute\":5}", "shape distinctAttribute"),
+            (
+                "{\"distinctAttribute\":\"year\"}",
+                "not built distinctAttribute",
+            ),
+            ("{\"faceting\":5}", "shape faceting"),
+            ("{\"faceting\":[]}", "shape faceting"),
+            (
+                "{\"faceting\":{\"maxValuesPerFacet\":\"5\"}}",
+                "shape faceting.maxValuesPerFacet",
+            ),
+            ("{\"pagination\":false}", "shape pagination"),
+            (
+                "{\"pagination\":{\"maxTotalHits\":-1}}",
+                "shape pagination.maxTotalHits",
+            ),
+            (
+                "{\"pagination\":{\"maxTotalHits\":1.0}}",
+                "shape pagination.maxTotalHits",
+            ),
+        ],
+    );
+}
+
+#[test]
+fn names_that_no_member_has(rt: HostRuntime) {
+    assert_faults(
+        &rt,
+        rt.alloc(),
+        &[
+            ("{\"foo\":1}", "unknown foo"),
+            ("{\"foo\":null}", "unknown foo"),
+            ("{\"\":1}", "unknown "),
+            ("{\"stopwords\":[]}", "unknown stopwords"),
+            ("{\"typoTolerance\":{}}", "unknown typoTolerance"),
+            (
+                "{\"faceting\":{\"sortFacetValuesBy\":{}}}",
+                "unknown faceting.sortFacetValuesBy",
+            ),
+            (
+                "{\"faceting\":{\"maxTotalHits\":1}}",
+                "unknown faceting.maxTotalHits",
+            ),
+            ("{\"pagination\":{\"a.b\":1}}", "unknown pagination.a.b"),
+        ],
+    );
+}
+
+#[test]
+fn the_first_member_in_byte_order_decides(rt: HostRuntime) {
+    assert_faults(
+        &rt,
+        rt.alloc(),
+        &[
+            (
+                "{\"stopWords\":1,\"foo\":1,\"rankingRules\":[\"x\"]}",
+                "unknown foo",
+            ),
+            (
+                "{\"stopWords\":1,\"rankingRules\":[\"words\",\"x\",\"y\"]}",
+                "rule x",
+            ),
+            ("{\"Z\":1,\"distinctAttribute\":\"year\"}", "unknown Z"),
+            (
+                "{\"faceting\":{\"n\":1,\"maxValuesPerFacet\":\"a\"},\"a\":1}",
+                "unknown a",
+            ),
+            (
+                "{\"faceting\":{\"n\":1,\"maxValuesPerFacet\":\"a\"}}",
+                "shape faceting.maxValuesPerFacet",
+            ),
+            (
+                "{\"faceting\":{\"a\":1,\"maxValuesPerFacet\":\"a\"}}",
+                "unknown faceting.a",
+            ),
+        ],
+    );
+}
+
+// A patch that gives a member a list of so many texts.
+fn long_list(rt: &impl Abort, alloc: Global, name: &str, text: &str, count: u32) -> String {
+    let mut patch = String::new(alloc);
+    patch.push_str("{\"").expect(rt, "memory");
+    patch.push_str(name).expect(rt, "memory");
+    patch.push_str("\":[\"").expect(rt, "memory");
+    for _ in 1..count {
+        patch.push_str(text).expect(rt, "memory");
+        patch.push_str("\",\"").expect(rt, "memory");
+    }
+    patch.push_str(text).expect(rt, "memory");
+    patch.push_str("\"]}").expect(rt, "memory");
+    patch
+}
+
+#[test]
+fn the_limits_at_their_edges(rt: HostRuntime) {
+    let alloc = rt.alloc();
+    for (name, text, count, want) in [
+        ("displayedAttributes", "a", 65_535, "none"),
+        (
+            "displayedAttributes",
+            "a",
+            65_536,
+            "shape displayedAttributes",
+        ),
+        ("searchableAttributes", "a", 65_535, "none"),
+        (
+            "searchableAttributes",
+            "a",
+            65_536,
+            "shape searchableAttributes",
+        ),
+        ("filterableAttributes", "a", 65_536, "none"),
+        ("rankingRules", "words", 32, "none"),
+        ("rankingRules", "words", 33, "shape rankingRules"),
+        ("rankingRules", "x", 33, "shape rankingRules"),
+    ] {
+        let patch = long_list(&rt, alloc, name, text, count);
+        let shown = fault_of(&rt, alloc, patch.as_str());
+        assert_eq!(rt; shown.as_str(), want, "{count} of {name}");
+    }
+    assert_faults(
+        &rt,
+        alloc,
+        &[
+            ("{\"faceting\":{\"maxValuesPerFacet\":1000000}}", "none"),
+            (
+                "{\"faceting\":{\"maxValuesPerFacet\":1000001}}",
+                "shape faceting.maxValuesPerFacet",
+            ),
+            ("{\"pagination\":{\"maxTotalHits\":0}}", "none"),
+            (
+                "{\"pagination\":{\"maxTotalHits\":1000001}}",
+                "shape pagination.maxTotalHits",
+            ),
+            (
+                "{\"pagination\":{\"maxTotalHits\":18446744073709551616}}",
+                "shape pagination.maxTotalHits",
+            ),
+        ],
+    );
+}
+
+fn rule_shown(rt: &impl Abort, alloc: Global, text: &str) -> String {
+    let shown = match &ranking_rule(alloc, text).expect(rt, "memory") {
+        Some(RankingRule::Words) => String::from_str(alloc, "words"),
+        Some(RankingRule::Typo) => String::from_str(alloc, "typo"),
+        Some(RankingRule::Proximity) => String::from_str(alloc, "proximity"),
+        Some(RankingRule::Attribute) => String::from_str(alloc, "attribute"),
+        Some(RankingRule::Sort) => String::from_str(alloc, "sort"),
+        Some(RankingRule::Exactness) => String::from_str(alloc, "exactness"),
+        Some(RankingRule::Up { attribute }) => format!(in alloc; "up {}", attribute.as_str()),
+        Some(RankingRule::Down { attribute }) => format!(in alloc; "down {}", attribute.as_str()),
+        None => String::from_str(alloc, "none"),
+    };
+    shown.expect(rt, "memory")
+}
+
+#[test]
+fn texts_that_name_rules(rt: HostRuntime) {
+    let alloc = rt.alloc();
+    for (text, want) in [
+        ("words", "words"),
+        ("exactness", "exactness"),
+        ("year:asc", "up year"),
+        ("year:desc", "down year"),
+        ("a:b:asc", "up a:b"),
+        ("a:desc:asc", "up a:desc"),
+        ("::desc", "down :"),
+        ("words:asc", "up words"),
+        (":asc", "none"),
+        ("asc", "none"),
+        ("year:ASC", "none"),
+        ("year:asc ", "none"),
+        ("Words", "none"),
+        ("", "none"),
+    ] {
+        assert_eq!(rt; rule_shown(&rt, alloc, text).as_str(), want, "at {text}");
+    }
+}
+
+#[test]
+fn ranks_of_paths(rt: HostRuntime) {
+    let alloc = rt.alloc();
+    let every = patched(
+        &rt,
+        alloc,
+        &defaults(&rt, alloc),
+        "{\"searchableAttributes\":[\"a\",\"*\"]}",
+    );
+    assert_eq!(rt; rank_of(&every, "a", 7), Some(7));
+    let some = patched(
+        &rt,
+        alloc,
+        &every,
+        "{\"searchableAttributes\":[\"a.b\",\"a\",\"a.b.c\",\"\"]}",
+    );
+    for (path, want) in [
+        ("a.b.c", Some(0)),
+        ("a.b", Some(0)),
+        ("a.bc", Some(1)),
+        ("a", Some(1)),
+        ("ab", None),
+        ("", Some(3)),
+        (".a", Some(3)),
+    ] {
+        assert_eq!(rt; rank_of(&some, path, 7), want, "at {path}");
+        assert_eq!(rt;
+            is_covered(some.searchable_attributes(), path),
+            want.is_some(),
+            "at {path}"
+        );
+    }
+}
+
+#[test]
+fn hits_show_members_whole(rt: HostRuntime) -> Result<(), Fail> {
+    let alloc = rt.alloc();
+    let old = defaults(&rt, alloc);
+    assert!(rt; is_displayed(&old, "a"));
+    let some = patched(
+        &rt,
+        alloc,
+        &old,
+        "{\"displayedAttributes\":[\"a.b\",\"c\"]}",
+    );
+    assert!(rt; is_displayed(&some, "c"));
+    assert!(rt; is_displayed(&some, "a.b"));
+    assert!(rt; !is_displayed(&some, "a"));
+    assert!(rt; !is_displayed(&some, "c.d"));
+    let word = Word::new(alloc, "c")?;
+    assert!(rt; is_covered(&[word], "c.d"));
+    Ok(())
+}
