@@ -1,0 +1,4 @@
+mod Loop
+mod Texts
+mod Found
+mod Again
