@@ -11,7 +11,7 @@ use search_base::{NoMemory, Word};
 use serde_json::Value;
 use std::alloc::Global;
 
-/// The bytes of a change, from which `decode_change` gives it back.
+/// The bytes that spell a change. `decode_change` decodes a spelling of each change that it allows.
 ///
 /// A text or a list of 2^32 bytes, documents or more counts as one for which there is no memory.
 pub fn encode_change(alloc: Global, change: &Change) -> Result<Vec<u8>, NoMemory>
