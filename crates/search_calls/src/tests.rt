@@ -2,13 +2,93 @@ use crate::{Call, ReadCall, Refusal, read_call, refusal_reply};
 use doc_values::ChangeKind;
 use http_wire::{Reply, Wire};
 use search_base::Word;
-use std::alloc::Global;
+use std::alloc::{AllocError, Global};
 use std::process::Abort;
+use std::str;
 use std::test::Fail;
 
-// A request's method, target and body, with the status, the code and the message of its refusal.
-#[derive(Clone, Copy)]
-struct Row<'a>(&'a str, &'a str, &'a str, u16, &'a str, &'a str);
+const DOCUMENTS: &str = "/indexes/m/documents";
+
+const BATCH: &str = "/indexes/m/documents/delete-batch";
+
+const SEARCH: &str = "/indexes/m/search";
+
+// A method, a target, a body, and what that asks for.
+const ROUTES: &str = r#"GET~/health~x~health
+POST~/indexes~{"uid":"m","primaryKey":null}~create
+POST~/indexes~{"primaryKey":"k","uid":"m"}~create with a key
+GET~/indexes?limit=007&offset=18446744073709551615~~indexes
+GET~/indexes/m?~~index
+DELETE~/indexes/m~~drop
+POST~/indexes/m/documents~{"id":1}~replace
+PUT~/indexes/m/documents?primaryKey=%69d~[]~update
+GET~/indexes/m/documents?fields=a&limit=1~~documents
+DELETE~/indexes/m/documents~~clear
+GET~/indexes/m/documents/a%20b?fields=id~~document
+DELETE~/indexes/m/documents/a.b~~remove
+GET~/indexes/m/documents/delete-batch~~document
+DELETE~/indexes/m/documents/delete-batch~~remove
+POST~/indexes/m/documents/delete-batch~[]~remove
+POST~/indexes/m/search~~search"#;
+
+// A method, a target, a body, and the status, the code and the message of its refusal.
+const NO_ROUTES: &str = r#"GET~/nothing~~404~not_found~No such route.
+GET~health~~404~not_found~No such route.
+GET~/health/~~404~not_found~No such route.
+GET~//health~~404~not_found~No such route.
+GET~/indexes/~~404~not_found~No such route.
+GET~/indexes//documents~~404~not_found~No such route.
+GET~/indexes/m/documents/~~404~not_found~No such route.
+GET~/indexes/m/documents/1/~~404~not_found~No such route.
+GET~/indexes/m/settings~~404~not_found~No such route.
+PATCH~/indexes//search?x~~404~not_found~No such route.
+POST~/health~~405~method_not_allowed~Method not allowed.
+get~/health~~405~method_not_allowed~Method not allowed.
+PUT~/indexes~~405~method_not_allowed~Method not allowed.
+PATCH~/indexes/m~~405~method_not_allowed~Method not allowed.
+PUT~/indexes/m/documents/delete-batch~~405~method_not_allowed~Method not allowed.
+POST~/indexes/m/documents/7~~405~method_not_allowed~Method not allowed.
+GET~/indexes/m/search~~405~method_not_allowed~Method not allowed.
+PATCH~/indexes/a.b/search?x~~405~method_not_allowed~Method not allowed."#;
+
+const BAD_UIDS: &str = r#"GET~/indexes/a.b~~400~invalid_index_uid~Invalid index uid.
+POST~/indexes/a.b/search?x~{~400~invalid_index_uid~Invalid index uid.
+POST~/indexes~{"uid":"a b"}~400~invalid_index_uid~Invalid index uid.
+POST~/indexes~{"uid":null}~400~invalid_index_uid~Invalid index uid.
+POST~/indexes~{"uid":5,"zz":5}~400~invalid_index_uid~Invalid index uid."#;
+
+const BAD_QUERIES: &str = r#"GET~/health?x=1~{~400~bad_request~Unknown or malformed `x`.
+POST~/indexes/m/search?q=x~{~400~bad_request~Unknown or malformed `q`.
+POST~/indexes/m/search?y&x&y~{~400~bad_request~Unknown or malformed `x`.
+GET~/indexes?limit=18446744073709551616~{~400~bad_request~Unknown or malformed `limit`.
+GET~/indexes?limit=%2B1~{~400~bad_request~Unknown or malformed `limit`.
+GET~/indexes?limit=~{~400~bad_request~Unknown or malformed `limit`.
+GET~/indexes?limit=x&limit=1&offset=y~{~400~bad_request~Unknown or malformed `offset`.
+GET~/indexes/m/documents?fields&offset=-1~{~400~bad_request~Unknown or malformed `offset`.
+PUT~/indexes/m/documents?primaryKey=~{~400~bad_request~Unknown or malformed `primaryKey`."#;
+
+const BAD_BODIES: &str = r#"POST~/indexes~~400~malformed_payload~The body is not JSON.
+POST~/indexes/m/documents~~400~malformed_payload~The body is not JSON.
+POST~/indexes/m/documents~5~400~malformed_payload~The body is not a list.
+POST~/indexes/m/documents~[{},1]~400~malformed_payload~Document 2 is not an object.
+POST~/indexes/m/documents~[1,{"t":1.5}]~400~malformed_payload~Document 1 is not an object.
+POST~/indexes/m/documents~[{"id":6},{"id":5,"year":1.0}]~400~number_not_whole~Document 2 has a number at `year` that is not whole.
+POST~/indexes/m/documents/delete-batch~{}~400~malformed_payload~The body is not a list.
+POST~/indexes/m/documents/delete-batch~[1,1.5]~400~invalid_document_id~Id 2 is invalid.
+POST~/indexes/m/documents/delete-batch~["",[]]~400~invalid_document_id~Id 1 is invalid.
+POST~/indexes~{"primaryKey":"k"}~400~missing_index_uid~The uid is missing.
+POST~/indexes~[]~400~bad_request~Unknown or malformed `body`.
+POST~/indexes~{"zz":5}~400~bad_request~Unknown or malformed `zz`.
+POST~/indexes~{"primaryKey":"","uid":5}~400~bad_request~Unknown or malformed `primaryKey`."#;
+
+const BAD_SEARCHES: &str = r#"POST~/indexes/m/search~{~400~malformed_payload~The body is not JSON.
+POST~/indexes/m/search~[]~400~bad_request~Unknown or malformed `body`.
+POST~/indexes/m/search~{"zz":1,"a":1}~400~bad_request~Unknown or malformed `a`.
+POST~/indexes/m/search~{"filter":null}~501~not_built~Not built: `filter`.
+POST~/indexes/m/search~{"q":5}~501~not_built~Not built: `q`.
+POST~/indexes/m/search~{"q":"a\u0022"}~501~not_built~Not built: `q`.
+POST~/indexes/m/search~{"limit":-1}~501~not_built~Not built: `limit`.
+POST~/indexes/m/search~{"limit":18446744073709551616}~501~not_built~Not built: `limit`."#;
 
 fn call_of(alloc: Global, method: &str, target: &str, body: &str) -> Result<Call, Fail> {
     let wire = Wire {
@@ -20,26 +100,42 @@ fn call_of(alloc: Global, method: &str, target: &str, body: &str) -> Result<Call
     Ok(read_call(alloc, &wire)?)
 }
 
-fn refuses(rt: &impl Abort, alloc: Global, row: &Row) -> Result<(), Fail> {
-    let Row(method, target, body, status, code, message) = row;
-    let wanted = format!(in alloc;
-        "{{\"code\":\"{code}\",\"message\":\"{message}\",\"type\":\"invalid_request\"}}"
-    )?;
-    match &call_of(alloc, method, target, body)? {
-        Call::Refused(
-            Reply::Made {
-                status: found,
-                body: text,
-                ..
-            },
-        ) => {
-            assert!(rt;
-                text.as_slice() == wanted.as_bytes(),
-                "{method} {target} {body}"
-            );
-            assert_eq!(rt; found, status, "{method} {target}");
+// The status and the body of a refusal, and of any other call what it asks for.
+fn answer_of(alloc: Global, call: &Call) -> Result<String, AllocError> {
+    match call {
+        Call::Refused(Reply::Made { status, body, .. }) => {
+            let text = str::from_utf8(body).unwrap_or("no text");
+            format!(in alloc; "{status} {text}")
         }
-        _ => assert!(rt; false, "not refused: {method} {target} {body}"),
+        _ => kind_of(call).to_string(alloc),
+    }
+}
+
+fn refusal(alloc: Global, status: &str, code: &str, message: &str) -> Result<String, AllocError> {
+    format!(in alloc;
+        "{status} {{\"code\":\"{code}\",\"message\":\"{message}\",\"type\":\"invalid_request\"}}"
+    )
+}
+
+// A row of a table, whose parts stand between `~`.
+fn check_row(rt: &impl Abort, alloc: Global, row: &str) -> Result<(), Fail> {
+    let mut parts = row.split('~');
+    let method = parts.next().unwrap_or("");
+    let target = parts.next().unwrap_or("");
+    let body = parts.next().unwrap_or("");
+    let first = parts.next().unwrap_or("");
+    let wanted = match (parts.next(), parts.next()) {
+        (Some(code), Some(message)) => refusal(alloc, first, code, message)?,
+        _ => first.to_string(alloc)?,
+    };
+    let found = answer_of(alloc, &call_of(alloc, method, target, body)?)?;
+    assert!(rt; found == wanted, "{row}: {found}");
+    Ok(())
+}
+
+fn check_table(rt: &impl Abort, alloc: Global, table: &str) -> Result<(), Fail> {
+    for row in table.lines() {
+        check_row(rt, alloc, row)?;
     }
     Ok(())
 }
@@ -69,59 +165,32 @@ fn kind_of(call: &Call) -> &'static str {
 
 #[test]
 fn each_route_once(rt: HostRuntime) -> Result<(), Fail> {
-    let alloc = rt.alloc();
-    for (method, target, body, wanted) in [
-        ("GET", "/health", "x", "health"),
-        (
-            "POST",
-            "/indexes",
-            "{\"uid\":\"m\",\"primaryKey\":null}",
-            "create",
-        ),
-        (
-            "POST",
-            "/indexes",
-            "{\"primaryKey\":\"k\",\"uid\":\"m\"}",
-            "create with a key",
-        ),
-        (
-            "GET",
-            "/indexes?limit=007&offset=18446744073709551615",
-            "",
-            "indexes",
-        ),
-        ("GET", "/indexes/m?", "", "index"),
-        ("DELETE", "/indexes/m", "", "drop"),
-        ("POST", DOCUMENTS, "{\"id\":1}", "replace"),
-        (
-            "PUT",
-            "/indexes/m/documents?primaryKey=%69d",
-            "[]",
-            "update",
-        ),
-        (
-            "GET",
-            "/indexes/m/documents?fields=a&limit=1",
-            "",
-            "documents",
-        ),
-        ("DELETE", DOCUMENTS, "", "clear"),
-        (
-            "GET",
-            "/indexes/m/documents/a%20b?fields=id",
-            "",
-            "document",
-        ),
-        ("DELETE", "/indexes/m/documents/a.b", "", "remove"),
-        ("GET", BATCH, "", "document"),
-        ("DELETE", BATCH, "", "remove"),
-        ("POST", BATCH, "[]", "remove"),
-        ("POST", SEARCH, "", "search"),
-    ] {
-        let call = call_of(alloc, method, target, body)?;
-        assert_eq!(rt; kind_of(&call), wanted, "{method} {target}");
-    }
-    Ok(())
+    check_table(&rt, rt.alloc(), ROUTES)
+}
+
+#[test]
+fn paths_and_methods_that_are_none(rt: HostRuntime) -> Result<(), Fail> {
+    check_table(&rt, rt.alloc(), NO_ROUTES)
+}
+
+#[test]
+fn faults_of_uids(rt: HostRuntime) -> Result<(), Fail> {
+    check_table(&rt, rt.alloc(), BAD_UIDS)
+}
+
+#[test]
+fn faults_of_query_strings(rt: HostRuntime) -> Result<(), Fail> {
+    check_table(&rt, rt.alloc(), BAD_QUERIES)
+}
+
+#[test]
+fn faults_of_bodies(rt: HostRuntime) -> Result<(), Fail> {
+    check_table(&rt, rt.alloc(), BAD_BODIES)
+}
+
+#[test]
+fn faults_of_searches(rt: HostRuntime) -> Result<(), Fail> {
+    check_table(&rt, rt.alloc(), BAD_SEARCHES)
 }
 
 #[test]
@@ -169,275 +238,17 @@ fn what_calls_say(rt: HostRuntime) -> Result<(), Fail> {
     Ok(())
 }
 
-const DOCUMENTS: &str = "/indexes/m/documents";
-
-const BATCH: &str = "/indexes/m/documents/delete-batch";
-
-const SEARCH: &str = "/indexes/m/search";
-
-fn no_route<'a>(method: &'a str, target: &'a str) -> Row<'a> {
-    Row(method, target, "", 404, "not_found", "No such route.")
-}
-
-fn not_allowed<'a>(method: &'a str, target: &'a str) -> Row<'a> {
-    Row(
-        method,
-        target,
-        "",
-        405,
-        "method_not_allowed",
-        "Method not allowed.",
-    )
-}
-
-fn bad_uid<'a>(method: &'a str, target: &'a str, body: &'a str) -> Row<'a> {
-    Row(
-        method,
-        target,
-        body,
-        400,
-        "invalid_index_uid",
-        "Invalid index uid.",
-    )
-}
-
-fn malformed<'a>(method: &'a str, target: &'a str, body: &'a str, message: &'a str) -> Row<'a> {
-    Row(method, target, body, 400, "malformed_payload", message)
-}
-
-#[test]
-fn paths_and_methods_that_are_none(rt: HostRuntime) -> Result<(), Fail> {
-    let alloc = rt.alloc();
-    for (method, target) in [
-        ("GET", "/nothing"),
-        ("GET", "health"),
-        ("GET", "/health/"),
-        ("GET", "//health"),
-        ("GET", "/indexes/"),
-        ("GET", "/indexes//documents"),
-        ("GET", "/indexes/m/documents/"),
-        ("GET", "/indexes/m/documents/1/"),
-        ("GET", "/indexes/m/settings"),
-        ("PATCH", "/indexes//search?x"),
-    ] {
-        refuses(&rt, alloc, &no_route(method, target))?;
-    }
-    for (method, target) in [
-        ("POST", "/health"),
-        ("get", "/health"),
-        ("PUT", "/indexes"),
-        ("PATCH", "/indexes/m"),
-        ("PUT", BATCH),
-        ("POST", "/indexes/m/documents/7"),
-        ("GET", SEARCH),
-        ("PATCH", "/indexes/a.b/search?x"),
-    ] {
-        refuses(&rt, alloc, &not_allowed(method, target))?;
-    }
-    Ok(())
-}
-
-#[test]
-fn faults_of_uids(rt: HostRuntime) -> Result<(), Fail> {
-    let alloc = rt.alloc();
-    for (method, target, body) in [
-        ("GET", "/indexes/a.b", ""),
-        ("POST", "/indexes/a.b/search?x", "{"),
-        ("POST", "/indexes", "{\"uid\":\"a b\"}"),
-        ("POST", "/indexes", "{\"uid\":null}"),
-        ("POST", "/indexes", "{\"uid\":5,\"zz\":5}"),
-    ] {
-        refuses(&rt, alloc, &bad_uid(method, target, body))?;
-    }
-    Ok(())
-}
-
-#[test]
-fn faults_of_query_strings(rt: HostRuntime) -> Result<(), Fail> {
-    let alloc = rt.alloc();
-    for (method, target, message) in [
-        ("GET", "/health?x=1", "Unknown or malformed `x`."),
-        ("POST", "/indexes/m/search?q=x", "Unknown or malformed `q`."),
-        (
-            "POST",
-            "/indexes/m/search?y&x&y",
-            "Unknown or malformed `x`.",
-        ),
-        (
-            "GET",
-            "/indexes?limit=18446744073709551616",
-            "Unknown or malformed `limit`.",
-        ),
-        (
-            "GET",
-            "/indexes?limit=%2B1",
-            "Unknown or malformed `limit`.",
-        ),
-        ("GET", "/indexes?limit=", "Unknown or malformed `limit`."),
-        (
-            "GET",
-            "/indexes?limit=x&limit=1&offset=y",
-            "Unknown or malformed `offset`.",
-        ),
-        (
-            "GET",
-            "/indexes/m/documents?fields&offset=-1",
-            "Unknown or malformed `offset`.",
-        ),
-        (
-            "PUT",
-            "/indexes/m/documents?primaryKey=",
-            "Unknown or malformed `primaryKey`.",
-        ),
-    ] {
-        refuses(
-            &rt,
-            alloc,
-            &Row(method, target, "{", 400, "bad_request", message),
-        )?;
-    }
-    Ok(())
-}
-
-#[test]
-fn faults_of_bodies(rt: HostRuntime) -> Result<(), Fail> {
-    let alloc = rt.alloc();
-    for (target, body, status, code, message) in [
-        (
-            "/indexes",
-            "",
-            400,
-            "malformed_payload",
-            "The body is not JSON.",
-        ),
-        (
-            DOCUMENTS,
-            "",
-            400,
-            "malformed_payload",
-            "The body is not JSON.",
-        ),
-        (
-            DOCUMENTS,
-            "5",
-            400,
-            "malformed_payload",
-            "The body is not a list.",
-        ),
-        (
-            DOCUMENTS,
-            "[{},1]",
-            400,
-            "malformed_payload",
-            "Document 2 is not an object.",
-        ),
-        (
-            DOCUMENTS,
-            "[1,{\"t\":1.5}]",
-            400,
-            "malformed_payload",
-            "Document 1 is not an object.",
-        ),
-        (
-            DOCUMENTS,
-            "[{\"id\":6},{\"id\":5,\"year\":1.0}]",
-            400,
-            "number_not_whole",
-            "Document 2 has a number at `year` that is not whole.",
-        ),
-        (
-            BATCH,
-            "{}",
-            400,
-            "malformed_payload",
-            "The body is not a list.",
-        ),
-        (
-            BATCH,
-            "[1,1.5]",
-            400,
-            "invalid_document_id",
-            "Id 2 is invalid.",
-        ),
-        (
-            BATCH,
-            "[\"\",[]]",
-            400,
-            "invalid_document_id",
-            "Id 1 is invalid.",
-        ),
-        (
-            "/indexes",
-            "{\"primaryKey\":\"k\"}",
-            400,
-            "missing_index_uid",
-            "The uid is missing.",
-        ),
-        (
-            "/indexes",
-            "[]",
-            400,
-            "bad_request",
-            "Unknown or malformed `body`.",
-        ),
-        (
-            "/indexes",
-            "{\"zz\":5}",
-            400,
-            "bad_request",
-            "Unknown or malformed `zz`.",
-        ),
-        (
-            "/indexes",
-            "{\"primaryKey\":\"\",\"uid\":5}",
-            400,
-            "bad_request",
-            "Unknown or malformed `primaryKey`.",
-        ),
-    ] {
-        refuses(
-            &rt,
-            alloc,
-            &Row("POST", target, body, status, code, message),
-        )?;
-    }
-    Ok(())
-}
-
-#[test]
-fn faults_of_searches(rt: HostRuntime) -> Result<(), Fail> {
-    let alloc = rt.alloc();
-    for (body, status, code, message) in [
-        ("{", 400, "malformed_payload", "The body is not JSON."),
-        ("[]", 400, "bad_request", "Unknown or malformed `body`."),
-        (
-            "{\"zz\":1,\"a\":1}",
-            400,
-            "bad_request",
-            "Unknown or malformed `a`.",
-        ),
-        (
-            "{\"filter\":null}",
-            501,
-            "not_built",
-            "Not built: `filter`.",
-        ),
-        ("{\"q\":5}", 501, "not_built", "Not built: `q`."),
-        ("{\"q\":\"a\\u0022\"}", 501, "not_built", "Not built: `q`."),
-        ("{\"limit\":-1}", 501, "not_built", "Not built: `limit`."),
-        (
-            "{\"limit\":18446744073709551616}",
-            501,
-            "not_built",
-            "Not built: `limit`.",
-        ),
-    ] {
-        refuses(
-            &rt,
-            alloc,
-            &Row("POST", SEARCH, body, status, code, message),
-        )?;
-    }
+// A call, and what it asks for or why it is refused.
+fn check(
+    rt: &impl Abort,
+    alloc: Global,
+    method: &str,
+    target: &str,
+    body: &str,
+    wanted: &str,
+) -> Result<(), Fail> {
+    let found = answer_of(alloc, &call_of(alloc, method, target, body)?)?;
+    assert!(rt; found.as_str() == wanted, "{found}");
     Ok(())
 }
 
@@ -445,36 +256,17 @@ fn faults_of_searches(rt: HostRuntime) -> Result<(), Fail> {
 fn ids_and_uids_at_their_limits(rt: HostRuntime) -> Result<(), Fail> {
     let alloc = rt.alloc();
     let uid = "a".repeat(alloc, 400)?;
-    let call = call_of(
-        alloc,
-        "GET",
-        format!(in alloc; "/indexes/{uid}")?.as_str(),
-        "",
-    )?;
-    assert_eq!(rt; kind_of(&call), "index");
-    let longer = format!(in alloc; "/indexes/{uid}b")?;
-    refuses(&rt, alloc, &bad_uid("GET", longer.as_str(), ""))?;
+    let target = format!(in alloc; "/indexes/{uid}")?;
+    check(&rt, alloc, "GET", &target, "", "index")?;
+    let target = format!(in alloc; "/indexes/{uid}b")?;
+    let wanted = refusal(alloc, "400", "invalid_index_uid", "Invalid index uid.")?;
+    check(&rt, alloc, "GET", &target, "", &wanted)?;
     let id = "a".repeat(alloc, 511)?;
-    let call = call_of(
-        alloc,
-        "POST",
-        BATCH,
-        format!(in alloc; "[\"{id}\"]")?.as_str(),
-    )?;
-    assert_eq!(rt; kind_of(&call), "remove");
-    let longer = format!(in alloc; "[\"{id}b\"]")?;
-    refuses(
-        &rt,
-        alloc,
-        &Row(
-            "POST",
-            BATCH,
-            longer.as_str(),
-            400,
-            "invalid_document_id",
-            "Id 1 is invalid.",
-        ),
-    )
+    let body = format!(in alloc; "[\"{id}\"]")?;
+    check(&rt, alloc, "POST", BATCH, &body, "remove")?;
+    let body = format!(in alloc; "[\"{id}b\"]")?;
+    let wanted = refusal(alloc, "400", "invalid_document_id", "Id 1 is invalid.")?;
+    check(&rt, alloc, "POST", BATCH, &body, &wanted)
 }
 
 #[test]
@@ -482,22 +274,12 @@ fn bodies_nest_127_deep(rt: HostRuntime) -> Result<(), Fail> {
     let alloc = rt.alloc();
     let (open, close) = ("[".repeat(alloc, 127)?, "]".repeat(alloc, 127)?);
     let deep = format!(in alloc; "{open}{close}")?;
-    refuses(
-        &rt,
-        alloc,
-        &malformed(
-            "POST",
-            DOCUMENTS,
-            deep.as_str(),
-            "Document 1 is not an object.",
-        ),
-    )?;
+    let message = "Document 1 is not an object.";
+    let wanted = refusal(alloc, "400", "malformed_payload", message)?;
+    check(&rt, alloc, "POST", DOCUMENTS, &deep, &wanted)?;
     let deeper = format!(in alloc; "[{deep}]")?;
-    refuses(
-        &rt,
-        alloc,
-        &malformed("POST", DOCUMENTS, deeper.as_str(), "The body is not JSON."),
-    )
+    let wanted = refusal(alloc, "400", "malformed_payload", "The body is not JSON.")?;
+    check(&rt, alloc, "POST", DOCUMENTS, &deeper, &wanted)
 }
 
 #[test]
