@@ -1,18 +1,17 @@
 -- A path is a place of the routes where its text, with `_` for each name, is one of the patterns.
-use Rattle.std.proofs.Common.{◌≡◌, ◌≢◌, ℕ, ◌<◌, ◌≤◌, zero, suc, ◌⊎◌, inl, inr, ⊎_elim, false, true, Bool, ◌&&◌, ◌==◌, not, cond, List, [], ◌∷◌, ◌++◌, append-nil, length, map, filter, get_or, Bor, Option, Some, None, codes, refl, sym, ap, ◌∙◌, subst, arith}
+use Rattle.std.proofs.Common.{◌≡◌, ◌≢◌, ℕ, ◌<◌, ◌⊎◌, inl, inr, ⊎_elim, false, true, Bool, ◌&&◌, not, cond, List, [], ◌∷◌, ◌++◌, append-nil, length, get_or, Bor, Option, Some, None, codes, refl, sym, ap, ◌∙◌, subst, arith}
 use Rattle.std.specs.List.{flat_map, join_by}
-use Rattle.std.specs.Prelude.{nat_lt, MatchOption}
+use Rattle.std.specs.Prelude.{nat_lt}
 use Rattle.std.specs.Str.{bytes_eq}
 use Rattle.std.proofs.lemmas.Bool.{true≢false, cases_eq}
 use Rattle.std.proofs.lemmas.Slice.Eq.{bytes_eq-Decides}
 use Rattle.form_urlencoded.specs.Form.{split, onto_first}
-use Rattle.search_calls.specs.declared.path.Place.{Place}
 use Rattle.search_calls.specs.declared.pattern.Pattern.{Pattern}
 use Rattle.search_calls.specs.declared.pattern.Pattern.TheVariants.{Health, Indexes, Index, Documents, Document, DeleteBatch, Search}
-use Rattle.search_calls.specs.Routes.{Part, text, any_uid, any_id, health, indexes, index, of_index, of_documents, agrees, is_part, parts_of}
+use Rattle.search_calls.specs.Routes.{Part, text, any_id, health, indexes, index, of_index, of_documents, agrees, is_part, parts_of}
 use Rattle.search_calls.specs.Held.{IsAt, HasNoPlace, in_documents}
 use Rattle.search_calls.specs.Masked.{joined, masked, masked_uid, masked_id, is_batch, pattern_parts, pattern_of, named_place}
-use Rattle.search_calls.proofs.Rows.{Agreement, rows_of}
+use Rattle.search_calls.proofs.Rows.{rows_of}
 use Rattle.search_calls.proofs.Paths.{nows, same, and_true, lt_test, some_batch, two_parts, three_parts, four_parts, five_parts}
 use Rattle.search_calls.proofs.Splits.{split_same, split_other}
 

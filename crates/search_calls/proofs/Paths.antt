@@ -1,6 +1,6 @@
 -- What a path is, by its parts, and which routes it has.
-use Rattle.std.proofs.Common.{◌≡◌, ◌≢◌, ℕ, ◌<◌, ◌≤◌, zero, suc, ◌⊎◌, inl, inr, false, true, Bool, ◌&&◌, List, [], ◌∷◌, length, map, filter, get_or, Bor, Option, Some, None, Result, Ok, Err, codes, refl, sym, ap, ◌∙◌, subst, arith}
-use Rattle.std.specs.Prelude.{nat_lt, MatchOption}
+use Rattle.std.proofs.Common.{◌≡◌, ◌≢◌, ℕ, ◌<◌, ◌≤◌, zero, suc, ◌⊎◌, inl, inr, false, true, Bool, ◌&&◌, List, [], ◌∷◌, length, map, filter, get_or, Bor, Some, Ok, Err, codes, refl, sym, ap, ◌∙◌, subst, arith}
+use Rattle.std.specs.Prelude.{nat_lt}
 use Rattle.std.specs.Map.{lookup}
 use Rattle.std.specs.Str.{bytes_eq}
 use Rattle.std.proofs.lemmas.Slice.Eq.{bytes_eq-Decides}
@@ -14,7 +14,7 @@ use Rattle.search_calls.specs.declared.routes.Route.{Route}
 use Rattle.search_calls.specs.declared.routes.Route.TheVariants.{Health, CreateIndex, ListIndexes, ShowIndex, DropIndex, AddDocuments, UpdateDocuments, ListDocuments, ClearDocuments, ShowDocument, RemoveDocument, RemoveDocuments, Search}
 use Rattle.search_calls.specs.Trying.{◌>>=◌}
 use Rattle.search_calls.specs.Laws.{fits}
-use Rattle.search_calls.specs.Routes.{Part, text, any_id, Row, row, routes, health, indexes, index, of_index, of_documents, agrees, is_part, has_path, parts_of, uid_in, id_in, Found, with_method, route_of}
+use Rattle.search_calls.specs.Routes.{Part, text, any_id, row, routes, health, indexes, index, of_index, of_documents, agrees, is_part, has_path, parts_of, uid_in, id_in, with_method, route_of}
 use Rattle.search_calls.specs.Held.{IsAt, HasNoPlace, in_documents, uid_of, id_of, methods}
 use Rattle.search_calls.proofs.Rows.{keep, marked, Agreement, rows_of, outcome, found_of, rows_at, found_rows, found_before, are_distinct, at_most_one, filter_both}
 

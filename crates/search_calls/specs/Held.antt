@@ -1,5 +1,5 @@
 -- What the code holds of a request, as the definitions have it.
-use Rattle.std.specs.Prelude.{◌≡◌, ◌<◌, nat_lt, Bool, ℕ, List, [], ◌∷◌, length, false, ◌&&◌, filter, codes, Option}
+use Rattle.std.specs.Prelude.{◌≡◌, ◌<◌, ℕ, List, [], ◌∷◌, length, false, ◌&&◌, filter, codes, Option}
 use Rattle.std.specs.Str.{bytes_eq}
 use Rattle.search_calls.specs.declared.routes.Found.{Found as HeldRoute}
 use Rattle.search_calls.specs.declared.query.Pair.{Pair as HeldPair}

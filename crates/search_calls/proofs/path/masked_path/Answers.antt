@@ -1,7 +1,7 @@
-use Rattle.std.proofs.Common.{rules, ◌≡◌, ◌∷◌, [], ◌<◌, ◌⊎◌, length, map, get_or, sym, ap, ◌∙◌, subst, arith}
+use Rattle.std.proofs.Common.{rules, ◌<◌, ◌⊎◌, length, sym, ap, ◌∙◌, subst}
 use Rattle.std.proofs.lemmas.List.{length-map}
-use Rattle.search_calls.specs.Masked.{joined, masked}
-use Rattle.search_calls.proofs.Paths.{nows, three_parts, four_parts, five_parts}
+use Rattle.search_calls.specs.Masked.{joined}
+use Rattle.search_calls.proofs.Paths.{nows}
 use Rattle.search_calls.proofs.Masks.{text_of_parts, masked_other}
 use Rattle.search_calls.proofs.path.masked_path.Goals as goal
 

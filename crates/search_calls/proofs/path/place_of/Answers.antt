@@ -1,4 +1,4 @@
-use Rattle.std.proofs.Common.{◌≡◌, ◌∙◌, sym, ap, subst, map, get_or, [], Some, None}
+use Rattle.std.proofs.Common.{◌≡◌, ◌∙◌, sym, subst, Some, None}
 use Rattle.search_calls.specs.Held.{IsAt}
 use Rattle.search_calls.specs.Masked.{joined, masked, pattern_of}
 use Rattle.search_calls.specs.Routes.{parts_of}
