@@ -1,6 +1,6 @@
 -- What a path is, by its parts, and which routes it has.
-use Rattle.std.proofs.Common.{◌≡◌, ◌≢◌, ℕ, ◌<◌, ◌≤◌, zero, suc, ◌⊎◌, inl, inr, false, true, Bool, ◌&&◌, List, [], ◌∷◌, length, map, filter, get_or, Bor, Option, Some, None, Result, Ok, Err, codes, refl, sym, ap, ◌∙◌, subst, arith}
-use Rattle.std.specs.Prelude.{nat_lt, MatchOption}
+use Rattle.std.proofs.Common.{◌≡◌, ◌≢◌, ℕ, ◌<◌, ◌≤◌, zero, suc, ◌⊎◌, inl, inr, false, true, Bool, ◌&&◌, List, [], ◌∷◌, length, map, filter, get_or, Bor, Some, Ok, Err, codes, refl, sym, ap, ◌∙◌, subst, arith}
+use Rattle.std.specs.Prelude.{nat_lt}
 use Rattle.std.specs.Map.{lookup}
 use Rattle.std.specs.Str.{bytes_eq}
 use Rattle.std.proofs.lemmas.Slice.Eq.{bytes_eq-Decides}
@@ -14,8 +14,8 @@ use Rattle.search_calls.specs.declared.routes.Route.{Route}
 use Rattle.search_calls.specs.declared.routes.Route.TheVariants.{Health, CreateIndex, ListIndexes, ShowIndex, DropIndex, AddDocuments, UpdateDocuments, ListDocuments, ClearDocuments, ShowDocument, RemoveDocument, RemoveDocuments, Search}
 use Rattle.search_calls.specs.Trying.{◌>>=◌}
 use Rattle.search_calls.specs.Laws.{fits}
-use Rattle.search_calls.specs.Routes.{Part, text, any_id, Row, row, routes, health, indexes, index, of_index, of_documents, agrees, is_part, has_path, parts_of, uid_in, id_in, Found, with_method, route_of}
-use Rattle.search_calls.specs.Held.{IsAt, HasNoPlace, HasNoTop, HasNoIndex, HasNoneOfIndex, HasNoDocument, is_of_index, in_documents, uid_of, id_of, methods}
+use Rattle.search_calls.specs.Routes.{Part, text, any_id, row, routes, health, indexes, index, of_index, of_documents, agrees, is_part, has_path, parts_of, uid_in, id_in, with_method, route_of}
+use Rattle.search_calls.specs.Held.{IsAt, HasNoPlace, in_documents, uid_of, id_of, methods}
 use Rattle.search_calls.proofs.Rows.{keep, marked, Agreement, rows_of, outcome, found_of, rows_at, found_rows, found_before, are_distinct, at_most_one, filter_both}
 
 abbrev pub nows : List (Bor (List ℕ)) → List (List ℕ)
@@ -23,40 +23,20 @@ nows parts = map (λ part. part.now) parts
 
 -- ---- texts
 
-same : (a b : List ℕ) → true ≡ bytes_eq a b → a ≡ b
+pub same : (a b : List ℕ) → true ≡ bytes_eq a b → a ≡ b
 same a b is = (bytes_eq-Decides a b).0 (sym is)
 
 -- a text that is one is no other one
 apart : (a b c : List ℕ) → bytes_eq b c ≡ false → bytes_eq a b ≡ true → bytes_eq a c ≡ false
 apart a b c other is = rw ((bytes_eq-Decides a b).0 is) other
 
-and_true : (a b : Bool) → true ≡ (a && b) → (true ≡ a) × (true ≡ b)
+pub and_true : (a b : Bool) → true ≡ (a && b) → (true ≡ a) × (true ≡ b)
 and_true true b h = (refl, h)
 and_true false b h = absurd (true≢false h)
 
-lt_true : (n : ℕ) → true ≡ nat_lt 0 n → 0 < n
+pub lt_true : (n : ℕ) → true ≡ nat_lt 0 n → 0 < n
 lt_true zero h = absurd (true≢false h)
 lt_true (suc n) h = omega arith
-
-pub top_is : (root name lit : List ℕ) → true ≡ bytes_eq root [] → true ≡ bytes_eq name lit → root ∷ name ∷ [] ≡ [] ∷ lit ∷ []
-top_is root name lit r n = rw (same root [] r, same name lit n) refl
-
-pub of_index_is : (root first uid : List ℕ) → true ≡ is_of_index root first uid → (root ≡ []) × (first ≡ codes "indexes") × (0 < length uid)
-of_index_is root first uid h =
-    let p = and_true (bytes_eq root [] && bytes_eq first (codes "indexes")) _ h in
-    let q = and_true (bytes_eq root []) _ p.0 in
-    (same _ _ q.0, same _ _ q.1, lt_true _ p.1)
-
-pub index_is : (root first uid : List ℕ) → true ≡ is_of_index root first uid → (root ∷ first ∷ uid ∷ [] ≡ [] ∷ codes "indexes" ∷ uid ∷ []) × (0 < length uid)
-index_is root first uid h = let p = of_index_is root first uid h in (rw (p.0, p.1) refl, p.2)
-
-pub last_is : (root first uid name lit : List ℕ) → true ≡ is_of_index root first uid → true ≡ bytes_eq name lit
-    → (root ∷ first ∷ uid ∷ name ∷ [] ≡ [] ∷ codes "indexes" ∷ uid ∷ lit ∷ []) × (0 < length uid)
-last_is root first uid name lit h n = let p = of_index_is root first uid h in (rw (p.0, p.1, same name lit n) refl, p.2)
-
-pub document_is : (root first uid name id : List ℕ) → true ≡ is_of_index root first uid → true ≡ bytes_eq name (codes "documents")
-    → root ∷ first ∷ uid ∷ name ∷ id ∷ [] ≡ in_documents uid id
-document_is root first uid name id h n = let p = of_index_is root first uid h in rw (p.0, p.1, same name (codes "documents") n) refl
 
 -- ---- a path of another length is another path
 
@@ -66,99 +46,48 @@ other_length [] (x ∷ xs) other = refl
 other_length (p ∷ ps) [] other = refl
 other_length (p ∷ ps) (x ∷ xs) other = rw (other_length ps xs (λ e. other (ap suc e))) (and-false (is_part p x))
 
--- one test of two, with and without the end of the list
-and_unit : (p q : Bool) → (p && q) ≡ false → (p && (q && true)) ≡ false
-and_unit true true h = h
-and_unit true false h = refl
-and_unit false q h = refl
-
-and_units : (p q r s : Bool) → (p && q && r && s) ≡ false → (p && (q && (r && (s && true)))) ≡ false
-and_units true true true true h = h
-and_units true true true false h = refl
-and_units true true false s h = refl
-and_units true false r s h = refl
-and_units false q r s h = refl
-
-and_unit3 : (p q r : Bool) → (p && q && r) ≡ false → (p && (q && (r && true))) ≡ false
-and_unit3 true true true h = h
-and_unit3 true true false h = refl
-and_unit3 true false r h = refl
-and_unit3 false q r h = refl
-
-and_units5 : (p q r s t : Bool) → (p && q && r && s && t) ≡ false → (p && (q && (r && (s && (t && true))))) ≡ false
-and_units5 true true true true true h = h
-and_units5 true true true true false h = refl
-and_units5 true true true false t h = refl
-and_units5 true true false s t h = refl
-and_units5 true false r s t h = refl
-and_units5 false q r s t h = refl
-
--- the last test may be another one that fails with it
-and_weaker : (p q r s t w : Bool) → (w ≡ true → t ≡ true) → (p && (q && (r && (s && (t && true))))) ≡ false → (p && (q && (r && (s && (w && true))))) ≡ false
-and_weaker true true true true t true below h = absurd (true≢false (sym (ap (λ v. v && true) (below refl)) ∙ h))
-and_weaker true true true true t false below h = refl
-and_weaker true true true false t w below h = refl
-and_weaker true true false s t w below h = refl
-and_weaker true false r s t w below h = refl
-and_weaker false q r s t w below h = refl
-
-some_batch : (id : List ℕ) → bytes_eq id (codes "delete-batch") ≡ true → nat_lt 0 (length id) ≡ true
+pub some_batch : (id : List ℕ) → bytes_eq id (codes "delete-batch") ≡ true → nat_lt 0 (length id) ≡ true
 some_batch id is = rw ((bytes_eq-Decides id (codes "delete-batch")).0 is) refl
 
-lt_test : (xs : List ℕ) → 0 < length xs → nat_lt 0 (length xs) ≡ true
+pub lt_test : (xs : List ℕ) → 0 < length xs → nat_lt 0 (length xs) ≡ true
 lt_test xs h = grind (arith, nat_tests)
+
+-- ---- the parts of a list of so many
+
+pub two_parts : {A : Type 0} (d : A) (xs : List A) → length xs ≡ 2 → xs ≡ get_or xs 0 d ∷ get_or xs 1 d ∷ []
+two_parts d [] len = absurd (omega arith)
+two_parts d (a ∷ []) len = absurd (omega arith)
+two_parts d (a ∷ b ∷ []) len = refl
+two_parts d (a ∷ b ∷ u ∷ xs) len = absurd (omega arith)
+
+pub three_parts : {A : Type 0} (d : A) (xs : List A) → length xs ≡ 3 → xs ≡ get_or xs 0 d ∷ get_or xs 1 d ∷ get_or xs 2 d ∷ []
+three_parts d [] len = absurd (omega arith)
+three_parts d (a ∷ []) len = absurd (omega arith)
+three_parts d (a ∷ b ∷ []) len = absurd (omega arith)
+three_parts d (a ∷ b ∷ u ∷ []) len = refl
+three_parts d (a ∷ b ∷ u ∷ n ∷ xs) len = absurd (omega arith)
+
+pub four_parts : {A : Type 0} (d : A) (xs : List A) → length xs ≡ 4 → xs ≡ get_or xs 0 d ∷ get_or xs 1 d ∷ get_or xs 2 d ∷ get_or xs 3 d ∷ []
+four_parts d [] len = absurd (omega arith)
+four_parts d (a ∷ []) len = absurd (omega arith)
+four_parts d (a ∷ b ∷ []) len = absurd (omega arith)
+four_parts d (a ∷ b ∷ u ∷ []) len = absurd (omega arith)
+four_parts d (a ∷ b ∷ u ∷ n ∷ []) len = refl
+four_parts d (a ∷ b ∷ u ∷ n ∷ i ∷ xs) len = absurd (omega arith)
+
+pub five_parts : {A : Type 0} (d : A) (xs : List A) → length xs ≡ 5 → xs ≡ get_or xs 0 d ∷ get_or xs 1 d ∷ get_or xs 2 d ∷ get_or xs 3 d ∷ get_or xs 4 d ∷ []
+five_parts d [] len = absurd (omega arith)
+five_parts d (a ∷ []) len = absurd (omega arith)
+five_parts d (a ∷ b ∷ []) len = absurd (omega arith)
+five_parts d (a ∷ b ∷ u ∷ []) len = absurd (omega arith)
+five_parts d (a ∷ b ∷ u ∷ n ∷ []) len = absurd (omega arith)
+five_parts d (a ∷ b ∷ u ∷ n ∷ i ∷ []) len = refl
+five_parts d (a ∷ b ∷ u ∷ n ∷ i ∷ j ∷ xs) len = absurd (omega arith)
 
 -- ---- no route
 
 no_path : (parts : List (List ℕ)) → Agreement parts false false false false false false false → HasNoPlace parts
 no_path parts a = rows_of parts false false false false false false false a
-
-no_top : (root name : List ℕ) → HasNoTop root name → HasNoPlace (root ∷ name ∷ [])
-no_top root name (h, i) = no_path (root ∷ name ∷ []) (record {
-  health = and_unit (bytes_eq root []) (bytes_eq name (codes "health")) h;
-  indexes = and_unit (bytes_eq root []) (bytes_eq name (codes "indexes")) i;
-  index = other_length index (root ∷ name ∷ []) (λ e. absurd (omega (arith, e)));
-  documents = other_length (of_index (codes "documents")) (root ∷ name ∷ []) (λ e. absurd (omega (arith, e)));
-  document = other_length (of_documents any_id) (root ∷ name ∷ []) (λ e. absurd (omega (arith, e)));
-  batch = other_length (of_documents (text (codes "delete-batch"))) (root ∷ name ∷ []) (λ e. absurd (omega (arith, e)));
-  search = other_length (of_index (codes "search")) (root ∷ name ∷ []) (λ e. absurd (omega (arith, e)));
-})
-
-no_index : (root first uid : List ℕ) → HasNoIndex root first uid → HasNoPlace (root ∷ first ∷ uid ∷ [])
-no_index root first uid x = no_path (root ∷ first ∷ uid ∷ []) (record {
-  health = other_length health (root ∷ first ∷ uid ∷ []) (λ e. absurd (omega (arith, e)));
-  indexes = other_length indexes (root ∷ first ∷ uid ∷ []) (λ e. absurd (omega (arith, e)));
-  index = and_unit3 (bytes_eq root []) (bytes_eq first (codes "indexes")) (nat_lt 0 (length uid)) x;
-  documents = other_length (of_index (codes "documents")) (root ∷ first ∷ uid ∷ []) (λ e. absurd (omega (arith, e)));
-  document = other_length (of_documents any_id) (root ∷ first ∷ uid ∷ []) (λ e. absurd (omega (arith, e)));
-  batch = other_length (of_documents (text (codes "delete-batch"))) (root ∷ first ∷ uid ∷ []) (λ e. absurd (omega (arith, e)));
-  search = other_length (of_index (codes "search")) (root ∷ first ∷ uid ∷ []) (λ e. absurd (omega (arith, e)));
-})
-
-none_of_index : (root first uid name : List ℕ) → HasNoneOfIndex root first uid name → HasNoPlace (root ∷ first ∷ uid ∷ name ∷ [])
-none_of_index root first uid name (d, s) = no_path (root ∷ first ∷ uid ∷ name ∷ []) (record {
-  health = other_length health (root ∷ first ∷ uid ∷ name ∷ []) (λ e. absurd (omega (arith, e)));
-  indexes = other_length indexes (root ∷ first ∷ uid ∷ name ∷ []) (λ e. absurd (omega (arith, e)));
-  index = other_length index (root ∷ first ∷ uid ∷ name ∷ []) (λ e. absurd (omega (arith, e)));
-  documents = and_units (bytes_eq root []) (bytes_eq first (codes "indexes")) (nat_lt 0 (length uid)) (bytes_eq name (codes "documents")) d;
-  document = other_length (of_documents any_id) (root ∷ first ∷ uid ∷ name ∷ []) (λ e. absurd (omega (arith, e)));
-  batch = other_length (of_documents (text (codes "delete-batch"))) (root ∷ first ∷ uid ∷ name ∷ []) (λ e. absurd (omega (arith, e)));
-  search = and_units (bytes_eq root []) (bytes_eq first (codes "indexes")) (nat_lt 0 (length uid)) (bytes_eq name (codes "search")) s;
-})
-
-no_document : (root first uid name id : List ℕ) → HasNoDocument root first uid name id → HasNoPlace (root ∷ first ∷ uid ∷ name ∷ id ∷ [])
-no_document root first uid name id m =
-    let doc = and_units5 (bytes_eq root []) (bytes_eq first (codes "indexes")) (nat_lt 0 (length uid)) (bytes_eq name (codes "documents")) (nat_lt 0 (length id)) m in
-    no_path (root ∷ first ∷ uid ∷ name ∷ id ∷ []) (record {
-      health = other_length health (root ∷ first ∷ uid ∷ name ∷ id ∷ []) (λ e. absurd (omega (arith, e)));
-      indexes = other_length indexes (root ∷ first ∷ uid ∷ name ∷ id ∷ []) (λ e. absurd (omega (arith, e)));
-      index = other_length index (root ∷ first ∷ uid ∷ name ∷ id ∷ []) (λ e. absurd (omega (arith, e)));
-      documents = other_length (of_index (codes "documents")) (root ∷ first ∷ uid ∷ name ∷ id ∷ []) (λ e. absurd (omega (arith, e)));
-      document = doc;
-      batch = and_weaker (bytes_eq root []) (bytes_eq first (codes "indexes")) (nat_lt 0 (length uid)) (bytes_eq name (codes "documents")) (nat_lt 0 (length id))
-          (bytes_eq id (codes "delete-batch")) (some_batch id) doc;
-      search = other_length (of_index (codes "search")) (root ∷ first ∷ uid ∷ name ∷ id ∷ []) (λ e. absurd (omega (arith, e)));
-    })
 
 -- a path of fewer than two parts, or of more than five, is none
 pub no_other : (parts : List (List ℕ)) → (length parts < 2) ⊎ (5 < length parts) → HasNoPlace parts
@@ -180,67 +109,6 @@ no_other parts (inr long) = no_path parts (record {
   batch = other_length (of_documents (text (codes "delete-batch"))) parts (λ e. absurd (omega (arith, e, long)));
   search = other_length (of_index (codes "search")) parts (λ e. absurd (omega (arith, e, long)));
 })
-
--- ---- the place of so many parts
-
-placed : (method : List ℕ) (parts these : List (List ℕ)) (o : Option Place) (None_ : Type 0) → parts ≡ these → (None_ → HasNoPlace these)
-    → MatchOption o None_ (IsAt method these) → MatchOption o (HasNoPlace parts) (IsAt method parts)
-placed method parts these None N e none h = subst HasNoPlace (sym e) (none h)
-placed method parts these (Some p) N e none h = subst (λ v. IsAt method v p) (sym e) h
-
-at_method : (method : List ℕ) (these : List (List ℕ)) (o : Option Place) (None_ : Type 0) → MatchOption o None_ (λ p. (m : List ℕ) → IsAt m these p) → MatchOption o None_ (IsAt method these)
-at_method method these None N h = h
-at_method method these (Some p) N h = h method
-
-two_parts : (d : Bor (List ℕ)) (ps : List (Bor (List ℕ))) → length ps ≡ 2 → nows ps ≡ (get_or ps 0 d).now ∷ (get_or ps 1 d).now ∷ []
-two_parts d [] len = absurd (omega arith)
-two_parts d (p ∷ []) len = absurd (omega arith)
-two_parts d (p ∷ q ∷ []) len = refl
-two_parts d (p ∷ q ∷ r ∷ ps) len = absurd (omega arith)
-
-three_parts : (d : Bor (List ℕ)) (ps : List (Bor (List ℕ))) → length ps ≡ 3 → nows ps ≡ (get_or ps 0 d).now ∷ (get_or ps 1 d).now ∷ (get_or ps 2 d).now ∷ []
-three_parts d [] len = absurd (omega arith)
-three_parts d (p ∷ []) len = absurd (omega arith)
-three_parts d (p ∷ q ∷ []) len = absurd (omega arith)
-three_parts d (p ∷ q ∷ r ∷ []) len = refl
-three_parts d (p ∷ q ∷ r ∷ s ∷ ps) len = absurd (omega arith)
-
-four_parts : (d : Bor (List ℕ)) (ps : List (Bor (List ℕ))) → length ps ≡ 4 → nows ps ≡ (get_or ps 0 d).now ∷ (get_or ps 1 d).now ∷ (get_or ps 2 d).now ∷ (get_or ps 3 d).now ∷ []
-four_parts d [] len = absurd (omega arith)
-four_parts d (p ∷ []) len = absurd (omega arith)
-four_parts d (p ∷ q ∷ []) len = absurd (omega arith)
-four_parts d (p ∷ q ∷ r ∷ []) len = absurd (omega arith)
-four_parts d (p ∷ q ∷ r ∷ s ∷ []) len = refl
-four_parts d (p ∷ q ∷ r ∷ s ∷ t ∷ ps) len = absurd (omega arith)
-
-five_parts : (d : Bor (List ℕ)) (ps : List (Bor (List ℕ))) → length ps ≡ 5 → nows ps ≡ (get_or ps 0 d).now ∷ (get_or ps 1 d).now ∷ (get_or ps 2 d).now ∷ (get_or ps 3 d).now ∷ (get_or ps 4 d).now ∷ []
-five_parts d [] len = absurd (omega arith)
-five_parts d (p ∷ []) len = absurd (omega arith)
-five_parts d (p ∷ q ∷ []) len = absurd (omega arith)
-five_parts d (p ∷ q ∷ r ∷ []) len = absurd (omega arith)
-five_parts d (p ∷ q ∷ r ∷ s ∷ []) len = absurd (omega arith)
-five_parts d (p ∷ q ∷ r ∷ s ∷ t ∷ []) len = refl
-five_parts d (p ∷ q ∷ r ∷ s ∷ t ∷ u ∷ ps) len = absurd (omega arith)
-
-pub place_of_two : (method : List ℕ) (d : Bor (List ℕ)) (ps : List (Bor (List ℕ))) (o : Option Place) → length ps ≡ 2
-    → MatchOption o (HasNoTop (get_or ps 0 d).now (get_or ps 1 d).now) (λ p. (m : List ℕ) → IsAt m ((get_or ps 0 d).now ∷ (get_or ps 1 d).now ∷ []) p)
-    → MatchOption o (HasNoPlace (nows ps)) (IsAt method (nows ps))
-place_of_two method d ps o len h = placed method (nows ps) ((get_or ps 0 d).now ∷ (get_or ps 1 d).now ∷ []) o _ (two_parts d ps len) (no_top (get_or ps 0 d).now (get_or ps 1 d).now) (at_method method ((get_or ps 0 d).now ∷ (get_or ps 1 d).now ∷ []) o _ h)
-
-pub place_of_three : (method : List ℕ) (d : Bor (List ℕ)) (ps : List (Bor (List ℕ))) (o : Option Place) → length ps ≡ 3
-    → MatchOption o (HasNoIndex (get_or ps 0 d).now (get_or ps 1 d).now (get_or ps 2 d).now) (λ p. (m : List ℕ) → IsAt m ((get_or ps 0 d).now ∷ (get_or ps 1 d).now ∷ (get_or ps 2 d).now ∷ []) p)
-    → MatchOption o (HasNoPlace (nows ps)) (IsAt method (nows ps))
-place_of_three method d ps o len h = placed method (nows ps) ((get_or ps 0 d).now ∷ (get_or ps 1 d).now ∷ (get_or ps 2 d).now ∷ []) o _ (three_parts d ps len) (no_index (get_or ps 0 d).now (get_or ps 1 d).now (get_or ps 2 d).now) (at_method method ((get_or ps 0 d).now ∷ (get_or ps 1 d).now ∷ (get_or ps 2 d).now ∷ []) o _ h)
-
-pub place_of_four : (method : List ℕ) (d : Bor (List ℕ)) (ps : List (Bor (List ℕ))) (o : Option Place) → length ps ≡ 4
-    → MatchOption o (HasNoneOfIndex (get_or ps 0 d).now (get_or ps 1 d).now (get_or ps 2 d).now (get_or ps 3 d).now) (λ p. (m : List ℕ) → IsAt m ((get_or ps 0 d).now ∷ (get_or ps 1 d).now ∷ (get_or ps 2 d).now ∷ (get_or ps 3 d).now ∷ []) p)
-    → MatchOption o (HasNoPlace (nows ps)) (IsAt method (nows ps))
-place_of_four method d ps o len h = placed method (nows ps) ((get_or ps 0 d).now ∷ (get_or ps 1 d).now ∷ (get_or ps 2 d).now ∷ (get_or ps 3 d).now ∷ []) o _ (four_parts d ps len) (none_of_index (get_or ps 0 d).now (get_or ps 1 d).now (get_or ps 2 d).now (get_or ps 3 d).now) (at_method method ((get_or ps 0 d).now ∷ (get_or ps 1 d).now ∷ (get_or ps 2 d).now ∷ (get_or ps 3 d).now ∷ []) o _ h)
-
-pub place_of_five : (method : List ℕ) (d : Bor (List ℕ)) (ps : List (Bor (List ℕ))) (o : Option Place) → length ps ≡ 5
-    → MatchOption o (HasNoDocument (get_or ps 0 d).now (get_or ps 1 d).now (get_or ps 2 d).now (get_or ps 3 d).now (get_or ps 4 d).now) (IsAt method ((get_or ps 0 d).now ∷ (get_or ps 1 d).now ∷ (get_or ps 2 d).now ∷ (get_or ps 3 d).now ∷ (get_or ps 4 d).now ∷ []))
-    → MatchOption o (HasNoPlace (nows ps)) (IsAt method (nows ps))
-place_of_five method d ps o len h = placed method (nows ps) ((get_or ps 0 d).now ∷ (get_or ps 1 d).now ∷ (get_or ps 2 d).now ∷ (get_or ps 3 d).now ∷ (get_or ps 4 d).now ∷ []) o _ (five_parts d ps len) (no_document (get_or ps 0 d).now (get_or ps 1 d).now (get_or ps 2 d).now (get_or ps 3 d).now (get_or ps 4 d).now) h
 
 -- ---- the route at a place
 
@@ -483,9 +351,8 @@ one_route method parts =
     (at_most_one method (filter (has_path parts) routes) (distinct_rows parts))
 
 -- the route of a method at the place of a path
-pub found_there : (method path : List ℕ) (parts held : List (Bor (List ℕ))) (p : Place) (route : Route) (uid id : List ℕ)
-    → nows parts ≡ parts_of path → held ≡ parts → IsAt method (nows held) p → Some route ≡ lookup (bytes_eq method) (methods p)
+pub found_there : (method path : List ℕ) (p : Place) (route : Route) (uid id : List ℕ)
+    → IsAt method (parts_of path) p → Some route ≡ lookup (bytes_eq method) (methods p)
     → uid ≡ uid_of p → id ≡ id_of p → route_of method (parts_of path) ≡ Ok (record { route = route; uid = uid; id = id })
-found_there method path parts held p route uid id is same at found uid_is id_is =
-    let here : IsAt method (parts_of path) p = subst (λ v. IsAt method v p) (ap nows same ∙ is) at in
-    rw (uid_is, id_is) (at_place method (parts_of path) p here ∙ ap (λ o. outcome o (uid_of p) (id_of p)) (sym found))
+found_there method path p route uid id at found uid_is id_is =
+    rw (uid_is, id_is) (at_place method (parts_of path) p at ∙ ap (λ o. outcome o (uid_of p) (id_of p)) (sym found))

@@ -1,5 +1,5 @@
 -- Which rows of the table have a path, and which of them a method finds.
-use Rattle.std.proofs.Common.{◌≡◌, ℕ, ◌<◌, ◌≤◌, suc, false, true, Bool, ◌&&◌, ◌||◌, not, cond, List, [], ◌∷◌, ◌++◌, length, map, filter, Option, Some, None, Result, Ok, Err, codes, refl, sym, ap, ◌∙◌, subst, arith}
+use Rattle.std.proofs.Common.{◌≡◌, ℕ, ◌≤◌, false, true, Bool, ◌&&◌, ◌||◌, not, cond, List, [], ◌∷◌, ◌++◌, length, map, filter, Option, Some, None, Result, Ok, Err, codes, refl, sym, ap, ◌∙◌, subst, arith}
 use Rattle.std.specs.List.{list_any}
 use Rattle.std.specs.Map.{lookup}
 use Rattle.std.specs.Prelude.{find}
@@ -11,7 +11,7 @@ use Rattle.search_calls.specs.declared.refusal.Refusal.TheVariants.{MethodNotAll
 use Rattle.search_calls.specs.declared.routes.Route.{Route}
 use Rattle.search_calls.specs.declared.routes.Route.TheVariants.{Health, CreateIndex, ListIndexes, ShowIndex, DropIndex, AddDocuments, UpdateDocuments, ListDocuments, ClearDocuments, ShowDocument, RemoveDocument, RemoveDocuments, Search}
 use Rattle.search_calls.specs.Trying.{◌>>=◌, or_refuse}
-use Rattle.search_calls.specs.Routes.{Part, text, any_id, Row, row, routes, health, indexes, index, of_index, of_documents, agrees, has_path, uid_in, id_in, Found, with_method}
+use Rattle.search_calls.specs.Routes.{Part, text, any_id, Row, row, routes, health, indexes, index, of_index, of_documents, agrees, has_path, uid_in, id_in, Found}
 
 -- ---- the rows of a path
 

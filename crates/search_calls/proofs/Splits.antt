@@ -7,11 +7,11 @@ use Rattle.std.proofs.lemmas.Bool.{cond-true, cond-false, cases_eq, eq-eqb, ne_e
 use Rattle.form_urlencoded.specs.Form.{split, onto_first}
 use Rattle.form_urlencoded.proofs.FormLemmas.{split_once_before_same, split_once_after_same, split_once_before_other, split_once_after_other}
 
-split_same : (s : ℕ) (bs : List ℕ) → split s (s ∷ bs) ≡ [] ∷ split s bs
+pub split_same : (s : ℕ) (bs : List ℕ) → split s (s ∷ bs) ≡ [] ∷ split s bs
 unfolding split
 split_same s bs = cond-true _ _ _ (eq-eqb s s refl)
 
-split_other : (s b : ℕ) (bs : List ℕ) → b ≢ s → split s (b ∷ bs) ≡ onto_first b (split s bs)
+pub split_other : (s b : ℕ) (bs : List ℕ) → b ≢ s → split s (b ∷ bs) ≡ onto_first b (split s bs)
 unfolding split
 split_other s b bs other = cond-false _ _ _ (ne_eqb b s other)
 

@@ -15,7 +15,7 @@ use Rattle.search_calls.specs.declared.refusal.Refusal.TheVariants.{InvalidUid, 
 use Rattle.search_calls.specs.declared.search.Member.{Member}
 use Rattle.search_calls.specs.declared.search.Member.TheVariants.{Query, Count, Later}
 use Rattle.search_calls.specs.declared.call.SearchCall.{SearchCall}
-use Rattle.search_calls.specs.Trying.{◌>>=◌, ◌>>◌, first_of, refuse_if, or_refuse}
+use Rattle.search_calls.specs.Trying.{◌>>=◌, ◌>>◌, first_of, or_refuse}
 use Rattle.search_calls.specs.Routes.{is_uid}
 
 -- the JSON value that a body is

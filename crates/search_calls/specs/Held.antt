@@ -1,5 +1,5 @@
 -- What the code holds of a request, as the definitions have it.
-use Rattle.std.specs.Prelude.{◌≡◌, ◌<◌, nat_lt, Bool, ℕ, List, [], ◌∷◌, length, false, ◌&&◌, filter, codes, Option}
+use Rattle.std.specs.Prelude.{◌≡◌, ◌<◌, ℕ, List, [], ◌∷◌, length, false, ◌&&◌, filter, codes, Option}
 use Rattle.std.specs.Str.{bytes_eq}
 use Rattle.search_calls.specs.declared.routes.Found.{Found as HeldRoute}
 use Rattle.search_calls.specs.declared.query.Pair.{Pair as HeldPair}
@@ -49,24 +49,6 @@ IsAt method parts (place.Search uid) = (parts ≡ [] ∷ codes "indexes" ∷ uid
 -- no route has the path
 abbrev pub HasNoPlace : List (List ℕ) → Type 0
 HasNoPlace parts = filter (has_path parts) routes ≡ []
-
--- none has it, of so many parts
-abbrev pub HasNoTop : List ℕ → List ℕ → Type 0
-HasNoTop root name = ((bytes_eq root [] && bytes_eq name (codes "health")) ≡ false) × ((bytes_eq root [] && bytes_eq name (codes "indexes")) ≡ false)
-
--- whether a path begins with `/indexes/{uid}`
-abbrev pub is_of_index : List ℕ → List ℕ → List ℕ → Bool
-is_of_index root first uid = bytes_eq root [] && bytes_eq first (codes "indexes") && nat_lt 0 (length uid)
-
-abbrev pub HasNoIndex : List ℕ → List ℕ → List ℕ → Type 0
-HasNoIndex root first uid = is_of_index root first uid ≡ false
-
-abbrev pub HasNoneOfIndex : List ℕ → List ℕ → List ℕ → List ℕ → Type 0
-HasNoneOfIndex root first uid name =
-    ((is_of_index root first uid && bytes_eq name (codes "documents")) ≡ false) × ((is_of_index root first uid && bytes_eq name (codes "search")) ≡ false)
-
-abbrev pub HasNoDocument : List ℕ → List ℕ → List ℕ → List ℕ → List ℕ → Type 0
-HasNoDocument root first uid name id = (is_of_index root first uid && bytes_eq name (codes "documents") && nat_lt 0 (length id)) ≡ false
 
 abbrev pub uid_of : Place → List ℕ
 uid_of place.Health = []

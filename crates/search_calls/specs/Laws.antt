@@ -1,5 +1,5 @@
 -- What holds of the table of routes, and of each call, whatever the request.
-use Rattle.std.specs.Prelude.{◌≡◌, ◌≤◌, ◌&&◌, ℕ, List, Bool, filter, length}
+use Rattle.std.specs.Prelude.{◌≤◌, ◌&&◌, ℕ, List, Bool, filter, length}
 use Rattle.std.specs.Str.{bytes_eq}
 use Rattle.search_calls.specs.Routes.{Row, routes, agrees}
 

@@ -7,4 +7,5 @@ pub mod Bodies
 pub mod Asked
 pub mod Calls
 pub mod Held
+pub mod Masked
 pub mod Laws

@@ -8,7 +8,7 @@ use Rattle.search_calls.specs.declared.refusal.Refusal.{Refusal}
 use Rattle.search_calls.specs.declared.refusal.Refusal.TheVariants.{NoRoute, MethodNotAllowed, InvalidUid}
 use Rattle.search_calls.specs.declared.routes.Route.{Route}
 use Rattle.search_calls.specs.declared.routes.Route.TheVariants.{Health, CreateIndex, ListIndexes, ShowIndex, DropIndex, AddDocuments, UpdateDocuments, ListDocuments, ClearDocuments, ShowDocument, RemoveDocument, RemoveDocuments, Search}
-use Rattle.search_calls.specs.Trying.{refuse_if, or_refuse, ◌>>=◌}
+use Rattle.search_calls.specs.Trying.{or_refuse, ◌>>=◌}
 
 -- ---- the table
 

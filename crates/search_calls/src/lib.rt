@@ -3,7 +3,7 @@
 //! Promises that the call is the one of `call_of` in specs/Calls.antt, or the reply to the request's first fault; its
 //! one free answer is want of memory. Contracts see a `Call` as a `CallData`, a change or a read whose vectors are
 //! lists, and a `Refusal` as itself. Stands on http_wire for requests and replies, on doc_values for documents, ids and
-//! changes, and on serde_json and form_urlencoded for bodies and query strings.
+//! changes, on matchit for paths, and on serde_json and form_urlencoded for bodies and query strings.
 #![tactic(auto)]
 
 mod body;
@@ -11,6 +11,7 @@ mod call;
 mod laws;
 mod parts;
 mod path;
+mod pattern;
 mod query;
 mod refusal;
 mod routes;

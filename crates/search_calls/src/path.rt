@@ -1,5 +1,12 @@
-ghost use Rattle.std.specs.Prelude.{◌≡◌, ◌<◌, ℕ, List, [], ◌∷◌, length, MatchOption, map};
-ghost use Rattle.search_calls.specs.Held.{IsAt, HasNoPlace, HasNoTop, HasNoIndex, HasNoneOfIndex, HasNoDocument, is_of_index as is_index_path, in_documents};
+ghost use Rattle.std.specs.Prelude.{◌≡◌, List, [], IfOk, MatchOption, map, get_or, string_bytes};
+ghost use Rattle.search_calls.specs.Held.{IsAt, HasNoPlace};
+ghost use Rattle.search_calls.specs.Masked.{joined, masked, masked_uid, masked_id, is_batch as is_batch_at};
+ghost use Rattle.search_calls.specs.Routes.{parts_of as parts_in};
+
+use crate::parts::parts_of;
+use crate::pattern::find_pattern;
+use search_base::NoMemory;
+use std::alloc::Global;
 
 /// A path of the routes, with what it names. A name is never empty.
 #[derive(Clone, Copy)]
@@ -20,90 +27,81 @@ pub(crate) enum Place<'a> {
     Search { uid: &'a str },
 }
 
-/// The path that these parts are, where it is one of the routes'. Takes no memory.
-pub(crate) fn place_of<'a>(method: &str, parts: &[&'a str]) -> Option<Place<'a>>
-    ensures { MatchOption result (HasNoPlace (map (λ part. part.now) parts.now))
-        (IsAt method.now (map (λ part. part.now) parts.now)) }
+/// The place that a path is, where it is one of the routes'. Its error is want of memory.
+pub(crate) fn place_of<'a>(
+    alloc: Global,
+    method: &str,
+    path: &'a str,
+) -> Result<Option<Place<'a>>, NoMemory>
+    ensures { IfOk result (λ place. MatchOption place (HasNoPlace (parts_in path.now))
+        (IsAt method.now (parts_in path.now))) }
+{
+    let parts = parts_of(alloc, path, '/')?;
+    let asked = masked_path(alloc, method, &parts)?;
+    match find_pattern(alloc, asked.as_str())? {
+        Some(pattern) => Ok(Some(pattern.with_names(part_at(&parts, 2), part_at(&parts, 4)))),
+        None => Ok(None),
+    }
+}
+
+// The part at a place, or the empty text.
+fn part_at<'a>(parts: &[&'a str], place: usize) -> &'a str
+    ensures { result.now ≡ get_or (map (λ part. part.now) parts.now) place [] }
+{
+    match parts.get(place) {
+        Some(part) => *part,
+        None => "",
+    }
+}
+
+/// The path of these parts, with `_` in the place of each name. No path of the routes has more than five parts: a
+/// longer one stays as it is.
+fn masked_path(alloc: Global, method: &str, parts: &[&str]) -> Result<String, NoMemory>
+    ensures { IfOk result (λ text. string_bytes text ≡ joined (masked method.now (map (λ part. part.now) parts.now))) }
 {
     match *parts {
-        [root, name] => top_place(root, name),
-        [root, first, uid] => index_place(root, first, uid),
-        [root, first, uid, name] => place_of_index(root, first, uid, name),
-        [root, first, uid, name, id] => place_of_document(method, root, first, uid, name, id),
-        _ => None,
+        [root, first, uid] => Ok([root, first, mask_uid(first, uid)].join(alloc, "/")?),
+        [root, first, uid, name] => {
+            Ok([root, first, mask_uid(first, uid), name].join(alloc, "/")?)
+        }
+        [root, first, uid, name, id] => Ok([
+            root,
+            first,
+            mask_uid(first, uid),
+            name,
+            mask_id(method, first, name, id),
+        ]
+        .join(alloc, "/")?),
+        _ => Ok(parts.join(alloc, "/")?),
     }
 }
 
-fn top_place<'a>(root: &str, name: &str) -> Option<Place<'a>>
-    ensures { MatchOption result (HasNoTop root.now name.now)
-        (λ place. (method : List ℕ) → IsAt method (root.now ∷ name.now ∷ []) place) }
+// An empty text is no name: it stays, and no pattern has it.
+fn mask_uid<'a>(first: &str, uid: &'a str) -> &'a str
+    ensures { result.now ≡ masked_uid first.now uid.now }
 {
-    if root == "" && name == "health" {
-        Some(Place::Health)
-    } else if root == "" && name == "indexes" {
-        Some(Place::Indexes)
+    if !uid.is_empty() && first == "indexes" {
+        "_"
     } else {
-        None
+        uid
     }
 }
 
-// Whether a path begins with `/indexes/{uid}`.
-fn is_of_index(root: &str, first: &str, uid: &str) -> bool
-    ensures { result ≡ is_index_path root.now first.now uid.now }
+fn mask_id<'a>(method: &str, first: &str, name: &str, id: &'a str) -> &'a str
+    ensures { result.now ≡ masked_id method.now first.now name.now id.now }
 {
-    root == "" && first == "indexes" && !uid.is_empty()
-}
-
-fn index_place<'a>(root: &str, first: &str, uid: &'a str) -> Option<Place<'a>>
-    ensures { MatchOption result (HasNoIndex root.now first.now uid.now)
-        (λ place. (method : List ℕ) → IsAt method (root.now ∷ first.now ∷ uid.now ∷ []) place) }
-{
-    if is_of_index(root, first, uid) {
-        Some(Place::Index { uid })
+    if !id.is_empty() && !is_batch(method, id) && first == "indexes" && name == "documents" {
+        "_"
     } else {
-        None
+        id
     }
 }
 
-fn place_of_index<'a>(root: &str, first: &str, uid: &'a str, name: &str) -> Option<Place<'a>>
-    ensures { MatchOption result (HasNoneOfIndex root.now first.now uid.now name.now)
-        (λ place. (method : List ℕ) → IsAt method (root.now ∷ first.now ∷ uid.now ∷ name.now ∷ []) place) }
+// `delete-batch` is an id for each method but `POST`.
+fn is_batch(method: &str, id: &str) -> bool
+    ensures { result ≡ is_batch_at method.now id.now }
 {
-    if is_of_index(root, first, uid) && name == "documents" {
-        Some(Place::Documents { uid })
-    } else if is_of_index(root, first, uid) && name == "search" {
-        Some(Place::Search { uid })
-    } else {
-        None
-    }
-}
-
-fn place_of_document<'a>(
-    method: &str,
-    root: &str,
-    first: &str,
-    uid: &'a str,
-    name: &str,
-    id: &'a str,
-) -> Option<Place<'a>>
-    ensures { MatchOption result (HasNoDocument root.now first.now uid.now name.now id.now)
-        (IsAt method.now (root.now ∷ first.now ∷ uid.now ∷ name.now ∷ id.now ∷ [])) }
-{
-    if is_of_index(root, first, uid) && name == "documents" && !id.is_empty() {
-        Some(document_place(method, uid, id))
-    } else {
-        None
-    }
-}
-
-fn document_place<'a>(method: &str, uid: &'a str, id: &'a str) -> Place<'a>
-    ensures { 0 < length uid.now → 0 < length id.now → IsAt method.now (in_documents uid.now id.now) result }
-{
-    if method == "POST" && id == "delete-batch" {
-        Place::DeleteBatch { uid }
-    } else {
-        Place::Document { uid, id }
-    }
+    method == "POST" && id == "delete-batch"
 }
 
 impl<'a> Place<'a> {

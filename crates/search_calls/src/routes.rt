@@ -6,7 +6,6 @@ ghost use Rattle.search_calls.specs.Gives.{Gives};
 ghost use Rattle.search_calls.specs.Held.{given_by, methods};
 ghost use Rattle.search_calls.specs.Routes.{path_of, query_of, parts_of as parts_in, route_of, is_uid as is_uid_text, is_uid_byte};
 
-use crate::parts::parts_of;
 use crate::path::{Place, place_of};
 use crate::refusal::{Fault, Refusal};
 use std::alloc::Global;
@@ -65,8 +64,7 @@ pub(crate) fn split_target(target: &str) -> (&str, &str)
 pub(crate) fn find_route<'a>(alloc: Global, method: &str, path: &'a str) -> Result<Found<'a>, Fault>
     ensures { Gives given_by result (route_of method.now (parts_in path.now)) }
 {
-    let parts = parts_of(alloc, path, '/')?;
-    match place_of(method, &parts) {
+    match place_of(alloc, method, path)? {
         Some(place) => match route_at(method, place) {
             Some(route) => Ok(Found {
                 route,

@@ -1,21 +1,25 @@
-use Rattle.std.proofs.Common.{rules, ◌≡◌, ◌<◌, ◌⊎◌, length, map, sym, subst, arith}
-use Rattle.std.proofs.lemmas.List.{length-map}
-use Rattle.search_calls.proofs.Paths.{place_of_two, place_of_three, place_of_four, place_of_five, no_other}
+use Rattle.std.proofs.Common.{◌≡◌, ◌∙◌, sym, subst, Some, None}
+use Rattle.search_calls.specs.Held.{IsAt}
+use Rattle.search_calls.specs.Masked.{joined, masked, pattern_of}
+use Rattle.search_calls.specs.Routes.{parts_of}
+use Rattle.search_calls.proofs.Paths.{nows}
+use Rattle.search_calls.proofs.Masks.{place_found, no_place_found}
 use Rattle.search_calls.proofs.path.place_of.Goals as goal
 
-pub returns-in-len2 : goal.returns-in-len2
-returns-in-len2 c = place_of_two c.args.method.now _ c.args.parts.now c.top_place.result (omega arith) c.top_place.ensures
+pub returns-in-Some : goal.returns-in-Some
+returns-in-Some c =
+    let asked : c.as_str.result.now ≡ joined (masked c.args.method.now (nows c.in_ok-parts.parts.items)) =
+    c.as_str.ensures.value ∙ (rw c.deref.ensures.value at c.in_ok-asked.ensures) in
+    let found : Some c.in-Some.pattern ≡ pattern_of c.as_str.result.now = sym c.in-Some.is ∙ c.in_ok-pattern.ensures in
+    let uid = rw c.deref-in-Some.ensures.value at c.part_at.ensures in
+    let id = rw c.deref-in-Some-2.ensures.value at c.part_at-in-Some.ensures in
+    subst (IsAt c.args.method.now (parts_of c.args.path.now)) (sym c.with_names.ensures)
+    (place_found c.args.method.now c.args.path.now c.as_str.result.now c.in_ok-parts.parts.items c.in-Some.pattern c.part_at.result c.part_at-in-Some.result
+    c.in_ok-parts.ensures asked found uid id)
 
-pub returns-in-len3 : goal.returns-in-len3
-returns-in-len3 c = place_of_three c.args.method.now _ c.args.parts.now c.index_place.result (omega arith) c.index_place.ensures
-
-pub returns-in-len4 : goal.returns-in-len4
-returns-in-len4 c = place_of_four c.args.method.now _ c.args.parts.now c.place_of_index.result (omega arith) c.place_of_index.ensures
-
-pub returns-in-len5 : goal.returns-in-len5
-returns-in-len5 c = place_of_five c.args.method.now _ c.args.parts.now c.place_of_document.result (omega arith) c.place_of_document.ensures
-
-pub returns-in_default : goal.returns-in_default
-returns-in_default c =
-    let lens : (length c.args.parts.now < 2) ⊎ (5 < length c.args.parts.now) = search rules in
-    no_other (map (λ part. part.now) c.args.parts.now) (subst (λ n. (n < 2) ⊎ (5 < n)) (sym (length-map c.args.parts.now (λ part. part.now))) lens)
+pub returns : goal.returns
+returns c =
+    let asked : c.as_str.result.now ≡ joined (masked c.args.method.now (nows c.in_ok-parts.parts.items)) =
+    c.as_str.ensures.value ∙ (rw c.deref.ensures.value at c.in_ok-asked.ensures) in
+    let found : None ≡ pattern_of c.as_str.result.now = sym c.in-None.is ∙ c.in_ok-pattern.ensures in
+    no_place_found c.args.method.now c.args.path.now c.as_str.result.now c.in_ok-parts.parts.items c.in_ok-parts.ensures asked found

@@ -1,4 +1,4 @@
-use Rattle.std.proofs.Common.{◌≡◌, true, sym, subst}
+use Rattle.std.proofs.Common.{◌≡◌, true, subst}
 use Rattle.std.specs.List.{list_all}
 use Rattle.search_calls.specs.Query.{is_digit}
 use Rattle.search_calls.proofs.Numbers.{read_none}
