@@ -212,14 +212,14 @@ fn what_calls_say(rt: HostRuntime) -> Result<(), Fail> {
         ) => {
             assert_eq!(rt; uid.as_str(), "m");
             assert_eq!(rt; (*offset, *limit, fields.len()), (0, 7, 3));
-            assert_eq!(rt; fields[1].as_str(), "b");
+            assert!(rt; fields.iter().any(|name| name.as_str() == "b"));
         }
         _ => assert!(rt; false, "documents"),
     }
     match &call_of(alloc, "GET", "/indexes/m/documents/a%20b", "")? {
         Call::Read(ReadCall::Document { id, fields, .. }) => {
             assert_eq!(rt; id.as_str(), "a%20b");
-            assert_eq!(rt; fields[0].as_str(), "*");
+            assert!(rt; fields.iter().all(|name| name.as_str() == "*"));
         }
         _ => assert!(rt; false, "document"),
     }
