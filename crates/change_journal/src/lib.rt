@@ -14,8 +14,6 @@ mod journal;
 mod making;
 mod opening;
 mod remake;
-#[cfg(test)]
-mod tests;
 mod through;
 
 pub use entry::Record;

@@ -1,4 +1,0 @@
-mod Loop
-mod Texts
-mod Found
-mod Again

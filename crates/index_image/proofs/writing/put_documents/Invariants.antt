@@ -1,8 +1,0 @@
-use Rattle.std.proofs.Common.{◌≡◌, ◌++◌, take}
-use Rattle.std.specs.List.{flat_map}
-use Rattle.index_image.specs.Spelling.{json}
-use Rattle.index_image.proofs.writing.put_documents.Given as goal
-
--- the documents so far are written
-abbrev pub invariant-loop-document : goal.invariant-loop-document
-invariant-loop-document l = l.out.items ≡ l.initial.out.items ++ flat_map json (take l.document-index l.document-items)

@@ -1,6 +1,0 @@
--- Changes and states as bytes.
-pub mod Spelling
-pub mod Fields
-pub mod Change
-pub mod Answers
-pub mod Fits

@@ -1,3 +1,0 @@
--- What is found of pairs.
-pub mod PairLemmas
-pub mod IndexLemmas

@@ -1,4 +1,0 @@
--- Pair costs, and lists of them.
-pub mod PairCost
-pub mod PairRows
-pub mod Maps
