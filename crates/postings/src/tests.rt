@@ -73,25 +73,6 @@ fn documents_go_and_then_come(rt: HostRuntime) -> Result<(), Fail> {
     Ok(())
 }
 
-fn range_sizes(alloc: Global, postings: &Postings) -> Result<(u64, u64), NoMemory> {
-    let low = key(alloc, "b")?;
-    let high = key(alloc, "c")?;
-    let upward = postings.range(&low, &high).count() as u64;
-    let downward = postings.range(&high, &low).count() as u64;
-    Ok((upward, downward))
-}
-
-#[test]
-fn both_ends_of_a_range_are_in_it(rt: HostRuntime) -> Result<(), Fail> {
-    let alloc = rt.alloc();
-    let mut postings = Postings::new(alloc);
-    for text in ["a", "b", "c", "d"] {
-        change(alloc, &mut postings, text, &[], &[1])?;
-    }
-    assert_eq!(rt; range_sizes(alloc, &postings)?, (2, 0));
-    Ok(())
-}
-
 #[test]
 fn a_change_may_be_given_up(rt: HostRuntime) -> Result<(), Fail> {
     let alloc = rt.alloc();
