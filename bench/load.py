@@ -19,6 +19,7 @@ WORDS = ("amber bridge cloud delta ember forest garden harbor island jungle kett
          "pebble quartz river saddle timber umber valley willow yonder zephyr").split()
 TAGS = "red green blue white".split()
 MOST_BODY = 16 * 1024 * 1024
+BINARY = os.path.join(os.path.dirname(os.path.abspath(__file__)), "..", "crates", "rank_server", "out", "rank_server")
 
 
 def words(draw, count):
@@ -90,8 +91,7 @@ def measure(binary, rounds, name, count, sent):
 
 def main():
     parser = argparse.ArgumentParser()
-    parser.add_argument("binary", nargs="?", default=os.path.join(
-        os.path.dirname(__file__), "..", "crates", "rank_server", "out", "rank_server"))
+    parser.add_argument("binary", nargs="?", default=BINARY)
     parser.add_argument("--rounds", type=int, default=3)
     asked = parser.parse_args()
     loads = [measure(asked.binary, asked.rounds, f"{count} small", count, list(bodies(count, 1000)))
@@ -106,4 +106,5 @@ def main():
               f" {seconds / count / base:>9.2f} {peak / size:>10.2f}")
 
 
-main()
+if __name__ == "__main__":
+    main()
