@@ -14,6 +14,8 @@ mod journal;
 mod making;
 mod opening;
 mod remake;
+#[cfg(test)]
+mod tests;
 mod through;
 
 pub use entry::Record;

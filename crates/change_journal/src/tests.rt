@@ -1,0 +1,322 @@
+ghost use Rattle.std.specs.Prelude.{◌≡◌, Some, IfOk};
+ghost use Rattle.outside_io.specs.MemoryDisk.{contents_of};
+ghost use Rattle.change_journal.specs.Fits.{Fits};
+
+mod contents_1;
+mod contents_2;
+mod contents_3;
+
+use crate::image::count_of;
+use crate::{Journal, JournalFault, Opened, Record, open, record};
+use outside_io::{Disk, Failed, MemoryDisk};
+use std::alloc::{AllocError, Global};
+use std::process::Abort;
+use std::test::Fail;
+
+// The image of an empty machine, and one that counts two changes.
+const EMPTY: &[u8] = b"\x01\0\0\0\0\0\0\0\0\0\0\0\0";
+
+const AFTER_TWO: &[u8] = b"\x01\x02\0\0\0\0\0\0\0\0\0\0\0";
+
+// What disk 0 holds after the first checkpoint, and with one change behind it.
+const FIRST: &str = "0152414e4b49445801000000000000000d000000000000000100000000000000000000000000";
+
+const SECOND: &str =
+    "0152414e4b49445801000000000000000d0000000000000001000000000000000000000000010000000000000000070000000101000000650000";
+
+// The second of these, hurt: the name, the generation, the length twice, the version, the count, the
+// number, the payload's length twice, the last gate; cut off before the last gate, in the payload's
+// length, in the number and at the first gate. Then what is no damage: gates of 37 and of 0, and a
+// header that is cut off.
+const DAMAGED: &str =
+    r"0152416e4b49445801000000000000000d0000000000000001000000000000000000000000010000000000000000070000000101000000650000,,damaged 0 1 82
+0152414e4b49445800000000000000000d0000000000000001000000000000000000000000010000000000000000070000000101000000650000,,damaged 0 8 0
+0152414e4b4944580100000000000000220000000000000001000000000000000000000000010000000000000000070000000101000000650000,,damaged 0 16 34
+0152414e4b49445801000000000000000d000000000000ff01000000000000000000000000010000000000000000070000000101000000650000,,damaged 0 16 13
+0152414e4b49445801000000000000000d0000000000000003000000000000000000000000010000000000000000070000000101000000650000,,damaged 0 24 3
+0152414e4b49445801000000000000000d0000000000000001000000ff0000000000000000010000000000000000070000000101000000650000,,damaged 0 25 0
+0152414e4b49445801000000000000000d0000000000000001000000000000000000000000010100000000000000070000000101000000650000,,damaged 0 38 1
+0152414e4b49445801000000000000000d0000000000000001000000000000000000000000010000000000000000090000000101000000650000,,damaged 0 46 9
+0152414e4b49445801000000000000000d0000000000000001000000000000000000000000010000000000000000080000000101000000650000,,damaged 0 58 end
+0152414e4b49445801000000000000000d0000000000000001000000000000000000000000010000000000000000070000000101000000650001,,damaged 0 58 end
+0152414e4b49445801000000000000000d00000000000000010000000000000000000000000100000000000000000700000001010000006500,,damaged 0 57 end
+0152414e4b49445801000000000000000d00000000000000010000000000000000000000000100000000000000000700,,damaged 0 46 7
+0152414e4b49445801000000000000000d0000000000000001000000000000000000000000010000,,damaged 0 38 0
+0152414e4b49445801000000000000000d0000000000000001000000000000000000000000,,damaged 0 16 13
+2552414e4b49445801000000000000000d0000000000000001000000000000000000000000010000000000000000070000000101000000650000,,disk 0 image 13 count 1 50+7
+0152414e4b49445801000000000000000d0000000000000001000000000000000000000000000000000000000000070000000101000000650000,,disk 0 image 13 count 0
+0052414e4b49445801000000000000000d0000000000000001000000000000000000000000010000000000000000070000000101000000650000,,empty
+0152414e4b49445801000000000000000d000000000000,,empty";
+
+fn bytes_of(alloc: Global, hex: &str) -> Result<Vec<u8>, AllocError> {
+    let mut bytes = Vec::new(alloc);
+    let mut high = None;
+    for digit in hex.as_bytes() {
+        let value = match *digit {
+            b'0'..=b'9' => digit.wrapping_sub(b'0'),
+            _ => digit.wrapping_sub(b'a').wrapping_add(10),
+        };
+        match high {
+            None => high = Some(value),
+            Some(sixteens) => {
+                let sixteens: u8 = sixteens;
+                bytes.push(sixteens.wrapping_mul(16).wrapping_add(value))?;
+                high = None;
+            }
+        }
+    }
+    Ok(bytes)
+}
+
+fn disk_of(alloc: Global, hex: &str) -> Result<MemoryDisk, Fail> {
+    Ok(MemoryDisk::new(alloc, bytes_of(alloc, hex)?, Vec::new(alloc))?)
+}
+
+// The active disk, the sizes of the image and of each payload with its place, and the count.
+fn line_of(alloc: Global, opened: &Opened) -> Result<String, AllocError> {
+    let image = match &opened.image {
+        None => return "empty".to_string(alloc),
+        Some(image) => image.len(),
+    };
+    let active = opened.active;
+    let count = opened.journal.count();
+    let mut line = format!(in alloc; "disk {active} image {image} count {count}")?;
+    for change in &opened.changes {
+        let place = change.place;
+        let size = change.payload.len();
+        line.push_str(format!(in alloc; " {place}+{size}")?.as_str())?;
+    }
+    Ok(line)
+}
+
+fn fault_line(alloc: Global, fault: JournalFault) -> Result<String, AllocError> {
+    match fault {
+        JournalFault::DiskFault => "disk fault".to_string(alloc),
+        JournalFault::NoMemory => "no memory".to_string(alloc),
+        JournalFault::Damaged { disk, place, found } => match found {
+            None => format!(in alloc; "damaged {disk} {place} end"),
+            Some(byte) => format!(in alloc; "damaged {disk} {place} {byte}"),
+        },
+    }
+}
+
+fn answer(alloc: Global, a: &mut MemoryDisk, b: &mut MemoryDisk) -> Result<String, AllocError> {
+    match open(alloc, a, b) {
+        Ok(opened) => line_of(alloc, &opened),
+        Err(fault) => fault_line(alloc, fault),
+    }
+}
+
+// Each line of a table has what disk 0 and disk 1 hold, in hexadecimal, and what opening them gives.
+fn check_table(rt: &impl Abort, alloc: Global, table: &str, lines: usize) -> Result<(), Fail> {
+    let mut count = 0usize;
+    for line in table.lines() {
+        let mut parts = line.split(',');
+        let first = parts.next().unwrap_or("");
+        let second = parts.next().unwrap_or("");
+        let expected = parts.next().unwrap_or("");
+        let mut a = disk_of(alloc, first)?;
+        let mut b = disk_of(alloc, second)?;
+        let found = answer(alloc, &mut a, &mut b)?;
+        assert_eq!(rt; found.as_str(), expected, "{line}");
+        count = count.wrapping_add(1);
+    }
+    assert_eq!(rt; count, lines);
+    Ok(())
+}
+
+// The journal of two disks that are whole.
+fn opened_journal(alloc: Global, a: &mut MemoryDisk, b: &mut MemoryDisk) -> Result<Journal, Fail>
+    ensures { IfOk result (λ journal. Fits journal (Some (contents_of a.new)) (Some (contents_of b.new))) }
+{
+    Ok(open(alloc, a, b)?.journal)
+}
+
+#[test]
+fn contents_open_as_the_other_machine_says(rt: HostRuntime) -> Result<(), Fail> {
+    check_table(&rt, rt.alloc(), contents_1::TABLE, 100)?;
+    check_table(&rt, rt.alloc(), contents_2::TABLE, 100)?;
+    check_table(&rt, rt.alloc(), contents_3::TABLE, 100)
+}
+
+#[test]
+fn damage_at_each_field_in_turn(rt: HostRuntime) -> Result<(), Fail> {
+    check_table(&rt, rt.alloc(), DAMAGED, 18)
+}
+
+#[test]
+fn one_generation_on_both_disks(rt: HostRuntime) -> Result<(), Fail> {
+    let alloc = rt.alloc();
+    let mut a = disk_of(alloc, FIRST)?;
+    let mut b = disk_of(alloc, FIRST)?;
+    assert_eq!(rt; answer(alloc, &mut a, &mut b)?.as_str(), "damaged 1 8 1");
+    Ok(())
+}
+
+// The worked example of the format, byte for byte.
+#[test]
+fn two_empty_disks_and_one_change(rt: HostRuntime) -> Result<(), Fail> {
+    let alloc = rt.alloc();
+    let mut a = disk_of(alloc, "")?;
+    let mut b = disk_of(alloc, "")?;
+    let mut journal = opened_journal(alloc, &mut a, &mut b)?;
+    assert_eq!(rt; count_of(EMPTY), Ok(0));
+    assert_eq!(rt; journal.count, 0);
+    assert_eq!(rt; journal.generation, 0);
+    assert_eq!(rt; journal.checkpoint(&mut a, &mut b, EMPTY), Ok(()));
+    assert_eq!(rt; a.content(), bytes_of(alloc, FIRST)?.as_slice());
+    assert_eq!(rt; b.content(), b"".as_slice());
+    let entry = record(alloc, 0, b"\x01\x01\0\0\0e\0")?;
+    assert_eq!(rt; journal.append(&mut a, &mut b, entry), Ok(()));
+    assert_eq!(rt; a.content(), bytes_of(alloc, SECOND)?.as_slice());
+    assert_eq!(rt; journal.due(), false);
+    assert_eq!(rt;
+        answer(alloc, &mut a, &mut b)?.as_str(),
+        "disk 0 image 13 count 1 50+7"
+    );
+    Ok(())
+}
+
+#[test]
+fn a_first_read_that_fails(rt: HostRuntime) -> Result<(), Fail> {
+    let alloc = rt.alloc();
+    for call in 0..2 {
+        let content = bytes_of(alloc, FIRST)?;
+        let failing = [call].to_vec(alloc)?;
+        let mut a = MemoryDisk::new(alloc, content, failing)?;
+        let mut b = disk_of(alloc, "")?;
+        assert_eq!(rt; answer(alloc, &mut a, &mut b)?.as_str(), "disk fault");
+    }
+    Ok(())
+}
+
+// What the two disks stand for before and after each step of `three_changes`.
+const STATES: [&str; 5] = [
+    "disk 0 image 13 count 0",
+    "disk 0 image 13 count 1 50+3",
+    "disk 0 image 13 count 2 50+3 66+0",
+    "disk 1 image 13 count 2",
+    "disk 1 image 13 count 3 50+5",
+];
+
+// Three changes, with a checkpoint after the second, and the number of steps that were done.
+fn three_changes(
+    rt: &impl Abort,
+    a: &mut MemoryDisk,
+    b: &mut MemoryDisk,
+    journal: &mut Journal,
+    entries: (Record, Record, Record),
+    done: &mut usize,
+) -> Result<(), Failed>
+    requires fits { Fits journal.old (Some (contents_of a.old)) (Some (contents_of b.old)) }
+    requires first { entries.0.number ≡ 0 }
+    requires second { entries.1.number ≡ 1 }
+    requires third { entries.2.number ≡ 2 }
+{
+    assert!(rt; journal.active.is_some());
+    assert_eq!(rt; journal.count, 0);
+    assert_eq!(rt; journal.generation, 1);
+    assert_eq!(rt; count_of(AFTER_TWO), Ok(2));
+    let (first, second, third) = entries;
+    journal.append(a, b, first)?;
+    *done = 1;
+    journal.append(a, b, second)?;
+    *done = 2;
+    journal.checkpoint(a, b, AFTER_TWO)?;
+    *done = 3;
+    journal.append(a, b, third)?;
+    *done = 4;
+    Ok(())
+}
+
+// A disk whose calls fail from this one on.
+fn failing_disk(alloc: Global, hex: &str, from: u64) -> Result<MemoryDisk, Fail> {
+    let mut failing = Vec::new(alloc);
+    for call in 0..40 {
+        if call >= from {
+            failing.push(call)?;
+        }
+    }
+    Ok(MemoryDisk::new(alloc, bytes_of(alloc, hex)?, failing)?)
+}
+
+// Every crash after `done` steps leaves what they leave, or what the next one leaves too.
+fn check_crashes(
+    rt: &impl Abort,
+    alloc: Global,
+    a: &MemoryDisk,
+    b: &MemoryDisk,
+    done: usize,
+) -> Result<(), Fail> {
+    for kept_a in 0..6 {
+        for kept_b in 0..6 {
+            let mut c = a.after_crash(kept_a)?;
+            let mut d = b.after_crash(kept_b)?;
+            let found = answer(alloc, &mut c, &mut d)?;
+            let now = STATES.get(done).copied().unwrap_or("");
+            let next = STATES.get(done.saturating_add(1)).copied().unwrap_or("");
+            let stands = found.as_str() == now || found.as_str() == next;
+            assert!(rt; stands, "{done} done, {kept_a} and {kept_b} kept: {found}");
+        }
+    }
+    Ok(())
+}
+
+// The three changes on two disks of which one fails from a call on; says how many steps were done.
+fn stopped_run(rt: &impl Abort, alloc: Global, from_a: u64, from_b: u64) -> Result<usize, Fail> {
+    let mut a = failing_disk(alloc, FIRST, from_a)?;
+    let mut b = failing_disk(alloc, "", from_b)?;
+    let entries = (
+        record(alloc, 0, b"one")?,
+        record(alloc, 1, b"")?,
+        record(alloc, 2, b"three")?,
+    );
+    let mut done = 0;
+    if let Ok(opened) = open(alloc, &mut a, &mut b) {
+        let mut journal = opened.journal;
+        let _stopped = three_changes(rt, &mut a, &mut b, &mut journal, entries, &mut done);
+    }
+    check_crashes(rt, alloc, &a, &b, done)?;
+    Ok(done)
+}
+
+// A stop at each call: what was done stands, and a step that was begun is done whole or not at all.
+// Opening makes two calls on each disk, an addition four, and the checkpoint ten.
+#[test]
+fn every_stop_of_three_changes(rt: HostRuntime) -> Result<(), Fail> {
+    let first = [0, 0, 0, 0, 0, 0, 1, 1, 1, 1, 4];
+    for (from, done) in first.iter().enumerate() {
+        assert_eq!(rt; stopped_run(&rt, rt.alloc(), from as u64, 40)?, *done);
+    }
+    let second = [0, 0, 2, 2, 2, 2, 2, 2, 2, 2, 2, 2, 3, 3, 3, 3, 4];
+    for (from, done) in second.iter().enumerate() {
+        assert_eq!(rt; stopped_run(&rt, rt.alloc(), 40, from as u64)?, *done);
+    }
+    Ok(())
+}
+
+// The first sync makes the record last behind a gate that is shut, the second one opens the gate.
+#[test]
+fn a_stop_after_each_sync_of_an_append(rt: HostRuntime) -> Result<(), Fail> {
+    let alloc = rt.alloc();
+    let rows = [
+        (4, 0, STATES[0]),
+        (4, 1, STATES[1]),
+        (6, 0, STATES[1]),
+        (6, 1, STATES[1]),
+    ];
+    for (from, kept, expected) in &rows {
+        let mut a = failing_disk(alloc, FIRST, *from)?;
+        let mut b = disk_of(alloc, "")?;
+        let mut journal = opened_journal(alloc, &mut a, &mut b)?;
+        assert!(rt; journal.active.is_some());
+        assert_eq!(rt; journal.count, 0);
+        let entry = record(alloc, 0, b"one")?;
+        let outcome = journal.append(&mut a, &mut b, entry);
+        assert_eq!(rt; outcome.is_ok(), *from == 6);
+        let mut c = a.after_crash(*kept)?;
+        let mut d = b.after_crash(0)?;
+        assert_eq!(rt; answer(alloc, &mut c, &mut d)?.as_str(), *expected);
+    }
+    Ok(())
+}
