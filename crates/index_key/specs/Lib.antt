@@ -1,2 +1,3 @@
--- The order of keys.
+-- The order of keys, and lists of them.
 pub mod KeyOrder
+pub mod Keys

@@ -5,11 +5,12 @@ use Rattle.std.specs.Ordering.{is_eq}
 use Rattle.std.proofs.lemmas.Bool.{cond_both, eqb-true, eqb-false, ne_eqb}
 use Rattle.index_key.specs.declared.Key.{Key}
 use Rattle.index_key.specs.KeyOrder.{key_cmp}
+use Rattle.index_key.specs.Keys.{has_key}
 use Rattle.index_key.proofs.KeyLemmas.{key_total}
 use Rattle.postings.specs.declared.delta.KeyRow.{KeyRow}
 use Rattle.postings.specs.Table.{Table}
 use Rattle.postings.specs.Changes.{has_row, changed}
-use Rattle.postings.specs.Fresh.{Document, has_key, StandsFor, holds_key, LeadsTo, rows_of, of_id, not_of_id, Event, Put, Remove, after, delta_of, documents_after, table_after, StaysFresh}
+use Rattle.postings.specs.Fresh.{Document, StandsFor, holds_key, LeadsTo, rows_of, of_id, not_of_id, Event, Put, Remove, after, delta_of, documents_after, table_after, StaysFresh}
 use Rattle.postings.proofs.LookupLemmas.{Rises}
 use Rattle.postings.proofs.FreshLemmas.{keeps_fresh, rises_puts, rises_takes}
 

@@ -5,6 +5,7 @@ use Rattle.std.specs.Ordering.{is_eq}
 use Rattle.std.proofs.lemmas.Bool.{cond_both}
 use Rattle.index_key.specs.declared.Key.{Key}
 use Rattle.index_key.specs.KeyOrder.{key_cmp}
+use Rattle.index_key.specs.Keys.{has_key}
 use Rattle.index_key.proofs.KeyLemmas.{key_total}
 use Rattle.doc_sets.specs.Sets.{has, IsIncreasing, with_id, without_id}
 use Rattle.doc_sets.proofs.SetLemmas.{has-with_id, has-without_id, increasing-put, increasing-out, increasing-same}
@@ -12,7 +13,7 @@ use Rattle.postings.specs.declared.delta.KeyRow.{KeyRow}
 use Rattle.postings.specs.Table.{Table, put_in, take_out, some_ids}
 use Rattle.postings.specs.PostingsView.{ids_at}
 use Rattle.postings.specs.Changes.{takes, puts, has_row, DeltaView, changed}
-use Rattle.postings.specs.Fresh.{Document, has_key, holders, StandsFor, holds_key, KeepsFresh, after}
+use Rattle.postings.specs.Fresh.{Document, holders, StandsFor, holds_key, KeepsFresh, after}
 use Rattle.postings.proofs.LookupLemmas.{Rises, at-put_in, at-take_out, rises-put_in, rises-take_out}
 
 -- each set of the table, by its members; it is not there where it has none

@@ -1,9 +1,8 @@
 -- Sets made afresh from documents and their keys, and changes that lead from some to others.
 use Rattle.std.specs.Prelude.{ℕ, ◌≡◌, Bool, false, not, ◌&&◌, ◌||◌, ◌==◌, List, [], ◌∷◌, map, Option, if◌then◌else◌}
 use Rattle.std.specs.List.{filter, flat_map}
-use Rattle.std.specs.Ordering.{is_eq}
 use Rattle.index_key.specs.declared.Key.{Key}
-use Rattle.index_key.specs.KeyOrder.{key_cmp}
+use Rattle.index_key.specs.Keys.{has_key}
 use Rattle.doc_sets.specs.Sets.{with_id}
 use Rattle.postings.specs.declared.delta.KeyRow.{KeyRow}
 use Rattle.postings.specs.Table.{Table, some_ids}
@@ -14,11 +13,6 @@ use Rattle.postings.specs.Changes.{DeltaView, has_row, changed}
 pub record Document : Type 0 where
   pub id : ℕ
   pub keys : List Key
-
--- whether the key is one of the keys
-abbrev pub has_key : Key → List Key → Bool
-has_key k [] = false
-has_key k (l ∷ ls) = is_eq (key_cmp k l) || has_key k ls
 
 -- the ids of the documents that have the key, in increasing order
 abbrev pub holders : Key → List Document → List ℕ

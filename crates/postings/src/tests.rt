@@ -73,6 +73,36 @@ fn documents_go_and_then_come(rt: HostRuntime) -> Result<(), Fail> {
     Ok(())
 }
 
+// The documents at the keys from one word to another, in the order of keys.
+fn ids_between(
+    alloc: Global,
+    postings: &Postings,
+    low: &str,
+    high: &str,
+) -> Result<Vec<u32>, NoMemory> {
+    let mut ids = Vec::new(alloc);
+    for (_key, set) in postings.range(&key(alloc, low)?, &key(alloc, high)?) {
+        for id in set.iter() {
+            ids.push(id.0)?;
+        }
+    }
+    Ok(ids)
+}
+
+#[test]
+fn keys_of_a_range_are_in_order(rt: HostRuntime) -> Result<(), Fail> {
+    let alloc = rt.alloc();
+    let mut postings = Postings::new(alloc);
+    change(alloc, &mut postings, "knight", &[], &[2])?;
+    change(alloc, &mut postings, "dark", &[], &[4, 3])?;
+    change(alloc, &mut postings, "rises", &[], &[1])?;
+    let both = ids_between(alloc, &postings, "dark", "knight")?;
+    assert_eq!(rt; both.as_slice(), [3, 4, 2].as_slice());
+    let none = ids_between(alloc, &postings, "rises", "dark")?;
+    assert_eq!(rt; none.as_slice(), [].as_slice());
+    Ok(())
+}
+
 #[test]
 fn a_change_may_be_given_up(rt: HostRuntime) -> Result<(), Fail> {
     let alloc = rt.alloc();
