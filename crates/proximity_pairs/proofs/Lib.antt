@@ -1,0 +1,5 @@
+pub mod LeastLemmas
+pub mod OrderLemmas
+pub mod ReachLemmas
+pub mod CostLemmas
+pub mod RowLemmas
