@@ -1,0 +1,6 @@
+pub mod BoolLemmas
+pub mod BucketLemmas
+pub mod KeyTies
+pub mod EntryLemmas
+pub mod SortLemmas
+pub mod PartLemmas
