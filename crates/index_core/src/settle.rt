@@ -69,7 +69,15 @@ fn rows_of_all<F>(
     let mut shared = SharedWords::new(alloc);
     let mut all = Vec::with_capacity(alloc, kept.len())?;
     for document in kept {
-        add_rows(alloc, store, ranks, document.id, &mut shared, &mut all, fetches)?;
+        add_rows(
+            alloc,
+            store,
+            ranks,
+            document.id,
+            &mut shared,
+            &mut all,
+            fetches,
+        )?;
     }
     Ok(all)
 }
