@@ -1,0 +1,12 @@
+mod Loop
+mod Texts
+mod Found
+mod Again
+mod NameLemmas
+mod Lists
+mod Numbers
+mod Back
+mod Above
+mod Fitting
+mod ImageAgain
+mod ImageFound

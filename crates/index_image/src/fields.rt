@@ -1,0 +1,170 @@
+ghost use Rattle.std.specs.Prelude.{◌≡◌, IfOk};
+ghost use Rattle.std.specs.Int.{w32, w64};
+ghost use Rattle.index_image.specs.Answers.{Gives};
+ghost use Rattle.index_image.specs.Fields.{byte_at, number_at, piece_at, utf8_of, text_at as text_in, optional_at, stored_at, documents_at, counted_at};
+ghost use Rattle.index_image.specs.Image.{up_to_at};
+
+use crate::fault::ReadFault;
+use doc_values::{Document, document_at};
+use search_base::{NoMemory, Word};
+use std::alloc::Global;
+use std::str;
+
+/// A byte, and those behind it.
+pub(crate) fn u8_at(bytes: &[u8]) -> Result<(u8, &[u8]), ReadFault>
+    ensures { Gives (λ x. (x.0, x.1.now)) result (byte_at bytes.now) }
+{
+    match bytes {
+        [] => Err(ReadFault::Left(0)),
+        [byte, rest @ ..] => Ok((*byte, rest)),
+    }
+}
+
+/// A number of four bytes, and those behind it.
+pub(crate) fn u32_at(bytes: &[u8]) -> Result<(u32, &[u8]), ReadFault>
+    ensures { Gives (λ x. (x.0, x.1.now)) result (number_at w32 bytes.now) }
+{
+    if bytes.len() < 4 {
+        return Err(ReadFault::Left(bytes.len()));
+    }
+    let (front, rest) = bytes.split_at(4);
+    let number = u32::from_le_bytes([front[0], front[1], front[2], front[3]]);
+    Ok((number, rest))
+}
+
+/// A number of eight bytes, and those behind it.
+fn u64_at(bytes: &[u8]) -> Result<(u64, &[u8]), ReadFault>
+    ensures { Gives (λ x. (x.0, x.1.now)) result (number_at w64 bytes.now) }
+{
+    if bytes.len() < 8 {
+        return Err(ReadFault::Left(bytes.len()));
+    }
+    let (front, rest) = bytes.split_at(8);
+    let mut raw = [0; 8];
+    raw.copy_from_slice(front);
+    Ok((u64::from_le_bytes(raw), rest))
+}
+
+/// A number of four bytes that is not above another, and those behind it.
+#[tactic(auto, unfolding(crate::specs::Image::up_to_at))]
+pub(crate) fn u32_up_to(bytes: &[u8], most: u32) -> Result<(u32, &[u8]), ReadFault>
+    ensures { Gives (λ x. (x.0, x.1.now)) result (up_to_at w32 most bytes.now) }
+{
+    let (number, rest) = u32_at(bytes)?;
+    if number > most {
+        return Err(ReadFault::Left(bytes.len()));
+    }
+    Ok((number, rest))
+}
+
+/// A number of eight bytes that is not above another, and those behind it.
+#[tactic(auto, unfolding(crate::specs::Image::up_to_at))]
+pub(crate) fn u64_up_to(bytes: &[u8], most: u64) -> Result<(u64, &[u8]), ReadFault>
+    ensures { Gives (λ x. (x.0, x.1.now)) result (up_to_at w64 most bytes.now) }
+{
+    let (number, rest) = u64_at(bytes)?;
+    if number > most {
+        return Err(ReadFault::Left(bytes.len()));
+    }
+    Ok((number, rest))
+}
+
+/// The bytes behind a length of eight bytes, and those behind them.
+#[tactic(auto, unfolding(crate::specs::Fields::piece_at))]
+pub(crate) fn long_piece(bytes: &[u8]) -> Result<(&[u8], &[u8]), ReadFault>
+    ensures { Gives (λ x. (x.0.now, x.1.now)) result (piece_at w64 bytes.now) }
+{
+    let (len, rest) = u64_at(bytes)?;
+    if (rest.len() as u64) < len {
+        return Err(ReadFault::Left(bytes.len()));
+    }
+    Ok(rest.split_at(len as usize))
+}
+
+/// The bytes of a text, and those behind it.
+#[tactic(auto, unfolding(crate::specs::Fields::piece_at))]
+pub(crate) fn piece(bytes: &[u8]) -> Result<(&[u8], &[u8]), ReadFault>
+    ensures { Gives (λ x. (x.0.now, x.1.now)) result (piece_at w32 bytes.now) }
+{
+    let (len, rest) = u32_at(bytes)?;
+    let len = len as usize;
+    if rest.len() < len {
+        return Err(ReadFault::Left(bytes.len()));
+    }
+    Ok(rest.split_at(len))
+}
+
+/// A text, and the bytes behind it.
+#[tactic(auto, unfolding(crate::specs::Fields::text_at))]
+pub(crate) fn text(alloc: Global, bytes: &[u8]) -> Result<(Word, &[u8]), ReadFault>
+    ensures { Gives (λ x. (x.0, x.1.now)) result (text_in bytes.now) }
+{
+    let (front, rest) = piece(bytes)?;
+    match word_of(alloc, front)? {
+        Some(word) => Ok((word, rest)),
+        None => Err(ReadFault::Left(front.len() + rest.len())),
+    }
+}
+
+/// The word that bytes spell; none where they are no UTF-8.
+fn word_of(alloc: Global, bytes: &[u8]) -> Result<Option<Word>, NoMemory>
+    ensures { IfOk result (λ word. word ≡ utf8_of bytes.now) }
+{
+    match str::from_utf8(bytes) {
+        Ok(text) => Ok(Some(Word::new(alloc, text)?)),
+        Err(_) => Ok(None),
+    }
+}
+
+/// A text or none, and the bytes behind it.
+#[tactic(auto, unfolding(crate::specs::Fields::optional_at))]
+pub(crate) fn optional(alloc: Global, bytes: &[u8]) -> Result<(Option<Word>, &[u8]), ReadFault>
+    ensures { Gives (λ x. (x.0, x.1.now)) result (optional_at bytes.now) }
+{
+    match bytes {
+        [] => Err(ReadFault::Left(0)),
+        [0, rest @ ..] => Ok((None, rest)),
+        [1, rest @ ..] => {
+            let (word, rest) = text(alloc, rest)?;
+            Ok((Some(word), rest))
+        }
+        [_, ..] => Err(ReadFault::Left(bytes.len())),
+    }
+}
+
+/// The documents that are counted, and the bytes behind them.
+#[tactic(auto, unfolding(crate::specs::Fields::counted_at))]
+pub(crate) fn documents(alloc: Global, bytes: &[u8]) -> Result<(Vec<Document>, &[u8]), ReadFault>
+    ensures { Gives (λ x. (x.0.items, x.1.now)) result (counted_at bytes.now) }
+{
+    let (count, rest) = u32_at(bytes)?;
+    some_documents(alloc, count, rest)
+}
+
+fn some_documents(
+    alloc: Global,
+    count: u32,
+    bytes: &[u8],
+) -> Result<(Vec<Document>, &[u8]), ReadFault>
+    ensures { Gives (λ x. (x.0.items, x.1.now)) result (documents_at count bytes.now) }
+{
+    let mut documents = Vec::new(alloc);
+    let mut rest = bytes;
+    for _ in 0..count {
+        let (document, after) = document(alloc, rest)?;
+        documents.push(document)?;
+        rest = after;
+    }
+    Ok((documents, rest))
+}
+
+#[tactic(auto, unfolding(crate::specs::Fields::stored_at))]
+fn document(alloc: Global, bytes: &[u8]) -> Result<(Document, &[u8]), ReadFault>
+    ensures { Gives (λ x. (x.0, x.1.now)) result (stored_at bytes.now) }
+{
+    let (front, rest) = piece(bytes)?;
+    match document_at(alloc, front)? {
+        Some(document) => Ok((document, rest)),
+        None => Err(ReadFault::Left(front.len() + rest.len())),
+    }
+}

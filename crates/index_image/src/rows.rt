@@ -1,0 +1,28 @@
+use doc_values::Document;
+use index_settings::Settings;
+use search_base::{DocId, Word};
+
+/// A document under its internal id.
+#[derive(Drop)]
+pub struct ImageDocument {
+    pub id: DocId,
+    pub document: Document,
+}
+
+/// An index: its paths in the order of the registry, and its documents by internal ids.
+#[derive(Drop)]
+pub struct ImageIndex {
+    pub uid: Word,
+    pub key: Option<Word>,
+    pub next_id: u32,
+    pub paths: Vec<Word>,
+    pub settings: Settings,
+    pub documents: Vec<ImageDocument>,
+}
+
+/// A state: the count of changes, and the indexes by uids. Contracts see it through `image_view`.
+#[derive(Drop)]
+pub struct ImageRows {
+    pub changes: u64,
+    pub indexes: Vec<ImageIndex>,
+}
