@@ -11,3 +11,5 @@ pub mod ChangeLemmas
 pub mod RestoreLemmas
 pub mod LawLemmas
 pub mod ReserveLemmas
+pub mod CountLemmas
+pub mod ListingLemmas

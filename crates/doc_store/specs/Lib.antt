@@ -8,3 +8,4 @@ pub mod Laws
 pub mod Slots
 pub mod StoreView
 pub mod Codes
+pub mod Counts

@@ -3,6 +3,7 @@ use Rattle.std.specs.Prelude.{ℕ, suc, ◌≡◌, List, [], ◌∷◌, length, 
 use Rattle.doc_store.specs.declared.rows.StoreRow.{StoreRow}
 use Rattle.doc_store.specs.Names.{Names, number_at}
 use Rattle.doc_store.specs.Sound.{IsSound}
+use Rattle.doc_store.specs.Counts.{ids_of, AreCounted}
 use Rattle.doc_store.specs.Store.{Row, Store, row, id_of}
 
 -- the rows of the slots, the first of which has the internal id
@@ -27,8 +28,9 @@ pub record SameRows (s t : Store) : Type 0 where
   pub next_id : s.next_id ≡ t.next_id
   pub rows : s.rows ≡ t.rows
 
--- what a store keeps: its names are the external ids, what it holds is sound, and its documents are counted
-pub record IsStore (ids : Names) (slots : List (Option StoreRow)) (paths : List (List ℕ)) (count : ℕ) : Type 0 where
+-- what a store keeps: its names are the external ids, what it holds is sound, and its documents are counted, also block by block
+pub record IsStore (ids : Names) (slots : List (Option StoreRow)) (paths : List (List ℕ)) (count : ℕ) (counts : List ℕ) : Type 0 where
   pub index : IsIndex ids (rows_of slots)
   pub sound : IsSound (content_of paths slots)
   pub counted : count ≡ length (rows_of slots)
+  pub blocks : AreCounted counts (ids_of (rows_of slots))

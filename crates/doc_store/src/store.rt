@@ -1,4 +1,4 @@
-ghost use Rattle.std.specs.Prelude.{◌≡◌, ◌≢◌, ◌↔◌, ◌+◌, [], Some, map, length, IsTrue, IfOk, IfErr};
+ghost use Rattle.std.specs.Prelude.{◌≡◌, ◌≢◌, ◌↔◌, ◌+◌, [], Some, map, length, take, drop, IsTrue, IfOk, IfErr};
 ghost use Rattle.std.specs.Option.{option_map, is_some};
 ghost use Rattle.doc_store.specs.declared.rows.StoreFault.TheVariants.{NoMemory as Memory};
 ghost use Rattle.doc_store.specs.Store.{all_stored, id_of, spent, row_at, removed};
@@ -7,7 +7,9 @@ ghost use Rattle.doc_store.specs.Restored.{restored};
 ghost use Rattle.doc_store.specs.StoreView.{IsAdmitted, IsPlanFor};
 
 use crate::changes::{push_paths, put_rows, reserve, take_row};
+use crate::counts::{Counts, count_new, counts_of, no_counts, uncount};
 use crate::given::give_ids;
+use crate::listing::listed_ids;
 use crate::places::Places;
 use crate::registry::Registry;
 use crate::restore::put_back;
@@ -27,6 +29,7 @@ pub struct DocStore {
     slots: Slots,
     paths: Registry,
     count: u64,
+    counts: Counts,
 }
 
 impl Model for DocStore {
@@ -42,7 +45,7 @@ impl Model for DocStore {
 
     ghost view = { λ s. record { content = content_of s.paths.paths s.slots.items; row_room = vec_capacity s.slots - vec_len s.slots; ids = s.ids; path_room = s.paths.room; path_places = s.paths.places } };
 
-    ghost invariant = { λ s. IsStore s.ids s.slots.items s.paths.paths s.count };
+    ghost invariant = { λ s. IsStore s.ids s.slots.items s.paths.paths s.count s.counts.items };
 }
 
 /// What documents that come take of a store: the internal id of each, and the paths that the registry gains.
@@ -94,6 +97,7 @@ impl DocStore {
             slots: Vec::new(alloc),
             paths: Registry::new(alloc),
             count: 0,
+            counts: no_counts(alloc)?,
         })
     }
 
@@ -108,6 +112,7 @@ impl DocStore {
         ensures { IfOk result (λ store. store.content ≡ restored paths.items next_id documents.items) }
     {
         let count = documents.len() as u64;
+        let counts = counts_of(alloc, documents.as_slice())?;
         let mut ids = Places::new(alloc);
         let mut slots = Vec::with_capacity(alloc, next_id as usize)?;
         put_back(alloc, &mut ids, &mut slots, next_id, documents)?;
@@ -116,6 +121,7 @@ impl DocStore {
             slots,
             paths: Registry::from_paths(alloc, paths)?,
             count,
+            counts,
         })
     }
 
@@ -141,6 +147,20 @@ impl DocStore {
         ensures { IsTrue result ↔ (self.now.content.rows ≡ []) }
     {
         self.count == 0
+    }
+
+    /// The internal ids of the documents in order, without the first `offset`, and at most `limit` of the rest. What stands
+    /// before the thousand internal ids where they begin is not looked at.
+    pub fn ids(&self, alloc: Global, offset: u64, limit: u64) -> Result<Vec<DocId>, NoMemory>
+        ensures { IfOk result (λ ids. map (λ id. id.0) ids.items ≡ take limit (drop offset (map (λ r. r.id) self.now.content.rows))) }
+    {
+        listed_ids(
+            alloc,
+            self.slots.as_slice(),
+            self.counts.as_slice(),
+            offset,
+            limit,
+        )
     }
 
     /// The document with an internal id. It takes one step and no memory.
@@ -216,9 +236,11 @@ impl DocStore {
             ids: _,
             added,
         } = plan;
-        let before = self.slots.len();
+        let first = self.slots.len();
         put_rows(&mut self.ids, &mut self.slots, rows);
-        self.count += (self.slots.len() - before) as u64;
+        let end = self.slots.len();
+        self.count += (end - first) as u64;
+        count_new(&mut self.counts, first, end);
         push_paths(&mut self.paths, added);
     }
 
@@ -230,6 +252,7 @@ impl DocStore {
         let found = take_row(&mut self.ids, &mut self.slots, id);
         if found {
             self.count -= 1;
+            uncount(&mut self.counts, id.0);
         }
         found
     }

@@ -84,6 +84,33 @@ fn later_documents_replace_earlier_ones(rt: HostRuntime) {
     assert!(rt; !store.holds(DocId(2)));
 }
 
+// The internal ids that are listed, with a space behind each.
+fn listed(rt: &impl Abort, alloc: Global, store: &DocStore, offset: u64, limit: u64) -> String {
+    let ids = store.ids(alloc, offset, limit).expect(rt, "memory");
+    let mut text = String::new(alloc);
+    for id in ids {
+        write!(text, "{} ", id.0).expect(rt, "memory");
+    }
+    text
+}
+
+#[test]
+fn ids_are_listed(rt: HostRuntime) {
+    let alloc = rt.alloc();
+    let mut store = DocStore::new(alloc).expect(&rt, "memory");
+    let come = rows(&rt, alloc, &["a", "b", "c", "d"], "[{},{},{},{}]");
+    let _ids = store_all(&rt, alloc, &mut store, come);
+    assert!(rt; store.remove(DocId(1)));
+    let all = listed(&rt, alloc, &store, 0, 9);
+    assert_eq!(rt; all.as_str(), "0 2 3 ");
+    let second = listed(&rt, alloc, &store, 1, 1);
+    assert_eq!(rt; second.as_str(), "2 ");
+    let none = listed(&rt, alloc, &store, 0, 0);
+    assert_eq!(rt; none.as_str(), "");
+    let past = listed(&rt, alloc, &store, 3, 9);
+    assert_eq!(rt; past.as_str(), "");
+}
+
 #[test]
 fn internal_ids_end(rt: HostRuntime) {
     let alloc = rt.alloc();

@@ -3,7 +3,7 @@ use Rattle.std.proofs.lemmas.Result.{err_from_is_err_and}
 use Rattle.doc_store.specs.Store.{all_stored, spent}
 use Rattle.doc_store.specs.Slots.{content_of}
 use Rattle.doc_store.specs.StoreView.{StoreView, AdmissionView, IsAdmitted}
-use Rattle.doc_store.proofs.StoreLemmas.{admitted-made, paths-spent, ids-spent}
+use Rattle.doc_store.proofs.StoreLemmas.{admitted-made, paths-spent}
 use Rattle.doc_store.proofs.store.DocStore.admit.Goals as goal
 
 pub returns-in_err-added-clause-fault : goal.returns-in_err-added-clause-fault

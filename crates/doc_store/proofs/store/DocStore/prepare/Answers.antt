@@ -1,4 +1,4 @@
-use Rattle.std.proofs.Common.{◌≡◌, ◌≤◌, ◌-◌, [], sym, ap, ◌∙◌, length, map, arith, subst, refl}
+use Rattle.std.proofs.Common.{◌≤◌, ◌-◌, [], sym, ap, ◌∙◌, length, map, arith, subst, refl}
 use Rattle.std.specs.Prelude.{vec_len}
 use Rattle.std.specs.Vec.{vec_capacity}
 use Rattle.doc_store.specs.Names.{AreKept}
