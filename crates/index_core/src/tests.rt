@@ -124,7 +124,13 @@ fn keys_and_ids_of_a_change(rt: HostRuntime) {
     assert!(rt; matches!(differs, Err(CoreFault::KeyDiffers)));
     let missing = update(&rt, alloc, &mut index, "[{\"id\":2},{\"t\":1},{\"id\":[]}]");
     assert!(rt; matches!(missing, Err(CoreFault::MissingId { document: 2 })));
-    let bad = add(&rt, alloc, &mut index, None, "[{\"id\":2},{\"id\":\"a b\"}]");
+    let bad = add(
+        &rt,
+        alloc,
+        &mut index,
+        None,
+        "[{\"id\":2},{\"id\":\"a b\"}]",
+    );
     assert!(rt; matches!(bad, Err(CoreFault::BadId { document: 2 })));
     assert!(rt; index.is_empty());
 }
@@ -171,7 +177,10 @@ fn queries_of_the_films_under_settings(rt: HostRuntime) {
         let want = parts.next().unwrap_or("");
         assert!(rt; patch(&rt, alloc, &mut index, body).is_ok(), "{row}");
         assert_eq!(rt; found(&rt, alloc, &index, q, 0, 20).as_str(), want, "{row}");
-        assert!(rt; change(alloc, &mut index, ChangeKind::Reset).is_ok(), "{row}");
+        assert!(rt;
+            change(alloc, &mut index, ChangeKind::Reset).is_ok(),
+            "{row}"
+        );
     }
 }
 
@@ -181,8 +190,16 @@ fn a_refused_patch_changes_nothing(rt: HostRuntime) {
     let mut index = films(&rt, alloc);
     let body = "{\"searchableAttributes\":[\"title\"],\"stopWords\":5}";
     let done = patch(&rt, alloc, &mut index, body);
-    assert!(rt; matches!(done, Err(CoreFault::Settings(SettingsFault::WrongShape { .. }))));
-    assert_eq!(rt; found(&rt, alloc, &index, "action", 0, 9).as_str(), "1 2 of 2");
+    assert!(rt;
+        matches!(
+            done,
+            Err(CoreFault::Settings(SettingsFault::WrongShape { .. }))
+        )
+    );
+    assert_eq!(rt;
+        found(&rt, alloc, &index, "action", 0, 9).as_str(),
+        "1 2 of 2"
+    );
     assert_eq!(rt; index.settings().max_total_hits(), 1000);
 }
 
