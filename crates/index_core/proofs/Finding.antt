@@ -110,7 +110,7 @@ there (b ∷ before) r after low high h = cond-false (r.id == b.id) _ _ (ne_eqb 
     later-id [] r after low high h = h.0
     later-id (b ∷ before) r after low high h = let rest = later-id before r after (suc b.id) high h.1 in let first = h.0 in omega arith
 
-abbrev IsThere : List Row → Row → Type 0
+abbrev pub IsThere : List Row → Row → Type 0
 IsThere all r = row_at r.id all ≡ Some r
 
 all-there : (before rows : List Row) (high : ℕ) → Increase 0 (before ++ rows) high → AllByRecursion (IsThere (before ++ rows)) rows
@@ -262,22 +262,6 @@ hits-length index kept ids call h is =
 
 pub kept-of : (st : SettingsView) (s : Store) (kept : List KeptRows) → AreKept kept st s → AreOf kept s
 kept-of st s kept h = ap (map (λ (k : KeptRows). k.id.0)) h.same ∙ kept-ids st s s.rows
-
--- what is made of each of these documents is what is made of each row
-reads-kept : {A : Type 0} (f : ℕ → Row → A) (all rows : List Row) (kept : List KeptRows) → map (λ k. k.id.0) kept ≡ map (λ r. r.id) rows → AllByRecursion (IsThere all) rows
-    → filter_map (λ k. option_map (f k.id.0) (row_at k.id.0 all)) kept ≡ map (λ r. f r.id r) rows
-reads-kept f all [] [] e h = refl
-reads-kept f all [] (k ∷ kept) e h = absurd (cc)
-reads-kept f all (r ∷ rows) [] e h = absurd (cc)
-reads-kept f all (r ∷ rows) (k ∷ kept) e h =
-    let first : k.id.0 ≡ r.id = cc in
-    let rest : map (λ k. k.id.0) kept ≡ map (λ r. r.id) rows = cc in
-    ap (λ n. cons_option (option_map (f n) (row_at n all)) (filter_map (λ k. option_map (f k.id.0) (row_at k.id.0 all)) kept)) first
-    ∙ ap (λ o. cons_option (option_map (f r.id) o) (filter_map (λ k. option_map (f k.id.0) (row_at k.id.0 all)) kept)) h.0
-    ∙ ap (λ v. f r.id r ∷ v) (reads-kept f all rows kept rest h.1)
-
-pub all-kept : {A : Type 0} (f : ℕ → Row → A) (s : Store) (kept : List KeptRows) → IsSound s → AreOf kept s → filter_map (λ k. option_map (f k.id.0) (row_at k.id.0 s.rows)) kept ≡ map (λ r. f r.id r) s.rows
-all-kept f s kept sound of = reads-kept f s.rows s.rows kept of (rows-there s sound)
 
 pub length-kept : (s : Store) (kept : List KeptRows) → AreOf kept s → length kept ≡ length s.rows
 length-kept s kept of = same-lengths (λ k. k.id.0) (λ r. r.id) kept s.rows of

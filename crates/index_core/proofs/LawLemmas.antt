@@ -36,7 +36,7 @@ use Rattle.index_core.proofs.Settling.{alike-texts}
 
 -- ---- the key
 
-bind_ok : {A B : Type 0} (r : Result A CoreFault) (f : A → Result B CoreFault) (y : B) → r >>= f ≡ Ok y → (x : A) × (r ≡ Ok x) × (f x ≡ Ok y)
+pub bind_ok : {A B : Type 0} (r : Result A CoreFault) (f : A → Result B CoreFault) (y : B) → r >>= f ≡ Ok y → (x : A) × (r ≡ Ok x) × (f x ≡ Ok y)
 bind_ok (Ok x) f y h = (x, refl, h)
 bind_ok (Err fault) f y h = absurd (cc)
 
@@ -79,10 +79,10 @@ unless_ok : (index after : Index) (fault : Option StoreFault) → unless_spent i
 unless_ok index after None h = cc
 unless_ok index after (Some fault) h = cc
 
-abbrev after_plan : PlanView → Index → Index
+abbrev pub after_plan : PlanView → Index → Index
 after_plan plan index = record { key = plan.key; store = after_work plan.work index.store; settings = settings_after plan.work index.settings }
 
-applied-is : (plan : PlanView) (index after : Index) → applied plan index ≡ Ok after → after_plan plan index ≡ after
+pub applied-is : (plan : PlanView) (index after : Index) → applied plan index ≡ Ok after → after_plan plan index ≡ after
 applied-is plan index after h = unless_ok (after_plan plan index) after (spent (after_work plan.work index.store)) h
 
 pub key_stays : KeyStays

@@ -10,3 +10,5 @@ pub mod Removing
 pub mod Updating
 pub mod Settling
 pub mod LawLemmas
+pub mod KeptSlots
+pub mod StayLemmas

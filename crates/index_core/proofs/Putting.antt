@@ -1,7 +1,6 @@
 -- Rows put for documents that are stored.
-use Rattle.std.proofs.Common.{inl, inr, ◌≡◌, ℕ, zero, suc, ◌+◌, ◌<◌, ◌≤◌, ◌==◌, Bool, true, false, List, [], ◌∷◌, ◌++◌, length, map, slice_index_or, Option, None, Some, refl, sym, ap, subst, ◌∙◌, arith}
-use Rattle.std.proofs.Math.ListN.{set}
-use Rattle.std.specs.Prelude.{◌⊎◌, bytes_eq}
+use Rattle.std.proofs.Common.{inl, inr, ◌≡◌, ℕ, suc, ◌≤◌, ◌==◌, Bool, true, false, List, [], ◌∷◌, ◌++◌, map, Option, None, Some, refl, sym, ap, subst, ◌∙◌, arith}
+use Rattle.std.specs.Prelude.{bytes_eq}
 use Rattle.std.specs.Option.{unwrap_or}
 use Rattle.std.proofs.lemmas.Bool.{cond-true, cond-false, eq-eqb, ne_eqb}
 use Rattle.index_settings.specs.View.{SettingsView}
@@ -13,7 +12,6 @@ use Rattle.doc_store.proofs.SoundLemmas.{IsWhole, whole-stored, sound-all_stored
 use Rattle.index_core.specs.declared.kept.KeptRows.{KeptRows}
 use Rattle.index_core.specs.Kept.{kept_at, AreKept}
 use Rattle.index_core.specs.Matching.{rows_with}
-use Rattle.index_core.specs.Ordered.{RiseFrom, IdsRise}
 use Rattle.index_core.specs.Putting.{put_kept, put_all, HasPlace, HavePlaces, rows_come}
 use Rattle.index_core.proofs.Stable.{all-stay}
 
@@ -110,81 +108,3 @@ admitted-puts st rs s admission kept come paths h admitted is given = record {
 
     both : (put_all (rows_come st paths rs (ids_given rs s)) (kept_in st paths s.rows) ≡ kept_in st paths (all_stored rs s).rows) × HavePlaces (rows_come st paths rs (ids_given rs s)) (kept_in st paths s.rows)
     both = put-each st paths rs s (record { increase = h.sound.increase; apart = h.sound.apart; once = h.sound.once; cover = h.sound.cover })
-
--- ---- rows put at a place
-
-abbrev pub AreBelow : List KeptRows → ℕ → ℕ → Type 0
-AreBelow kept id at = (k : ℕ) (d : KeptRows) → k < at → k < length kept → (slice_index_or kept k d).id.0 < id
-
-abbrev pub AreFrom : List KeptRows → ℕ → ℕ → Type 0
-AreFrom kept id at = (k : ℕ) (d : KeptRows) → at ≤ k → k < length kept → id ≤ (slice_index_or kept k d).id.0
-
-pub put-within : (kept : List KeptRows) (one : KeptRows) (at : ℕ) → HasPlace one.id.0 kept → at < length kept → AreBelow kept one.id.0 at → AreFrom kept one.id.0 at → set kept at one ≡ put_kept one kept
-put-within [] one at place within below from = absurd (omega arith)
-put-within (k ∷ kept) one zero (inl e) within below from = sym (cond-true (one.id.0 == k.id.0) _ _ (eq-eqb one.id.0 k.id.0 e))
-put-within (k ∷ kept) one zero (inr p) within below from = absurd (let low = from 0 k (omega arith) (omega arith) in let high = p.0 in omega arith)
-put-within (k ∷ kept) one (suc at) (inl e) within below from = absurd (let low = below 0 k (omega arith) (omega arith) in omega arith)
-put-within (k ∷ kept) one (suc at) (inr p) within below from =
-    ap (λ v. k ∷ v) (put-within kept one at p.1 (omega arith) (λ j d less in_list. below (suc j) d (omega arith) (omega arith)) (λ j d less in_list. from (suc j) d (omega arith) (omega arith)))
-    ∙ sym (cond-false (one.id.0 == k.id.0) _ _ (ne_eqb one.id.0 k.id.0 (λ e. absurd (let high = p.0 in omega arith))))
-
-pub put-behind : (kept : List KeptRows) (one : KeptRows) → AreBelow kept one.id.0 (length kept) → kept ++ one ∷ [] ≡ put_kept one kept
-put-behind [] one below = refl
-put-behind (k ∷ kept) one below =
-    ap (λ v. k ∷ v) (put-behind kept one (λ j d less in_list. below (suc j) d (omega arith) (omega arith)))
-    ∙ sym (cond-false (one.id.0 == k.id.0) _ _ (ne_eqb one.id.0 k.id.0 (λ e. absurd (let low = below 0 k (omega arith) (omega arith) in omega arith))))
-
--- ids still rise
-rise-put : (low : ℕ) (kept : List KeptRows) (one : KeptRows) → low ≤ one.id.0 → HasPlace one.id.0 kept → RiseFrom low kept → RiseFrom low (put_kept one kept)
-rise-put low [] one le place h = (le, tt)
-rise-put low (k ∷ kept) one le (inl e) h = subst (RiseFrom low) (sym (cond-true (one.id.0 == k.id.0) _ _ (eq-eqb one.id.0 k.id.0 e))) (le, subst (λ n. RiseFrom (suc n) kept) (sym e) h.1)
-rise-put low (k ∷ kept) one le (inr p) h =
-    subst (RiseFrom low) (sym (cond-false (one.id.0 == k.id.0) _ _ (ne_eqb one.id.0 k.id.0 (λ e. absurd (let high = p.0 in omega arith)))))
-    (h.0, rise-put (suc k.id.0) kept one (let high = p.0 in omega arith) p.1 h.1)
-
-pub rises-put : (kept : List KeptRows) (one : KeptRows) → HasPlace one.id.0 kept → IdsRise kept → IdsRise (put_kept one kept)
-rises-put kept one place h = record { each = rise-put 0 kept one (omega arith) place h.each }
-
--- ---- the halves of a search by id
-
-one-above : (low : ℕ) (kept : List KeptRows) (j : ℕ) (d : KeptRows) → RiseFrom low kept → j < length kept → low ≤ (slice_index_or kept j d).id.0
-one-above low [] j d h within = absurd (omega arith)
-one-above low (k ∷ kept) zero d h within = h.0
-one-above low (k ∷ kept) (suc j) d h within = let rest = one-above (suc k.id.0) kept j d h.1 (omega arith) in let first = h.0 in omega arith
-
-earlier : (low : ℕ) (kept : List KeptRows) (k j : ℕ) (d : KeptRows) → RiseFrom low kept → k < j → j < length kept → (slice_index_or kept k d).id.0 < (slice_index_or kept j d).id.0
-earlier low [] k j d h less within = absurd (omega arith)
-earlier low (x ∷ kept) k zero d h less within = absurd (omega arith)
-earlier low (x ∷ kept) zero (suc j) d h less within = one-above (suc x.id.0) kept j d h.1 (omega arith)
-earlier low (x ∷ kept) (suc k) (suc j) d h less within = earlier (suc x.id.0) kept k j d h.1 (omega arith) (omega arith)
-
-same-at : (kept : List KeptRows) (k : ℕ) (d e : KeptRows) → k < length kept → slice_index_or kept k d ≡ slice_index_or kept k e
-same-at [] k d e h = absurd (omega arith)
-same-at (x ∷ kept) zero d e h = refl
-same-at (x ∷ kept) (suc k) d e h = same-at kept k d e (omega arith)
-
-at-most : (a b : ℕ) → a ≤ b → (a ≡ b) ⊎ (a < b)
-at-most zero zero h = inl refl
-at-most zero (suc b) h = inr (omega arith)
-at-most (suc a) zero h = absurd (omega arith)
-at-most (suc a) (suc b) h = elim (at-most a b (omega arith)) [ inl e ↦ inl (ap suc e) | inr l ↦ inr (omega arith) ]
-
-pub below-middle : (kept : List KeptRows) (id : ℕ) (at : KeptRows) (middle : ℕ) → IdsRise kept → middle < length kept → at ≡ slice_index_or kept middle at → at.id.0 < id → AreBelow kept id (middle + 1)
-below-middle kept id at middle rise within is h k d less in_list = by (at-most k middle (omega arith))
-  where
-    here : (slice_index_or kept middle d).id.0 ≡ at.id.0
-    here = ap (λ (v : KeptRows). v.id.0) (same-at kept middle d at within ∙ sym is)
-
-    by : (k ≡ middle) ⊎ (k < middle) → (slice_index_or kept k d).id.0 < id
-    by (inl e) = let same : (slice_index_or kept k d).id.0 ≡ (slice_index_or kept middle d).id.0 = ap (λ n. (slice_index_or kept n d).id.0) e in omega (arith, here, h)
-    by (inr l) = let lower = earlier 0 kept k middle d rise.each l within in omega (arith, here, h)
-
-pub from-middle : (kept : List KeptRows) (id : ℕ) (at : KeptRows) (middle : ℕ) → IdsRise kept → middle < length kept → at ≡ slice_index_or kept middle at → id ≤ at.id.0 → AreFrom kept id middle
-from-middle kept id at middle rise within is h k d less in_list = by (at-most middle k less)
-  where
-    here : (slice_index_or kept middle d).id.0 ≡ at.id.0
-    here = ap (λ (v : KeptRows). v.id.0) (same-at kept middle d at within ∙ sym is)
-
-    by : (middle ≡ k) ⊎ (middle < k) → id ≤ (slice_index_or kept k d).id.0
-    by (inl e) = let same : (slice_index_or kept middle d).id.0 ≡ (slice_index_or kept k d).id.0 = ap (λ n. (slice_index_or kept n d).id.0) e in omega (arith, here, h)
-    by (inr l) = let lower = earlier 0 kept middle k d rise.each l in_list in omega (arith, here, h)

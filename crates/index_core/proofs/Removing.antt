@@ -1,21 +1,13 @@
 -- Documents that go, and the rows that are kept of the others.
-use Rattle.std.proofs.Common.{◌≡◌, ℕ, zero, suc, ◌+◌, ◌<◌, ◌≤◌, ◌==◌, Bool, true, false, cond, ◌||◌, List, [], ◌∷◌, length, map, filter, drop, slice_index_or, Option, None, Some, refl, sym, ap, subst, ◌∙◌, arith}
+use Rattle.std.proofs.Common.{◌≡◌, ℕ, suc, ◌≤◌, ◌==◌, Bool, true, false, cond, ◌||◌, List, [], ◌∷◌, filter, Option, None, Some, refl, sym, ap, subst, ◌∙◌, arith}
 use Rattle.std.specs.Prelude.{bytes_eq, not}
-use Rattle.std.specs.Option.{is_some}
-use Rattle.std.proofs.lemmas.Bool.{cond-true, cond-false, cond_both, eq-eqb, ne_eqb}
-use Rattle.std.proofs.lemmas.List.{drop_all}
-use Rattle.index_settings.specs.View.{SettingsView}
-use Rattle.doc_store.specs.Store.{Row, Store, id_of, row_at, without, removed}
+use Rattle.std.proofs.lemmas.Bool.{cond-true, cond-false, eq-eqb, ne_eqb}
+use Rattle.doc_store.specs.Store.{Row, Store, id_of, without}
 use Rattle.doc_store.specs.Sound.{Increase, AreApart, IsSound}
 use Rattle.doc_store.proofs.SoundLemmas.{sound-removed}
 use Rattle.doc_store.proofs.NameLemmas.{same_bytes, bytes_eq-turned}
-use Rattle.index_core.specs.declared.kept.KeptRows.{KeptRows}
-use Rattle.index_core.specs.Kept.{kept_at, AreKept, AreOf}
-use Rattle.index_core.specs.Matching.{rows_with}
-use Rattle.index_core.specs.Plans.{is_named, all_removed, cleared}
+use Rattle.index_core.specs.Plans.{is_named, all_removed}
 use Rattle.index_core.specs.Removing.{removed_at, removed_under}
-use Rattle.index_core.proofs.Putting.{kept_in}
-use Rattle.index_core.proofs.Finding.{length-kept}
 
 -- ---- one external id
 
@@ -121,77 +113,3 @@ filter-all p h (r ∷ rows) = cond-true _ _ _ (h r) ∙ ap (λ v. r ∷ v) (filt
 
 pub removes-end : (ids left : List (List ℕ)) (s now : Store) → left ≡ [] → Removes ids left s now → now ≡ all_removed ids s
 removes-end ids left s now none h = store-same now (all_removed [] now) refl refl (sym (filter-all (λ r. not (is_named [] r)) (λ r. refl) now.rows)) ∙ ap (λ v. all_removed v now) (sym none) ∙ h.told
-
--- ---- what is kept
-
-absent-above : (id low : ℕ) (rows : List Row) (high : ℕ) → id < low → Increase low rows high → (p : Row → Bool) → row_at id (filter p rows) ≡ None
-absent-above id low [] high less h p = refl
-absent-above id low (r ∷ rows) high less h p = cond_both (p r) (r ∷ filter p rows) (filter p rows) (λ v. row_at id v ≡ None)
-    (λ _. cond-false (id == r.id) _ _ (ne_eqb id r.id (λ e. absurd (let l = h.0 in omega arith))) ∙ absent-above id (suc r.id) rows high (let l = h.0 in omega arith) h.1 p)
-    (λ _. absent-above id (suc r.id) rows high (let l = h.0 in omega arith) h.1 p)
-
-same-test : (f g : KeptRows → Bool) (low : ℕ) → ((k : KeptRows) → low ≤ k.id.0 → f k ≡ g k) → (st : SettingsView) (paths : List (List ℕ)) (rows : List Row) (high : ℕ) → Increase low rows high → filter f (kept_in st paths rows) ≡ filter g (kept_in st paths rows)
-same-test f g low h st paths [] high i = refl
-same-test f g low h st paths (r ∷ rows) high i =
-    let first = h (kept_at r.id (rows_with st paths r.document)) i.0 in
-    let rest = same-test f g (suc r.id) (λ k l. h k (let a = i.0 in omega arith)) st paths rows high i.1 in
-    ap (λ b. cond b (kept_at r.id (rows_with st paths r.document) ∷ filter f (kept_in st paths rows)) (filter f (kept_in st paths rows))) first ∙ ap (λ v. cond (g (kept_at r.id (rows_with st paths r.document))) (kept_at r.id (rows_with st paths r.document) ∷ v) v) rest
-
-kept-filtered : (st : SettingsView) (paths : List (List ℕ)) (p : Row → Bool) (low : ℕ) (rows : List Row) (high : ℕ) → Increase low rows high
-    → filter (λ k. is_some (row_at k.id.0 (filter p rows))) (kept_in st paths rows) ≡ kept_in st paths (filter p rows)
-kept-filtered st paths p low [] high h = refl
-kept-filtered st paths p low (r ∷ rows) high h = by (p r) refl (kept-filtered st paths p (suc r.id) rows high h.1)
-  where
-    one : KeptRows
-    one = kept_at r.id (rows_with st paths r.document)
-
-    by : (b : Bool) → p r ≡ b → filter (λ k. is_some (row_at k.id.0 (filter p rows))) (kept_in st paths rows) ≡ kept_in st paths (filter p rows)
-        → filter (λ k. is_some (row_at k.id.0 (filter p (r ∷ rows)))) (kept_in st paths (r ∷ rows)) ≡ kept_in st paths (filter p (r ∷ rows))
-    by true e again =
-        ap (λ v. filter (λ k. is_some (row_at k.id.0 v)) (kept_in st paths (r ∷ rows))) (cond-true _ _ _ e)
-        ∙ ap (λ b. cond b (one ∷ filter (λ k. is_some (row_at k.id.0 (r ∷ filter p rows))) (kept_in st paths rows)) (filter (λ k. is_some (row_at k.id.0 (r ∷ filter p rows))) (kept_in st paths rows)))
-        (ap is_some (cond-true (r.id == r.id) (Some r) (row_at r.id (filter p rows)) (eq-eqb r.id r.id refl)))
-        ∙ ap (λ v. one ∷ v) (same-test (λ k. is_some (row_at k.id.0 (r ∷ filter p rows))) (λ k. is_some (row_at k.id.0 (filter p rows))) (suc r.id)
-        (λ k l. ap is_some (cond-false (k.id.0 == r.id) (Some r) (row_at k.id.0 (filter p rows)) (ne_eqb k.id.0 r.id (λ s. absurd (omega arith))))) st paths rows high h.1 ∙ again)
-        ∙ sym (ap (kept_in st paths) (cond-true _ _ _ e))
-    by false e again =
-        ap (λ v. filter (λ k. is_some (row_at k.id.0 v)) (kept_in st paths (r ∷ rows))) (cond-false _ _ _ e)
-        ∙ ap (λ b. cond b (one ∷ filter (λ k. is_some (row_at k.id.0 (filter p rows))) (kept_in st paths rows)) (filter (λ k. is_some (row_at k.id.0 (filter p rows))) (kept_in st paths rows)))
-        (ap is_some (absent-above r.id (suc r.id) rows high (omega arith) h.1 p))
-        ∙ again ∙ sym (ap (kept_in st paths) (cond-false _ _ _ e))
-
-pub kept-removed : (st : SettingsView) (ids : List (List ℕ)) (s now : Store) (kept : List KeptRows) → AreKept kept st s → now ≡ all_removed ids s → IsSound now → AreKept (filter (λ k. is_some (row_at k.id.0 now.rows)) kept) st now
-kept-removed st ids s now kept h is sound = record {
-  same = ap (λ (t : Store). filter (λ k. is_some (row_at k.id.0 t.rows)) kept) is ∙ ap (filter (λ k. is_some (row_at k.id.0 (all_removed ids s).rows))) h.same
-      ∙ kept-filtered st s.paths (λ r. not (is_named ids r)) 0 s.rows s.next_id h.sound.increase ∙ ap (λ (t : Store). kept_in st t.paths t.rows) (sym is);
-  sound = sound;
-}
-
--- ---- all documents
-
-pub kept-cleared : (st : SettingsView) (s : Store) → IsSound s → AreKept [] st (cleared s)
-kept-cleared st s h = record { same = refl; sound = record { increase = omega arith; apart = tt; once = h.once; cover = tt; ids_within = h.ids_within; paths_within = h.paths_within } }
-
-pub record Clears (s now : Store) (i : ℕ) : Type 0 where
-  pub left : now ≡ record { paths = s.paths; next_id = s.next_id; rows = drop i s.rows }
-
-drop-first : (kept : List KeptRows) (rows : List Row) (i : ℕ) (k : KeptRows) → map (λ k. k.id.0) kept ≡ map (λ r. r.id) rows → i < length kept → k ≡ slice_index_or kept i k → without k.id.0 (drop i rows) ≡ drop (i + 1) rows
-drop-first [] rows i k e less is = absurd (omega arith)
-drop-first (x ∷ kept) [] i k e less is = absurd (cc)
-drop-first (x ∷ kept) (r ∷ rows) zero k e less is =
-    let first : x.id.0 ≡ r.id = cc in
-    ap (λ (v : KeptRows). without v.id.0 (r ∷ rows)) is ∙ cond-true (x.id.0 == r.id) _ _ (eq-eqb x.id.0 r.id first)
-drop-first (x ∷ kept) (r ∷ rows) (suc i) k e less is =
-    let rest : map (λ k. k.id.0) kept ≡ map (λ r. r.id) rows = cc in
-    drop-first kept rows i k rest (omega arith) is ∙ ap (λ n. drop n (r ∷ rows)) (let e : suc (i + 1) ≡ suc i + 1 = omega arith in e)
-
-pub clears-start : (s : Store) → Clears s s 0
-clears-start s = record { left = refl }
-
-pub clears-one : (s now next : Store) (kept : List KeptRows) (i : ℕ) (k : KeptRows) → AreOf kept s → i < length kept → k ≡ slice_index_or kept i k → next ≡ removed k.id.0 now → Clears s now i → Clears s next (i + 1)
-clears-one s now next kept i k of less is goes c = record {
-  left = goes ∙ ap (removed k.id.0) c.left ∙ ap (λ v. record { paths = s.paths; next_id = s.next_id; rows = v }) (drop-first kept s.rows i k of less is);
-}
-
-pub clears-end : (s now : Store) (kept : List KeptRows) (i : ℕ) → AreOf kept s → length kept ≤ i → Clears s now i → now ≡ cleared s
-clears-end s now kept i of past c = c.left ∙ ap (λ v. record { paths = s.paths; next_id = s.next_id; rows = v }) (drop_all i s.rows (let e = length-kept s kept of in omega arith))

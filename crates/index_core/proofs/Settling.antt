@@ -1,22 +1,18 @@
 -- Settings that search alike, and the ranks that they give.
-use Rattle.std.proofs.Common.{◌≡◌, ℕ, suc, ◌+◌, Bool, true, false, List, [], ◌∷◌, ◌++◌, ◌≤◌, length, map, drop, Option, Some, None, refl, sym, ap, subst, ◌∙◌, append-nil}
+use Rattle.std.proofs.Common.{◌≡◌, ℕ, suc, ◌+◌, Bool, true, false, List, [], ◌∷◌, ◌++◌, ◌≤◌, length, map, drop, Option, Some, refl, sym, ap, subst, ◌∙◌, append-nil}
 use Rattle.std.specs.Prelude.{bytes_eq, ◌&&◌, if◌then◌else◌, codes}
 use Rattle.std.specs.Cmp.Lexicographic.{pointwise}
-use Rattle.std.specs.Option.{option_map}
-use Rattle.std.specs.List.{filter_map}
 use Rattle.std.proofs.lemmas.List.{drop_all}
 use Rattle.std.proofs.lemmas.Bool.{true≢false}
 use Rattle.std.proofs.lemmas.Slice.Eq.{bytes_eq-Decides}
 use Rattle.index_settings.specs.View.{SettingsView}
 use Rattle.index_settings.specs.Paths.{names, first_place, rank_of}
 use Rattle.doc_rows.specs.Rows.{rows_of}
-use Rattle.doc_store.specs.Store.{Row, Store, row_at}
-use Rattle.doc_store.specs.Sound.{IsSound}
+use Rattle.doc_store.specs.Store.{Row, Store}
 use Rattle.index_core.specs.declared.kept.KeptRows.{KeptRows}
-use Rattle.index_core.specs.Kept.{kept_at, kept_of, AreKept, AreOf}
+use Rattle.index_core.specs.Kept.{kept_at, AreKept}
 use Rattle.index_core.specs.Fetches.{search_alike}
 use Rattle.index_core.specs.Matching.{ranks_from, rows_with}
-use Rattle.index_core.proofs.Finding.{all-kept}
 
 texts-alike : (xs : List (List ℕ)) → pointwise bytes_eq xs xs ≡ true
 texts-alike [] = refl
@@ -68,15 +64,3 @@ pub ranks-counted : (st : SettingsView) (paths : List (List ℕ)) (number : ℕ)
 ranks-counted st paths number ranks past told =
     let none : drop number paths ≡ [] = drop_all number paths past in
     ap length (sym (append-nil ranks) ∙ ap (λ (v : List (List ℕ)). ranks ++ ranks_from st number v) (sym none) ∙ told) ∙ ranks-length st 0 paths
-
--- what is made of the document that is kept under an internal id
-abbrev pub made : Store → List (Option ℕ) → KeptRows → Option KeptRows
-made s ranks k = option_map (λ row. kept_at k.id.0 (rows_of row.document s.paths ranks)) (row_at k.id.0 s.rows)
-
--- all rows are made
-pub rows-made : (st : SettingsView) (s : Store) (kept left all : List KeptRows) (ranks : List (Option ℕ)) → IsSound s → AreOf kept s → left ≡ [] → ranks ≡ ranks_from st 0 s.paths
-    → all ++ filter_map (made s ranks) left ≡ filter_map (made s ranks) kept → all ≡ kept_of st s
-rows-made st s kept left all ranks sound of none same told =
-    sym (append-nil all) ∙ ap (λ v. all ++ filter_map (made s ranks) v) (sym none) ∙ told
-    ∙ all-kept (λ n row. kept_at n (rows_of row.document s.paths ranks)) s kept sound of
-    ∙ ap (λ rs. map (λ r. kept_at r.id (rows_of r.document s.paths rs)) s.rows) same

@@ -1,10 +1,11 @@
 -- What holds of an index whatever changes it takes.
-use Rattle.std.specs.Prelude.{◌≡◌, ◌<◌, ◌≤◌, ℕ, ◌-◌, List, [], ◌++◌, length, take, drop, codes, Some, None, Ok}
-use Rattle.doc_values.specs.Changes.{KindData, patch}
+use Rattle.std.specs.Prelude.{◌≡◌, ◌<◌, ◌≤◌, ℕ, ◌-◌, List, [], ◌++◌, length, take, drop, codes, bytes_eq, false, Some, None, Ok}
+use Rattle.std.specs.List.{list_any}
+use Rattle.doc_values.specs.Changes.{KindData, remove, clear, patch}
 use Rattle.index_settings.specs.View.{SettingsView}
 use Rattle.serde_json.specs.Data.{Data}
 use Rattle.serde_json.specs.Find.{get}
-use Rattle.doc_store.specs.Store.{row_at}
+use Rattle.doc_store.specs.Store.{row_at, id_of}
 use Rattle.doc_store.specs.Sound.{IsSound}
 use Rattle.index_core.specs.declared.call.SearchCall.{SearchCall}
 use Rattle.index_core.specs.Fetches.{needed}
@@ -32,6 +33,17 @@ PathsStay = (index after : Index) (change : KindData) → Takes index change aft
 abbrev pub IdsAreSpentOnce : Type 0
 IdsAreSpentOnce = (index after : Index) (change : KindData) (id : ℕ) → Takes index change after →
     id < index.store.next_id → row_at id index.store.rows ≡ None → (index.store.next_id ≤ after.store.next_id) × (row_at id after.store.rows ≡ None)
+
+-- the change takes no document with this external id away
+abbrev pub Spares : KindData → List ℕ → Type 0
+Spares (remove ids) external = list_any (bytes_eq external) ids ≡ false
+Spares clear external = ⊥
+Spares other external = Unit {0}
+
+-- a document keeps its internal id over each change that does not take it away
+abbrev pub DocumentsStay : Type 0
+DocumentsStay = (index after : Index) (change : KindData) (external : List ℕ) (id : ℕ) → Takes index change after → Spares change external →
+    id_of external index.store.rows ≡ Some id → id_of external after.store.rows ≡ Some id
 
 -- a search for no word finds the documents in the order of their internal ids
 abbrev pub NoWordFindsTheList : Type 0

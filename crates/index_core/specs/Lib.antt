@@ -12,3 +12,4 @@ pub mod Laws
 pub mod Putting
 pub mod Removing
 pub mod Updating
+pub mod Slots

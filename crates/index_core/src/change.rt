@@ -1,18 +1,19 @@
-ghost use Rattle.std.specs.Prelude.{◌≡◌, ◌≢◌, ◌++◌, [], None, Some, filter, IfOk, IfErr, OnOk, OnErr};
-ghost use Rattle.std.specs.Option.{option_map, is_some};
-ghost use Rattle.doc_store.specs.Store.{all_stored, row_at, spent};
+ghost use Rattle.std.specs.Prelude.{◌≡◌, ◌≢◌, ◌<◌, ◌++◌, length, None, Some, IfOk, IfErr, OnOk, OnErr};
+ghost use Rattle.std.specs.Option.{option_map};
+ghost use Rattle.doc_store.specs.Store.{all_stored, removed, spent};
+ghost use Rattle.index_settings.specs.View.{SettingsView};
 ghost use Rattle.index_core.specs.Faults.{store_refusal};
 ghost use Rattle.doc_store.specs.Sound.{IsSound};
-ghost use Rattle.index_core.specs.Kept.{AreKept, AreOf};
+ghost use Rattle.index_core.specs.Slots.{AreInSlots};
 ghost use Rattle.index_core.specs.Plans.{all_removed, cleared};
 ghost use Rattle.index_core.specs.Removing.{removed_under};
 ghost use Rattle.index_core.specs.declared.fault.CoreFault.TheVariants.{NoMemory as Memory};
 
 use crate::fault::CoreFault;
-use crate::kept::{KeptRows, put_all, rows_of_new};
+use crate::kept::{Slots, put_all, rows_of_new};
 use doc_store::{DocStore, StoreRow};
 use index_settings::Settings;
-use search_base::{NoMemory, Word};
+use search_base::{DocId, NoMemory, Word};
 use std::alloc::Global;
 
 /// Stores documents one after the other, and keeps their rows. All memory is taken before anything changes.
@@ -20,11 +21,11 @@ pub(crate) fn store_documents(
     alloc: Global,
     settings: &Settings,
     store: &mut DocStore,
-    kept: &mut Vec<KeptRows>,
+    kept: &mut Slots,
     documents: Vec<StoreRow>,
 ) -> Result<(), CoreFault>
-    requires { AreKept kept.old.items settings.now store.old.content }
-    ensures kept { AreKept kept.new.items settings.now store.new.content }
+    requires { AreInSlots kept.old.items settings.now store.old.content }
+    ensures kept { AreInSlots kept.new.items settings.now store.new.content }
     ensures stored { OnOk result (store.new.content ≡ all_stored documents.items store.old.content) }
     ensures within { OnOk result (spent (all_stored documents.items store.old.content) ≡ None) }
     ensures stays { OnErr result (store.new.content ≡ store.old.content) }
@@ -66,58 +67,52 @@ fn add_paths(paths: &[Word], all: &mut Vec<Word>) -> Result<(), NoMemory>
     Ok(())
 }
 
-/// Takes out the documents with these external ids, and what is kept of them.
-pub(crate) fn remove_documents(store: &mut DocStore, kept: &mut Vec<KeptRows>, ids: &[Word])
-    requires { IsSound store.old.content }
-    ensures kept { kept.new.items ≡ filter (λ k. is_some (row_at k.id.0 store.new.content.rows)) kept.old.items }
+/// Takes out the documents with these external ids, and what is kept of them. Each takes steps in proportion to the
+/// logarithm of the index.
+pub(crate) fn remove_documents(store: &mut DocStore, kept: &mut Slots, ids: &[Word])
+    requires sound { IsSound store.old.content }
+    requires slots { length kept.old.items ≡ store.old.content.next_id }
+    ensures kept { (settings : SettingsView) → AreInSlots kept.old.items settings store.old.content → AreInSlots kept.new.items settings store.new.content }
     ensures removed { store.new.content ≡ all_removed ids.now store.old.content }
-    ensures sound { IsSound store.new.content }
 {
     for id in ids {
-        remove_document(store, id.as_str());
+        remove_document(store, kept, id.as_str());
     }
-    keep_stored(store, kept);
 }
 
-fn remove_document(store: &mut DocStore, external: &str)
-    ensures { store.new.content ≡ removed_under external.now store.old.content }
+fn remove_document(store: &mut DocStore, kept: &mut Slots, external: &str)
+    requires sound { IsSound store.old.content }
+    requires slots { length kept.old.items ≡ store.old.content.next_id }
+    ensures kept { (settings : SettingsView) → AreInSlots kept.old.items settings store.old.content → AreInSlots kept.new.items settings store.new.content }
+    ensures slots { length kept.new.items ≡ store.new.content.next_id }
+    ensures removed { store.new.content ≡ removed_under external.now store.old.content }
 {
     match store.id_of(external) {
-        Some(id) => {
-            let _found = store.remove(id);
-        }
+        Some(id) => remove_at(store, kept, id),
         None => {}
     }
 }
 
-// Lets go what is kept of documents that are not stored any more.
-fn keep_stored(store: &DocStore, kept: &mut Vec<KeptRows>)
-    ensures { kept.new.items ≡ filter (λ k. is_some (row_at k.id.0 store.now.content.rows)) kept.old.items }
+// Takes out the document with an internal id, where there is one, and what is kept of it.
+fn remove_at(store: &mut DocStore, kept: &mut Slots, id: DocId)
+    requires slots { length kept.old.items ≡ store.old.content.next_id }
+    requires within { id.0 < length kept.old.items }
+    ensures kept { (settings : SettingsView) → AreInSlots kept.old.items settings store.old.content → AreInSlots kept.new.items settings store.new.content }
+    ensures slots { length kept.new.items ≡ store.new.content.next_id }
+    ensures removed { store.new.content ≡ removed id.0 store.old.content }
 {
-    kept.retain(|document| is_stored(store, document));
-}
-
-fn is_stored(store: &DocStore, document: &KeptRows) -> bool
-    ensures { result ≡ is_some (row_at document.now.id.0 store.now.content.rows) }
-{
-    store.holds(document.id)
+    let _found = store.remove(id);
+    kept[id.0 as usize] = None;
 }
 
 /// Takes out all documents, and what is kept of them.
-pub(crate) fn clear_documents(store: &mut DocStore, kept: &mut Vec<KeptRows>)
-    requires { AreOf kept.old.items store.old.content }
-    ensures kept { kept.new.items ≡ [] }
+pub(crate) fn clear_documents(store: &mut DocStore, kept: &mut Slots)
+    requires sound { IsSound store.old.content }
+    requires slots { length kept.old.items ≡ store.old.content.next_id }
+    ensures kept { (settings : SettingsView) → AreInSlots kept.old.items settings store.old.content → AreInSlots kept.new.items settings store.new.content }
     ensures cleared { store.new.content ≡ cleared store.old.content }
 {
-    remove_each(store, kept.as_slice());
-    kept.clear();
-}
-
-fn remove_each(store: &mut DocStore, kept: &[KeptRows])
-    requires { AreOf kept.now store.old.content }
-    ensures { store.new.content ≡ cleared store.old.content }
-{
-    for document in kept {
-        let _found = store.remove(document.id);
+    for id in 0..kept.len() {
+        remove_at(store, kept, DocId(id as u32));
     }
 }

@@ -13,7 +13,7 @@ ghost use Rattle.index_core.specs.declared.fault.CoreFault.TheVariants.{NoMemory
 use crate::call::{Listing, SearchCall, SearchResult};
 use crate::change::{clear_documents, remove_documents, store_documents};
 use crate::fault::CoreFault;
-use crate::kept::{KeptRows, ids_of_kept, part};
+use crate::kept::Slots;
 use crate::plan::{
     Plan, Work, keeping_key, no_work, planned_patch, planned_replace, planned_reset, planned_update,
 };
@@ -35,12 +35,12 @@ pub struct IndexCore {
     key: Option<Word>,
     store: DocStore,
     settings: Settings,
-    kept: Vec<KeptRows>,
+    kept: Slots,
 }
 
 impl Model for IndexCore {
     ghost use Rattle.index_core.specs.Index.{Index, index_code};
-    ghost use Rattle.index_core.specs.Kept.{AreKept};
+    ghost use Rattle.index_core.specs.Slots.{AreInSlots};
 
     ghost Value = { Index };
 
@@ -48,7 +48,7 @@ impl Model for IndexCore {
 
     ghost view = { λ index. record { key = index.key; store = index.store.content; settings = index.settings } };
 
-    ghost invariant = { λ index. AreKept index.kept.items index.settings index.store.content };
+    ghost invariant = { λ index. AreInSlots index.kept.items index.settings index.store.content };
 }
 
 impl IndexCore {
@@ -194,7 +194,13 @@ impl IndexCore {
         ensures fetches { OnOk result (fetches.new ≡ fetches.old + length (found self.now call.now).hits) }
         ensures starved { OnErr result (fetches.new ≡ fetches.old) }
     {
-        let ranked = rank(alloc, &self.settings, self.kept.as_slice(), call)?;
+        let ranked = rank(
+            alloc,
+            &self.settings,
+            &self.store,
+            self.kept.as_slice(),
+            call,
+        )?;
         let hits = read(alloc, &self.store, ranked.ids.as_slice(), fetches)?;
         Ok(SearchResult {
             hits,
@@ -228,7 +234,7 @@ impl IndexCore {
         ensures fetches { OnOk result (fetches.new ≡ fetches.old + length (take limit (drop offset (documents_in self.now)))) }
         ensures starved { OnErr result (fetches.new ≡ fetches.old) }
     {
-        let ids = ids_of_kept(alloc, part(self.kept.as_slice(), offset, limit))?;
+        let ids = self.store.ids(alloc, offset, limit)?;
         let documents = read(alloc, &self.store, ids.as_slice(), fetches)?;
         Ok(Listing {
             total: self.store.len(),

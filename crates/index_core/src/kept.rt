@@ -1,9 +1,7 @@
-ghost use Rattle.std.specs.Prelude.{◌≡◌, ◌+◌, ◌<◌, ◌≤◌, ℕ, length, map, take, drop, vec_len, IfOk};
+ghost use Rattle.std.specs.Prelude.{◌≡◌, ◌+◌, ◌≤◌, suc, max, length, map, take, drop, vec_len, IfOk};
 ghost use Rattle.std.specs.Vec.{vec_capacity};
-ghost use Rattle.std.proofs.Common.{slice_index_or};
-ghost use Rattle.index_core.specs.declared.kept.KeptRows.{KeptRows as Kept};
-ghost use Rattle.index_core.specs.Ordered.{IdsRise};
 ghost use Rattle.index_core.specs.Putting.{put_kept as kept_with, put_all as kept_with_all, HasPlace, HavePlaces, rows_come};
+ghost use Rattle.index_core.specs.Slots.{kept_from, HaveSlots, slots_after};
 
 use crate::settle::ranks_of;
 use doc_rows::{SharedWords, rows};
@@ -12,7 +10,10 @@ use index_settings::Settings;
 use search_base::{DocId, DocRows, NoMemory, Word};
 use std::alloc::Global;
 
-/// What a search sees of a stored document, under its internal id.
+/// What a search sees of each document, by its internal id, and None where the document is gone.
+pub(crate) type Slots = Vec<Option<DocRows>>;
+
+/// What a search sees of a document that comes, with its internal id.
 #[derive(Drop)]
 pub(crate) struct KeptRows {
     pub(crate) id: DocId,
@@ -27,16 +28,6 @@ pub(crate) fn part<T>(list: &[T], offset: u64, limit: u64) -> &[T]
     let start = offset.min(length);
     let end = start + limit.min(length - start);
     &list[start as usize..end as usize]
-}
-
-pub(crate) fn ids_of_kept(alloc: Global, kept: &[KeptRows]) -> Result<Vec<DocId>, NoMemory>
-    ensures { IfOk result (λ ids. map (λ id. id.0) ids.items ≡ map (λ k. k.id.0) kept.now) }
-{
-    let mut ids = Vec::with_capacity(alloc, kept.len())?;
-    for document in kept {
-        ids.push(document.id)?;
-    }
-    Ok(ids)
 }
 
 /// The rows of documents that come with these internal ids, in an index with these settings and paths.
@@ -63,51 +54,32 @@ pub(crate) fn rows_of_new(
     Ok(come)
 }
 
-/// Puts rows, one after the other, each in place of those of its internal id, or else behind the others. Takes no
-/// memory.
-pub(crate) fn put_all(kept: &mut Vec<KeptRows>, come: Vec<KeptRows>)
-    requires rise { IdsRise kept.old.items }
-    requires places { HavePlaces come.items kept.old.items }
+/// Puts rows, one after the other, each into the slot of its internal id, or into a new one. Takes no memory.
+pub(crate) fn put_all(kept: &mut Slots, come: Vec<KeptRows>)
+    requires places { HavePlaces come.items (kept_from 0 kept.old.items) }
+    requires slots { HaveSlots come.items (length kept.old.items) }
     requires room { vec_len kept.old + length come.items ≤ vec_capacity kept.old }
-    ensures { kept.new.items ≡ kept_with_all come.items kept.old.items }
+    ensures rows { kept_from 0 kept.new.items ≡ kept_with_all come.items (kept_from 0 kept.old.items) }
+    ensures slots { length kept.new.items ≡ slots_after come.items (length kept.old.items) }
 {
     for one in come {
         put_kept(kept, one);
     }
 }
 
-fn put_kept(kept: &mut Vec<KeptRows>, one: KeptRows)
-    requires rise { IdsRise kept.old.items }
-    requires place { HasPlace one.id.0 kept.old.items }
+fn put_kept(kept: &mut Slots, one: KeptRows)
+    requires place { HasPlace one.id.0 (kept_from 0 kept.old.items) }
+    requires slot { one.id.0 ≤ length kept.old.items }
     requires room { vec_len kept.old + 1 ≤ vec_capacity kept.old }
-    ensures items { kept.new.items ≡ kept_with one kept.old.items }
-    ensures len { vec_len kept.new ≤ vec_len kept.old + 1 }
+    ensures rows { kept_from 0 kept.new.items ≡ kept_with one (kept_from 0 kept.old.items) }
+    ensures slots { length kept.new.items ≡ max (length kept.old.items) (suc one.id.0) }
     ensures capacity { vec_capacity kept.new ≡ vec_capacity kept.old }
 {
-    let at = place_of(kept.as_slice(), one.id);
+    let KeptRows { id, rows } = one;
+    let at = id.0 as usize;
     if at < kept.len() {
-        kept[at] = one;
+        kept[at] = Some(rows);
     } else {
-        kept.push_reserved(one);
+        kept.push_reserved(Some(rows));
     }
-}
-
-// How many of the rows are of smaller internal ids.
-fn place_of(kept: &[KeptRows], id: DocId) -> usize
-    requires { IdsRise kept.now }
-    ensures below { (k : ℕ) (d : Kept) → k < result → k < length kept.now → (slice_index_or kept.now k d).id.0 < id.0 }
-    ensures above { (k : ℕ) (d : Kept) → result ≤ k → k < length kept.now → id.0 ≤ (slice_index_or kept.now k d).id.0 }
-    ensures within { result ≤ length kept.now }
-{
-    let mut low = 0;
-    let mut high = kept.len();
-    while low < high {
-        let middle = low + (high - low) / 2;
-        if kept[middle].id.0 < id.0 {
-            low = middle + 1;
-        } else {
-            high = middle;
-        }
-    }
-    low
 }

@@ -1,4 +1,4 @@
-ghost use Rattle.index_core.specs.Laws.{KeyStays, PathsStay, IdsAreSpentOnce, NoWordFindsTheList, OtherPatchesLeaveSearch, SettingsReadOnce};
+ghost use Rattle.index_core.specs.Laws.{KeyStays, PathsStay, IdsAreSpentOnce, DocumentsStay, NoWordFindsTheList, OtherPatchesLeaveSearch, SettingsReadOnce};
 
 /// What stays of an index whatever change it takes: its primary key, the paths of its registry, and that an internal id
 /// is given once. It does nothing.
@@ -6,6 +6,11 @@ pub fn changes_keep_key_paths_and_ids()
     ensures key { KeyStays }
     ensures paths { PathsStay }
     ensures ids { IdsAreSpentOnce }
+{}
+
+/// A document keeps its internal id over each change that does not take it away. It does nothing.
+pub fn documents_stay_under_their_ids()
+    ensures { DocumentsStay }
 {}
 
 /// A search for no word finds the documents in the order of their internal ids. It does nothing.

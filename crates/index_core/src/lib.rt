@@ -31,7 +31,7 @@ pub use call::{Listing, SearchCall, SearchResult};
 pub use fault::CoreFault;
 pub use index::IndexCore;
 pub use laws::{
-    changes_keep_key_paths_and_ids, no_word_finds_the_list, other_patches_leave_search,
-    settings_read_once,
+    changes_keep_key_paths_and_ids, documents_stay_under_their_ids, no_word_finds_the_list,
+    other_patches_leave_search, settings_read_once,
 };
 pub use plan::Plan;

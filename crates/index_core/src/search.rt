@@ -1,17 +1,21 @@
-ghost use Rattle.std.specs.Prelude.{◌≡◌, ◌-◌, map, length, take, drop, [], IfOk};
+ghost use Rattle.std.specs.Prelude.{◌≡◌, ◌-◌, ◌≤◌, map, length, take, drop, [], IfOk};
 ghost use Rattle.search_base.specs.Graphs.{IsGraph};
 ghost use Rattle.index_core.specs.Matching.{query_without, stop_words_of};
 ghost use Rattle.index_core.specs.Hits.{hits_of, window_end as end_of_window};
-ghost use Rattle.index_core.specs.Ordered.{placed_all, matches_in, IdsRise};
+ghost use Rattle.std.specs.Option.{option_map};
+ghost use Rattle.index_core.specs.Ordered.{placed_all, matches_in};
+ghost use Rattle.index_core.specs.Kept.{AreOf};
+ghost use Rattle.index_core.specs.Slots.{kept_from, costs_in};
 
 use crate::call::SearchCall;
 use crate::candidate::{Candidate, place};
-use crate::kept::{KeptRows, ids_of_kept, part};
+use crate::kept::part;
 use crate::stops::stop_words;
+use doc_store::DocStore;
 use index_settings::Settings;
 use plain_rank::cost_tuple;
 use query_graph::{build_graph, items};
-use search_base::{DocId, Graph, NoMemory, Rule, Strategy};
+use search_base::{CostKey, DocId, DocRows, Graph, NoMemory, Rule, Strategy};
 use std::alloc::Global;
 
 /// The internal ids of the hits of a search, and how many documents match.
@@ -25,14 +29,16 @@ pub(crate) struct Ranked {
 pub(crate) fn rank(
     alloc: Global,
     settings: &Settings,
-    kept: &[KeptRows],
+    store: &DocStore,
+    kept: &[Option<DocRows>],
     call: &SearchCall,
 ) -> Result<Ranked, NoMemory>
-    requires { IdsRise kept.now }
+    requires of { AreOf (kept_from 0 kept.now) store.now.content }
+    requires few { length kept.now ≤ 1000000 }
     ensures ids { IfOk result (λ ranked. map (λ id. id.0) ranked.ids.items
-        ≡ map (λ m. m.id) (hits_of settings.now.max_total_hits call.now (matches_in (query_without (stop_words_of settings.now) call.now.q) kept.now))) }
+        ≡ map (λ m. m.id) (hits_of settings.now.max_total_hits call.now (matches_in (query_without (stop_words_of settings.now) call.now.q) (kept_from 0 kept.now)))) }
     ensures total { IfOk result (λ ranked. ranked.total
-        ≡ length (matches_in (query_without (stop_words_of settings.now) call.now.q) kept.now)) }
+        ≡ length (matches_in (query_without (stop_words_of settings.now) call.now.q) (kept_from 0 kept.now))) }
 {
     let query = query_of(alloc, settings, call.q.as_str())?;
     let end = window_end(settings.max_total_hits(), call);
@@ -40,8 +46,8 @@ pub(crate) fn rank(
     let levels = query.levels.as_slice();
     if levels.is_empty() {
         return Ok(Ranked {
-            ids: ids_of_kept(alloc, part(kept, call.offset, limit))?,
-            total: kept.len() as u64,
+            ids: store.ids(alloc, call.offset, limit)?,
+            total: store.len(),
         });
     }
     let best = find_best(alloc, kept, &query, end as usize)?;
@@ -74,25 +80,45 @@ struct Best {
     total: u64,
 }
 
-fn find_best(alloc: Global, kept: &[KeptRows], query: &Graph, most: usize) -> Result<Best, NoMemory>
+fn find_best(
+    alloc: Global,
+    kept: &[Option<DocRows>],
+    query: &Graph,
+    most: usize,
+) -> Result<Best, NoMemory>
     requires graph { IsGraph query.now }
-    requires rise { IdsRise kept.now }
-    ensures first { IfOk result (λ best. best.first.items ≡ take most (placed_all (matches_in query.now kept.now) [])) }
-    ensures total { IfOk result (λ best. best.total ≡ length (matches_in query.now kept.now)) }
+    requires few { length kept.now ≤ 1000000 }
+    ensures first { IfOk result (λ best. best.first.items ≡ take most (placed_all (matches_in query.now (kept_from 0 kept.now)) [])) }
+    ensures total { IfOk result (λ best. best.total ≡ length (matches_in query.now (kept_from 0 kept.now))) }
 {
     let mut first = Vec::new(alloc);
     let mut total = 0;
-    for document in kept {
-        if let Some(costs) = cost_tuple(alloc, query, &document.rows, &[Rule::Words])? {
+    for (at, slot) in kept.iter().enumerate() {
+        if let Some(costs) = costs_of(alloc, query, slot)? {
             let candidate = Candidate {
                 costs,
-                id: document.id,
+                id: DocId(at as u32),
             };
             place(&mut first, candidate, most)?;
             total += 1;
         }
     }
     Ok(Best { first, total })
+}
+
+// The costs of the document in a slot, where there is one and it matches.
+fn costs_of(
+    alloc: Global,
+    query: &Graph,
+    slot: &Option<DocRows>,
+) -> Result<Option<Vec<CostKey>>, NoMemory>
+    requires { IsGraph query.now }
+    ensures { IfOk result (λ costs. option_map (λ cost. cost.items) costs ≡ costs_in query.now slot.now) }
+{
+    match slot {
+        Some(rows) => cost_tuple(alloc, query, rows, &[Rule::Words]),
+        None => Ok(None),
+    }
 }
 
 fn ids_of(alloc: Global, candidates: &[Candidate]) -> Result<Vec<DocId>, NoMemory>

@@ -1,18 +1,15 @@
-ghost use Rattle.std.specs.Prelude.{◌≡◌, ◌+◌, ◌≤◌, ◌++◌, [], length, IfOk, IfErr, OnOk, OnErr, if◌then◌else◌};
-ghost use Rattle.std.specs.Option.{option_map};
-ghost use Rattle.std.specs.List.{cons_option};
-ghost use Rattle.doc_rows.specs.Rows.{rows_of as rows_in};
-ghost use Rattle.doc_store.specs.Store.{row_at};
+ghost use Rattle.std.specs.Prelude.{◌≡◌, ◌+◌, ◌≤◌, ◌++◌, ◌∷◌, [], length, IfOk, IfErr, OnOk, OnErr, if◌then◌else◌};
 ghost use Rattle.doc_store.specs.Sound.{IsSound};
 ghost use Rattle.index_core.specs.Fetches.{search_alike as are_alike};
-ghost use Rattle.index_core.specs.Kept.{AreKept, AreOf, kept_at, kept_of};
+ghost use Rattle.index_core.specs.Kept.{AreOf, kept_of};
+ghost use Rattle.index_core.specs.Slots.{AreInSlots, kept_from, rows_at, anew};
 ghost use Rattle.index_core.specs.Matching.{ranks_from};
 
-use crate::kept::KeptRows;
+use crate::kept::Slots;
 use doc_rows::{SharedWords, rows};
 use doc_store::DocStore;
 use index_settings::{Settings, rank_of};
-use search_base::{DocId, NoMemory, Steps, Word};
+use search_base::{DocId, DocRows, NoMemory, Steps, Word};
 use std::alloc::Global;
 
 /// Gives an index other settings. What is kept of its documents is made anew where other paths are searched, or the same
@@ -20,13 +17,13 @@ use std::alloc::Global;
 pub(crate) fn settle<F>(
     alloc: Global,
     store: &DocStore,
-    kept: &mut Vec<KeptRows>,
+    kept: &mut Slots,
     settings: &mut Settings,
     others: Settings,
     fetches: &mut Steps<F>,
 ) -> Result<(), NoMemory>
-    requires { AreKept kept.old.items settings.old store.now.content }
-    ensures kept { AreKept kept.new.items settings.new store.now.content }
+    requires { AreInSlots kept.old.items settings.old store.now.content }
+    ensures kept { AreInSlots kept.new.items settings.new store.now.content }
     ensures settings { OnOk result (settings.new ≡ others) }
     ensures stays { OnErr result (settings.new ≡ settings.old) }
     ensures fetches { OnOk result (fetches.new
@@ -55,12 +52,14 @@ fn rows_of_all<F>(
     alloc: Global,
     store: &DocStore,
     settings: &Settings,
-    kept: &[KeptRows],
+    kept: &[Option<DocRows>],
     fetches: &mut Steps<F>,
-) -> Result<Vec<KeptRows>, NoMemory>
+) -> Result<Slots, NoMemory>
     requires sound { IsSound store.now.content }
-    requires kept { AreOf kept.now store.now.content }
-    ensures rows { IfOk result (λ rows. rows.items ≡ kept_of settings.now store.now.content) }
+    requires kept { AreOf (kept_from 0 kept.now) store.now.content }
+    requires few { length kept.now ≤ 1000000 }
+    ensures rows { IfOk result (λ rows. kept_from 0 rows.items ≡ kept_of settings.now store.now.content) }
+    ensures slots { IfOk result (λ rows. length rows.items ≡ length kept.now) }
     ensures fetches { OnOk result (fetches.new ≡ fetches.old + length store.now.content.rows) }
     ensures at_most { fetches.new ≤ fetches.old + length store.now.content.rows }
 {
@@ -68,18 +67,46 @@ fn rows_of_all<F>(
     let ranks = ranks.as_slice();
     let mut shared = SharedWords::new(alloc);
     let mut all = Vec::with_capacity(alloc, kept.len())?;
-    for document in kept {
-        add_rows(
+    for (at, slot) in kept.iter().enumerate() {
+        let id = DocId(at as u32);
+        add_slot(
             alloc,
             store,
             ranks,
-            document.id,
+            id,
+            slot,
             &mut shared,
             &mut all,
             fetches,
         )?;
     }
     Ok(all)
+}
+
+// The rows of the document in a slot anew, and an empty slot in place of an empty one.
+fn add_slot<F>(
+    alloc: Global,
+    store: &DocStore,
+    ranks: &[Option<u16>],
+    id: DocId,
+    slot: &Option<DocRows>,
+    shared: &mut SharedWords,
+    all: &mut Slots,
+    fetches: &mut Steps<F>,
+) -> Result<(), NoMemory>
+    requires few { length store.now.content.paths ≤ 1000 }
+    requires ranks { length ranks.now ≡ length store.now.content.paths }
+    ensures rows { OnOk result (all.new.items ≡ all.old.items ++ anew id.0 ranks.now store.now.content slot.now ∷ []) }
+    ensures fetches { OnOk result (fetches.new ≡ fetches.old + length (kept_from id.0 (slot.now ∷ []))) }
+    ensures at_most { fetches.new ≤ fetches.old + length (kept_from id.0 (slot.now ∷ [])) }
+{
+    match slot {
+        Some(_) => add_rows(alloc, store, ranks, id, shared, all, fetches),
+        None => {
+            all.push(None)?;
+            Ok(())
+        }
+    }
 }
 
 // The rows of the document with an internal id, where there is one.
@@ -89,21 +116,21 @@ fn add_rows<F>(
     ranks: &[Option<u16>],
     id: DocId,
     shared: &mut SharedWords,
-    all: &mut Vec<KeptRows>,
+    all: &mut Slots,
     fetches: &mut Steps<F>,
 ) -> Result<(), NoMemory>
     requires few { length store.now.content.paths ≤ 1000 }
     requires ranks { length ranks.now ≡ length store.now.content.paths }
-    ensures rows { OnOk result (all.new.items ≡ all.old.items ++ cons_option
-        (option_map (λ row. kept_at id.0 (rows_in row.document store.now.content.paths ranks.now)) (row_at id.0 store.now.content.rows)) []) }
+    ensures rows { OnOk result (all.new.items ≡ all.old.items ++ rows_at id.0 ranks.now store.now.content ∷ []) }
     ensures fetches { fetches.new ≡ fetches.old + 1 }
 {
     let Some(text) = store.fetch(id, fetches) else {
+        all.push(None)?;
         return Ok(());
     };
     let document = text.document(alloc)?;
     let rows = rows(alloc, &document, store.paths(), ranks, shared)?;
-    all.push(KeptRows { id, rows })?;
+    all.push(Some(rows))?;
     Ok(())
 }
 

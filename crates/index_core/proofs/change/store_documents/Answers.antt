@@ -1,15 +1,13 @@
-use Rattle.std.proofs.Common.{◌≡◌, ◌++◌, sym, ap, ap₂, ◌∙◌, subst, map}
-use Rattle.doc_store.specs.Store.{all_stored}
+use Rattle.std.proofs.Common.{◌≡◌, ◌++◌, length, sym, ap, ap₂, ◌∙◌, subst, map}
+use Rattle.doc_store.specs.Store.{all_stored, ids_given}
 use Rattle.doc_store.specs.StoreView.{IsAdmitted}
+use Rattle.doc_store.proofs.SoundLemmas.{IsWhole}
 use Rattle.index_core.specs.Kept.{AreKept}
-use Rattle.index_core.specs.Ordered.{IdsRise}
 use Rattle.index_core.specs.Putting.{put_all, HavePlaces, rows_come}
-use Rattle.index_core.proofs.Finding.{ids-rise}
+use Rattle.index_core.specs.Slots.{kept_from, AreInSlots, HaveSlots, slots_after}
+use Rattle.index_core.proofs.KeptSlots.{come-slots}
 use Rattle.index_core.proofs.Putting.{admitted-puts}
 use Rattle.index_core.proofs.change.store_documents.Goals as goal
-
-pub put_all-requires-clause-rise : goal.put_all-requires-clause-rise
-put_all-requires-clause-rise c = subst IdsRise (sym c.reserve.ensures.items) (ids-rise c.args.settings.now c.args.store.now.content c.args.kept.now.items c.requires)
 
 pub put_all-requires-clause-places : goal.put_all-requires-clause-places
 put_all-requires-clause-places c =
@@ -19,10 +17,29 @@ put_all-requires-clause-places c =
     let a = c.in_ok-admission.admission in
     let paths = c.in_ok-paths.paths.items in
     let come = c.in_ok-come.come.items in
+    let old = c.args.kept.now.items in
     let admitted : IsAdmitted s rs a = subst (λ v. IsAdmitted s v a) c.as_slice.ensures.value c.in_ok-admission.ensures.admitted in
     let all : paths ≡ s.paths ++ a.added = c.in_ok-paths.ensures ∙ ap₂ ◌++◌ c.paths.ensures c.added.ensures in
     let given : come ≡ rows_come st paths rs a.ids = c.in_ok-come.ensures ∙ ap (λ v. rows_come st v c.as_slice-3.result.now (map (λ id. id.0) c.ids.result.now)) c.as_slice-2.ensures.value ∙ ap (λ v. rows_come st paths v (map (λ id. id.0) c.ids.result.now)) c.as_slice-3.ensures.value ∙ ap (rows_come st paths rs) c.ids.ensures in
-    subst (HavePlaces come) (sym c.reserve.ensures.items) (admitted-puts st rs s a c.args.kept.now.items come paths c.requires admitted all given).places
+    subst (λ v. HavePlaces come (kept_from 0 v)) (sym c.reserve.ensures.items) (admitted-puts st rs s a (kept_from 0 old) come paths c.requires.kept admitted all given).places
+
+pub put_all-requires-clause-slots : goal.put_all-requires-clause-slots
+put_all-requires-clause-slots c =
+    let st = c.args.settings.now in
+    let s = c.args.store.now.content in
+    let rs = c.args.documents.items in
+    let a = c.in_ok-admission.admission in
+    let paths = c.in_ok-paths.paths.items in
+    let come = c.in_ok-come.come.items in
+    let old = c.args.kept.now.items in
+    let admitted : IsAdmitted s rs a = subst (λ v. IsAdmitted s v a) c.as_slice.ensures.value c.in_ok-admission.ensures.admitted in
+    let all : paths ≡ s.paths ++ a.added = c.in_ok-paths.ensures ∙ ap₂ ◌++◌ c.paths.ensures c.added.ensures in
+    let given : come ≡ rows_come st paths rs a.ids = c.in_ok-come.ensures ∙ ap (λ v. rows_come st v c.as_slice-3.result.now (map (λ id. id.0) c.ids.result.now)) c.as_slice-2.ensures.value ∙ ap (λ v. rows_come st paths v (map (λ id. id.0) c.ids.result.now)) c.as_slice-3.ensures.value ∙ ap (rows_come st paths rs) c.ids.ensures in
+    let comes : come ≡ rows_come st paths rs (ids_given rs s) = given ∙ ap (rows_come st paths rs) admitted.ids in
+    let sound = c.requires.kept.sound in
+    let whole : IsWhole s = record { increase = sound.increase; apart = sound.apart; once = sound.once; cover = sound.cover } in
+    let slots = come-slots st paths rs s whole in
+    subst (λ v. HaveSlots come (length v)) (sym c.reserve.ensures.items) (subst (HaveSlots come) (sym c.requires.many) (subst (λ v. HaveSlots v s.next_id) (sym comes) slots.0))
 
 pub returns-clause-kept : goal.returns-clause-kept
 returns-clause-kept c =
@@ -32,9 +49,17 @@ returns-clause-kept c =
     let a = c.in_ok-admission.admission in
     let paths = c.in_ok-paths.paths.items in
     let come = c.in_ok-come.come.items in
+    let old = c.args.kept.now.items in
     let admitted : IsAdmitted s rs a = subst (λ v. IsAdmitted s v a) c.as_slice.ensures.value c.in_ok-admission.ensures.admitted in
     let all : paths ≡ s.paths ++ a.added = c.in_ok-paths.ensures ∙ ap₂ ◌++◌ c.paths.ensures c.added.ensures in
     let given : come ≡ rows_come st paths rs a.ids = c.in_ok-come.ensures ∙ ap (λ v. rows_come st v c.as_slice-3.result.now (map (λ id. id.0) c.ids.result.now)) c.as_slice-2.ensures.value ∙ ap (λ v. rows_come st paths v (map (λ id. id.0) c.ids.result.now)) c.as_slice-3.ensures.value ∙ ap (rows_come st paths rs) c.ids.ensures in
-    let puts = admitted-puts st rs s a c.args.kept.now.items come paths c.requires admitted all given in
+    let comes : come ≡ rows_come st paths rs (ids_given rs s) = given ∙ ap (rows_come st paths rs) admitted.ids in
+    let sound = c.requires.kept.sound in
+    let whole : IsWhole s = record { increase = sound.increase; apart = sound.apart; once = sound.once; cover = sound.cover } in
+    let slots = come-slots st paths rs s whole in
+    let puts = admitted-puts st rs s a (kept_from 0 old) come paths c.requires.kept admitted all given in
     let after : c.commit.new.self.content ≡ all_stored rs s = c.commit.ensures ∙ ap₂ all_stored c.in_ok-plan.ensures.rows c.prepare.ensures.content in
-    subst (AreKept c.put_all.new.kept.items st) (sym after) (subst (λ v. AreKept v st (all_stored rs s)) (sym (c.put_all.ensures ∙ ap (put_all come) c.reserve.ensures.items)) puts.becomes)
+    subst (AreInSlots c.put_all.new.kept.items st) (sym after) (record {
+      kept = subst (λ v. AreKept v st (all_stored rs s)) (sym (c.put_all.ensures.rows ∙ ap (λ v. put_all come (kept_from 0 v)) c.reserve.ensures.items)) puts.becomes;
+      many = c.put_all.ensures.slots ∙ ap (λ v. slots_after come (length v)) c.reserve.ensures.items ∙ ap (slots_after come) c.requires.many ∙ ap (λ v. slots_after v s.next_id) comes ∙ slots.1;
+    })

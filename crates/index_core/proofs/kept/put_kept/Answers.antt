@@ -1,18 +1,35 @@
-use Rattle.std.proofs.Common.{◌≡◌, ◌<◌, ◌∙◌, sym, ap, subst, length, arith}
-use Rattle.index_core.proofs.Putting.{put-within, put-behind, AreBelow, AreFrom}
+use Rattle.std.proofs.Common.{◌≡◌, ◌+◌, ◌<◌, ◌∙◌, ap, length, arith, [], ◌∷◌, Some, suc, length-append}
+use Rattle.std.proofs.lemmas.List.{length-set}
+use Rattle.std.specs.Prelude.{max}
+use Rattle.index_core.specs.Slots.{kept_from}
+use Rattle.index_core.proofs.KeptSlots.{slot-put, slot-pushed}
 use Rattle.index_core.proofs.kept.put_kept.Goals as goal
 
-pub returns-then-at-len-clause-items : goal.returns-then-at-len-clause-items
-returns-then-at-len-clause-items c =
+pub returns-then-at-len-clause-rows : goal.returns-then-at-len-clause-rows
+returns-then-at-len-clause-rows c =
     let kept = c.args.kept.now.items in
-    let at = c.place_of-at.result in
-    let less : at < length kept = omega (arith, c.if-at-len.true, ap length c.as_slice.ensures.value) in
-    put-within kept c.args.one at c.requires.place less (subst (λ v. AreBelow v c.args.one.id.0 at) c.as_slice.ensures.value c.place_of-at.ensures.below) (subst (λ v. AreFrom v c.args.one.id.0 at) c.as_slice.ensures.value c.place_of-at.ensures.above)
+    let id = c.args.one.id.0 in
+    let less : id < length kept = omega arith in
+    slot-put id 0 id kept c.args.one.rows (omega arith) less c.requires.place
 
-pub returns-else-at-len-clause-items : goal.returns-else-at-len-clause-items
-returns-else-at-len-clause-items c =
+pub returns-else-at-len-clause-rows : goal.returns-else-at-len-clause-rows
+returns-else-at-len-clause-rows c =
     let kept = c.args.kept.now.items in
-    let at = c.place_of-at.result in
-    let all : length kept ≡ at = omega (arith, c.if-at-len.false, ap length c.as_slice.ensures.value, c.place_of-at.ensures.within) in
-    c.push_reserved.ensures.items
-    ∙ put-behind kept c.args.one (subst (λ n. AreBelow kept c.args.one.id.0 n) (sym all) (subst (λ v. AreBelow v c.args.one.id.0 at) c.as_slice.ensures.value c.place_of-at.ensures.below))
+    let id = c.args.one.id.0 in
+    let behind : id ≡ 0 + length kept = omega (arith, c.requires.slot) in
+    ap (kept_from 0) c.push_reserved.ensures.items ∙ slot-pushed id 0 kept c.args.one.rows behind
+
+pub returns-then-at-len-clause-slots : goal.returns-then-at-len-clause-slots
+returns-then-at-len-clause-slots c =
+    let kept = c.args.kept.now.items in
+    let id = c.args.one.id.0 in
+    let less : id < length kept = omega arith in
+    let most : length kept ≡ max (length kept) (suc id) = omega arith in
+    length-set kept id (Some c.args.one.rows) ∙ most
+
+pub returns-else-at-len-clause-slots : goal.returns-else-at-len-clause-slots
+returns-else-at-len-clause-slots c =
+    let kept = c.args.kept.now.items in
+    let id = c.args.one.id.0 in
+    let behind : id ≡ length kept = omega (arith, c.requires.slot) in
+    ap length c.push_reserved.ensures.items ∙ length-append kept (Some c.args.one.rows ∷ []) ∙ omega arith

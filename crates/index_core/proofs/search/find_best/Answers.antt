@@ -1,24 +1,34 @@
-use Rattle.std.proofs.Common.{◌≡◌, ◌+◌, ◌∷◌, drop, ap, ◌∙◌, sym, arith}
+use Rattle.std.proofs.Common.{◌≡◌, ◌+◌, ◌∷◌, drop, ap, subst, ◌∙◌, sym, arith}
 use Rattle.std.specs.Option.{option_map}
-use Rattle.std.proofs.lemmas.List.{drop_more}
-use Rattle.index_core.specs.Matching.{match_at, match_of}
-use Rattle.index_core.proofs.Collecting.{collecting-match, collecting-none}
+use Rattle.index_core.specs.Slots.{kept_from, costs_in}
+use Rattle.index_core.proofs.Collecting.{Collecting, collecting-start}
+use Rattle.index_core.proofs.KeptSlots.{slots-rise, kept-fewer, slots-next, slot-match, slot-none}
 use Rattle.index_core.proofs.search.find_best.Goals as goal
 use Rattle.index_core.proofs.search.find_best.Goals.{in-Some+in_ok-place, in_default}
 
-pub loop-document-preserved : goal.loop-document-preserved
-loop-document-preserved c =
+pub loop-at-init : goal.loop-at-init
+loop-at-init c =
+    let kept = kept_from 0 c.args.kept.now in
+    subst (λ v. Collecting c.args.query.now kept kept c.args.most v 0) (sym c.new-first.ensures.items) (collecting-start c.args.query.now kept c.args.most (slots-rise c.args.kept.now))
+
+pub overflow_add-total : goal.overflow_add-total
+overflow_add-total c =
+    let few = kept-fewer 0 c.args.kept.now in
+    omega (arith, c.loop-at.invariant.seen, c.requires.few)
+
+pub loop-at-preserved : goal.loop-at-preserved
+loop-at-preserved c =
     let query = c.args.query.now in
     let kept = c.args.kept.now in
-    let i = c.loop-document.document-index in
-    let k = c.document-item.result in
-    let here : drop i kept ≡ k ∷ drop (i + 1) kept = drop_more kept i k (omega arith) ∙ ap (λ x. x ∷ drop (i + 1) kept) (sym c.document-item.is) in
-    let costs : match_of query k.id.0 k.rows ≡ option_map (match_at k.id.0) (option_map (λ v. v.items) c.in_ok-costs.field-0) = ap (option_map (match_at k.id.0)) (sym c.in_ok-costs.ensures.costs) in
+    let at = c.loop-at.at in
+    let slot = c.index-kept-at.result in
+    let here : drop at kept ≡ slot ∷ drop (at + 1) kept = slots-next at kept slot (omega arith) c.index-kept-at.is in
+    let costs : costs_in query slot ≡ option_map (λ v. v.items) c.in_ok-costs.field-0 = sym c.in_ok-costs.ensures in
     elim c.match-branch-2.branch [
       | in-Some+in_ok-place w ↦
-          collecting-match query kept (drop i kept) k (drop (i + 1) kept) c.args.most c.loop-document.first.items c.match-branch-2.first.items c.loop-document.total c.match-branch-2.total (match_at k.id.0 w.in-Some.costs.items) here
-          (costs ∙ ap (λ f. option_map (match_at k.id.0) (option_map (λ v. v.items) f)) w.in-Some.is) (ap (λ v. v.items) w.first-is ∙ w.in_ok-place.ensures) w.total-is c.loop-document.invariant
+          slot-match query (kept_from 0 kept) at (drop at kept) (drop (at + 1) kept) slot c.args.most c.loop-at.first.items c.match-branch-2.first.items c.loop-at.total c.match-branch-2.total w.in-Some.costs.items here
+          (costs ∙ ap (option_map (λ v. v.items)) w.in-Some.is) (ap (λ v. v.items) w.first-is ∙ w.in_ok-place.ensures) w.total-is c.loop-at.invariant
       | in_default w ↦
-          collecting-none query kept (drop i kept) k (drop (i + 1) kept) c.args.most c.loop-document.first.items c.match-branch-2.first.items c.loop-document.total c.match-branch-2.total here
-          (costs ∙ ap (λ f. option_map (match_at k.id.0) (option_map (λ v. v.items) f)) w.in_default.is) (ap (λ v. v.items) w.first-is) w.total-is c.loop-document.invariant
+          slot-none query (kept_from 0 kept) at (drop at kept) (drop (at + 1) kept) slot c.args.most c.loop-at.first.items c.match-branch-2.first.items c.loop-at.total c.match-branch-2.total here
+          (costs ∙ ap (option_map (λ v. v.items)) w.in_default.is) (ap (λ v. v.items) w.first-is) w.total-is c.loop-at.invariant
     ]

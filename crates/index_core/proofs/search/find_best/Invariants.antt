@@ -1,6 +1,7 @@
 use Rattle.std.proofs.Common.{drop}
+use Rattle.index_core.specs.Slots.{kept_from}
 use Rattle.index_core.proofs.Collecting.{Collecting}
 use Rattle.index_core.proofs.search.find_best.Given as goal
 
-abbrev pub invariant-loop-document : goal.invariant-loop-document
-invariant-loop-document l = Collecting l.query l.kept (drop l.document-index l.kept) l.most l.first.items l.total
+abbrev pub invariant-loop-at : goal.invariant-loop-at
+invariant-loop-at l = Collecting l.query (kept_from 0 l.kept) (kept_from l.at (drop l.at l.kept)) l.most l.first.items l.total

@@ -1,21 +1,46 @@
-use Rattle.std.proofs.Common.{arith, ap, ◌∙◌}
+use Rattle.std.proofs.Common.{◌≡◌, ◌+◌, ◌∷◌, ◌++◌, [], drop, length, map, sym, ap, ◌∙◌, arith, append-nil}
 use Rattle.std.proofs.lemmas.List.{drop_all}
+use Rattle.doc_rows.specs.Rows.{rows_of}
+use Rattle.doc_store.specs.Store.{Row}
+use Rattle.index_core.specs.Kept.{kept_at}
 use Rattle.index_core.specs.Matching.{ranks_from}
-use Rattle.index_core.proofs.Finding.{length-kept}
-use Rattle.index_core.proofs.Settling.{rows-made}
+use Rattle.index_core.specs.Slots.{kept_from}
+use Rattle.index_core.proofs.Finding.{rows-there}
+use Rattle.index_core.proofs.KeptSlots.{slots-next, length-slots, anew_from, anew-more, anew-length, anew-kept}
 use Rattle.index_core.proofs.settle.rows_of_all.Goals as goal
+
+pub loop-at-preserved : goal.loop-at-preserved
+loop-at-preserved g c =
+    let at = c.loop-at.at in
+    let kept = c.args.kept.now in
+    let slot = c.index-kept-at.result in
+    let s = c.args.store.now.content in
+    let ranks = c.as_slice-ranks.result.now in
+    let here : drop at kept ≡ slot ∷ drop (at + 1) kept = slots-next at kept slot (omega arith) c.index-kept-at.is in
+    let size : length (kept_from at (drop at kept)) ≡ length (kept_from at (slot ∷ [])) + length (kept_from (at + 1) (drop (at + 1) kept)) = ap (λ v. length (kept_from at v)) here ∙ length-slots at slot (drop (at + 1) kept) in
+    record {
+      told = anew-more at ranks s kept slot c.loop-at.all.items c.add_slot.new.all.items (anew_from 0 ranks s kept) (omega arith) c.index-kept-at.is c.in_ok-add_slot.ensures.rows c.loop-at.invariant.told;
+      read = omega (arith, c.loop-at.invariant.read, c.in_ok-add_slot.ensures.fetches, size);
+    }
 
 pub returns-clause-rows : goal.returns-clause-rows
 returns-clause-rows g c =
-    let st = c.args.settings.now in
     let kept = c.args.kept.now in
-    let i = c.loop-document.document-index in
-    rows-made st c.args.store.now.content kept _ c.loop-document.all.items c.as_slice-ranks.result.now c.requires.sound c.requires.kept (drop_all i kept (omega arith))
-    (c.as_slice-ranks.ensures.value ∙ c.in_ok-ranks.ensures.ranks ∙ ap (ranks_from st 0) c.paths.ensures) c.loop-document.invariant.told
+    let s = c.args.store.now.content in
+    let st = c.args.settings.now in
+    let ranks = c.as_slice-ranks.result.now in
+    let at = c.loop-at.at in
+    let none : drop at kept ≡ [] = drop_all at kept (omega arith) in
+    let all : c.loop-at.all.items ≡ anew_from 0 ranks s kept = sym (append-nil c.loop-at.all.items) ∙ ap (λ v. c.loop-at.all.items ++ anew_from at ranks s v) (sym none) ∙ c.loop-at.invariant.told in
+    ap (kept_from 0) all ∙ anew-kept 0 ranks s kept s.rows c.requires.kept (rows-there s c.requires.sound)
+    ∙ ap (λ rs. map (λ (r : Row). kept_at r.id (rows_of r.document s.paths rs)) s.rows) (c.as_slice-ranks.ensures.value ∙ c.in_ok-ranks.ensures.ranks ∙ ap (ranks_from st 0) c.paths.ensures)
 
-pub returns-clause-at_most : goal.returns-clause-at_most
-returns-clause-at_most g c =
-    let read = c.loop-document.invariant.read in
-    let all = length-kept c.args.store.now.content c.args.kept.now c.requires.kept in
-    let within = c.loop-document.auto.document-index-end in
-    omega (arith, read, all, within)
+pub returns-clause-slots : goal.returns-clause-slots
+returns-clause-slots g c =
+    let kept = c.args.kept.now in
+    let s = c.args.store.now.content in
+    let ranks = c.as_slice-ranks.result.now in
+    let at = c.loop-at.at in
+    let none : drop at kept ≡ [] = drop_all at kept (omega arith) in
+    let all : c.loop-at.all.items ≡ anew_from 0 ranks s kept = sym (append-nil c.loop-at.all.items) ∙ ap (λ v. c.loop-at.all.items ++ anew_from at ranks s v) (sym none) ∙ c.loop-at.invariant.told in
+    ap length all ∙ anew-length 0 ranks s kept

@@ -1,15 +1,11 @@
-use Rattle.std.proofs.Common.{◌≡◌, ◌+◌, ◌++◌, drop}
-use Rattle.std.specs.Option.{option_map}
-use Rattle.std.specs.List.{filter_map}
-use Rattle.doc_rows.specs.Rows.{rows_of}
-use Rattle.doc_store.specs.Store.{row_at}
-use Rattle.index_core.specs.Kept.{kept_at}
+use Rattle.std.proofs.Common.{◌≡◌, ◌+◌, ◌++◌, drop, length}
+use Rattle.index_core.specs.Slots.{kept_from}
+use Rattle.index_core.proofs.KeptSlots.{anew_from}
 use Rattle.index_core.proofs.settle.rows_of_all.Given as goal
 
--- the rows so far and those of the documents to come are all rows, and each document so far was read
-abbrev pub invariant-loop-document : goal.invariant-loop-document
-invariant-loop-document g l = record {
-  told : l.all.items ++ filter_map (λ k. option_map (λ row. kept_at k.id.0 (rows_of row.document l.store.content.paths l.ranks)) (row_at k.id.0 l.store.content.rows)) (drop l.document-index l.kept)
-      ≡ filter_map (λ k. option_map (λ row. kept_at k.id.0 (rows_of row.document l.store.content.paths l.ranks)) (row_at k.id.0 l.store.content.rows)) l.kept;
-  read : l.fetches ≡ l.initial.fetches + l.document-index;
+-- the rows so far and those of the slots to come are all rows, and each document so far was read
+abbrev pub invariant-loop-at : goal.invariant-loop-at
+invariant-loop-at g l = record {
+  told : l.all.items ++ anew_from l.at l.ranks l.store.content (drop l.at l.kept) ≡ anew_from 0 l.ranks l.store.content l.kept;
+  read : l.fetches + length (kept_from l.at (drop l.at l.kept)) ≡ l.initial.fetches + length (kept_from 0 l.kept);
 }
