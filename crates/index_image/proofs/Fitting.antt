@@ -1,5 +1,5 @@
 -- Documents that fit, where the paths and the ids that are taken are sets.
-use Rattle.std.proofs.Common.{◌≡◌, ℕ, Bool, List, [], ◌∷◌, ◌++◌, Option, Some, None, Ok, Err, cond, refl, sym, ap, ap₂, subst, ◌∙◌}
+use Rattle.std.proofs.Common.{◌≡◌, ℕ, List, [], ◌∷◌, ◌++◌, Option, Some, None, Ok, Err, cond, refl, sym, ap, ap₂, subst, ◌∙◌}
 use Rattle.std.specs.Int.{w64}
 use Rattle.std.specs.Prelude.{◌&&◌, not, option_and_then, unwrap_or}
 use Rattle.serde_json.specs.Data.{Data}
@@ -11,7 +11,7 @@ use Rattle.index_image.specs.declared.fault.ReadFault.TheVariants as faults
 use Rattle.index_image.specs.Answers.{Fails}
 use Rattle.index_image.specs.Fields.{◌>>=◌, piece_at, held_or, text_at}
 use Rattle.index_image.specs.Image.{allowed, path_at, id_at, fitting_at, image_document_at, counted_list_at}
-use Rattle.index_image.specs.Names.{has_name, SameNames}
+use Rattle.index_image.specs.Names.{SameNames}
 use Rattle.index_image.specs.State.{id_under, external_ids, is_free, are_registered, fits}
 use Rattle.index_image.proofs.NameLemmas.{same-refl, same-behind}
 

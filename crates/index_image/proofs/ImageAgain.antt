@@ -1,18 +1,18 @@
 -- What is spelled of a state is read again.
-use Rattle.std.proofs.Common.{◌≡◌, ℕ, ◌^◌, ◌<◌, ◌≤◌, true, List, [], ◌∷◌, ◌++◌, length, Option, Some, None, Ok, refl, sym, ap, ◌∙◌, append_assoc, append-nil, arith}
+use Rattle.std.proofs.Common.{◌≡◌, ℕ, ◌≤◌, true, List, [], ◌++◌, length, Option, Some, None, Ok, refl, sym, ap, ◌∙◌, append_assoc, append-nil, arith}
 use Rattle.std.proofs.lemmas.Bool.{lt-ltb}
-use Rattle.std.specs.Int.{w32, w64, to_le_bytes}
+use Rattle.std.specs.Int.{w32, to_le_bytes}
 use Rattle.std.specs.Prelude.{unwrap_or}
 use Rattle.serde_json.specs.Written.{compact_text}
 use Rattle.index_settings.specs.View.{SettingsView}
 use Rattle.index_image.specs.declared.rows.ImageDocument.{ImageDocument}
 use Rattle.index_image.specs.Change.{or_spot}
 use Rattle.index_image.specs.Fits.{IsText, IsKey, ArePrinted, IsKept, HasIndexText, HasImage}
-use Rattle.index_image.specs.Image.{up_to_at, list_at, counted_list_at, uid_at, key_at, path_at, settings_at, id_at, fitting_at, image_document_at, index_at, version_at, whole_image, state_at}
+use Rattle.index_image.specs.Image.{counted_list_at, uid_at, key_at, path_at, settings_at, id_at, fitting_at, image_document_at, index_at, version_at, whole_image, state_at}
 use Rattle.index_image.specs.Layout.{long, settings_text, document_bytes, list_bytes, index_bytes, image_bytes}
 use Rattle.index_image.specs.Rows.{IndexData, ImageData}
 use Rattle.index_image.specs.Spelling.{text, optional}
-use Rattle.index_image.specs.State.{EachAfter, is_uid, is_above, external_ids, most_documents, IsPrimaryKey, IsNew, IsPlaced, IsIndex, IsState}
+use Rattle.index_image.specs.State.{is_uid, is_above, most_documents, IsPrimaryKey, IsNew, IsPlaced, IsIndex, IsState}
 use Rattle.index_image.proofs.Again.{number_again, text_again, optional_again}
 use Rattle.index_image.proofs.Lists.{up_to_again, counted_again}
 use Rattle.index_image.proofs.Numbers.{changes_again, long_again}

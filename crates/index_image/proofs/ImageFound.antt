@@ -1,7 +1,6 @@
 -- What is read as a state is its spelling, and the state is one that an image may hold.
-use Rattle.std.proofs.Common.{◌≡◌, ℕ, zero, suc, ◌+◌, ◌^◌, ◌<◌, ◌≤◌, Bool, true, false, cond, ltb, eqb, List, [], ◌∷◌, ◌++◌, length, take, drop, map, Option, Some, None, Result, Ok, Err, refl, sym, ap, subst, ◌∙◌, append-nil, arith}
-use Rattle.std.proofs.lemmas.Bool.{ltb-true, ltb-false, eqb-true, and_parts, not-true}
-use Rattle.std.proofs.lemmas.List.{length-take}
+use Rattle.std.proofs.Common.{◌≡◌, ℕ, ◌+◌, ◌<◌, true, cond, eqb, List, [], ◌∷◌, ◌++◌, length, Option, Some, None, Result, Ok, Err, refl, sym, ap, subst, ◌∙◌, append-nil}
+use Rattle.std.proofs.lemmas.Bool.{ltb-true, eqb-true, and_parts, not-true}
 use Rattle.std.proofs.lemmas.Slice.Eq.{bytes_eq-Decides}
 use Rattle.std.specs.Int.{w32, w64, to_le_bytes}
 use Rattle.std.specs.Prelude.{IfOk, ◌&&◌, not, option_and_then, unwrap_or, nat_lt}
@@ -17,16 +16,16 @@ use Rattle.index_image.specs.declared.fault.ImageFault.{ImageFault}
 use Rattle.index_image.specs.declared.rows.ImageDocument.{ImageDocument}
 use Rattle.index_image.specs.declared.rows.ImageRows.{ImageRows}
 use Rattle.index_image.specs.Answers.{Decodes}
-use Rattle.index_image.specs.Change.{or_spot, Spot}
-use Rattle.index_image.specs.Fields.{◌>>=◌, byte_at, number_at, piece_at, held_or, utf8_of, text_at, optional_at}
-use Rattle.index_image.specs.Image.{up_to_at, allowed, list_at, counted_list_at, uid_at, if_some_text, key_at, path_at, settings_at, id_at, if_fits, fitting, fitting_at, image_document_at, index_at, version_at, whole_image, state_at}
+use Rattle.index_image.specs.Change.{or_spot}
+use Rattle.index_image.specs.Fields.{◌>>=◌, number_at, piece_at, held_or, text_at, optional_at}
+use Rattle.index_image.specs.Image.{up_to_at, allowed, counted_list_at, uid_at, if_some_text, key_at, path_at, settings_at, id_at, if_fits, fitting, fitting_at, image_document_at, index_at, version_at, whole_image, state_at}
 use Rattle.index_image.specs.Layout.{long, settings_text, document_bytes, list_bytes, index_bytes, image_bytes}
 use Rattle.index_image.specs.Names.{has_name}
 use Rattle.index_image.specs.Rows.{IndexData, ImageData, image_view}
 use Rattle.index_image.specs.Spelling.{text, optional}
-use Rattle.index_image.specs.State.{EachAfter, is_uid, is_above, settings_of, printed_at, if_printed, accepted, is_next, external_ids, fits, most_documents, IsPrimaryKey, IsNew, IsPlaced, IsIndex, IsState}
-use Rattle.index_image.proofs.Found.{IsBytes, IsBytes-rest, Takes, Takes-then, bind_ok, guard_ok, guard_ended, ok_is, if_some, some_is, then_some, held_ok, number_takes, text_takes, optional_takes, document_own, nil_from_length}
-use Rattle.index_image.proofs.Lists.{up_to_takes, TakesList, counted_takes}
+use Rattle.index_image.specs.State.{is_uid, is_above, settings_of, printed_at, if_printed, accepted, is_next, external_ids, fits, most_documents, IsPrimaryKey, IsNew, IsPlaced, IsIndex, IsState}
+use Rattle.index_image.proofs.Found.{IsBytes, IsBytes-rest, Takes, Takes-then, bind_ok, guard_ended, ok_is, if_some, some_is, then_some, held_ok, number_takes, text_takes, optional_takes, document_own, nil_from_length}
+use Rattle.index_image.proofs.Lists.{up_to_takes, counted_takes}
 use Rattle.index_image.proofs.Numbers.{changes_take, long_takes}
 
 -- ---- the fields of an index

@@ -7,7 +7,7 @@ use Rattle.std.specs.List.{flat_map, AllByRecursion}
 use Rattle.index_image.specs.declared.fault.ReadFault.{ReadFault}
 use Rattle.index_image.specs.declared.fault.ReadFault.TheVariants as faults
 use Rattle.index_image.specs.Answers.{Fails}
-use Rattle.index_image.specs.Fields.{◌>>=◌, number_at}
+use Rattle.index_image.specs.Fields.{number_at}
 use Rattle.index_image.specs.Image.{up_to_at, list_at, counted_list_at}
 use Rattle.index_image.specs.Layout.{list_bytes}
 use Rattle.index_image.specs.State.{EachAfter}

@@ -1,10 +1,10 @@
 -- Numbers of eight bytes, and pieces whose length takes eight bytes.
-use Rattle.std.proofs.Common.{◌≡◌, ℕ, ◌+◌, ◌<◌, ◌≤◌, ◌^◌, ltb, cond, false, List, ◌++◌, length, take, drop, get_or, Result, Ok, Err, refl, sym, ap, subst, ◌∙◌, arith}
+use Rattle.std.proofs.Common.{◌≡◌, ℕ, ◌<◌, ◌≤◌, ◌^◌, ltb, cond, false, List, ◌++◌, length, take, drop, Ok, Err, refl, sym, ap, subst, ◌∙◌, arith}
 use Rattle.std.proofs.lemmas.Bool.{le-ltb, ltb-false}
 use Rattle.std.proofs.lemmas.List.{take-append-drop, take_at, drop_at, length-take, length-append}
 use Rattle.std.proofs.lemmas.Nat.{le_bytes_8, from_le_bytes-to_le_bytes_8}
-use Rattle.std.specs.Int.{w32, w64, byte_len, from_le_bytes, to_le_bytes}
-use Rattle.index_image.specs.Fields.{◌>>=◌, number_at, piece_at}
+use Rattle.std.specs.Int.{w64, byte_len, from_le_bytes, to_le_bytes}
+use Rattle.index_image.specs.Fields.{number_at, piece_at}
 use Rattle.index_image.specs.Image.{up_to_at}
 use Rattle.index_image.specs.Layout.{long}
 use Rattle.index_image.proofs.Again.{wide_again}

@@ -1,4 +1,3 @@
-use Rattle.std.proofs.Common.{◌≡◌}
 use Rattle.std.specs.Int.{w32, to_le_bytes}
 use Rattle.index_image.specs.Layout.{long, settings_text, document_bytes, list_bytes}
 use Rattle.index_image.specs.Spelling.{text, optional}

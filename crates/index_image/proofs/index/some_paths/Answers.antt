@@ -1,4 +1,4 @@
-use Rattle.std.proofs.Common.{◌≡◌, ℕ, List, [], Result, subst, sym, ◌∙◌}
+use Rattle.std.proofs.Common.{ℕ, List, [], Result, subst, sym, ◌∙◌}
 use Rattle.std.proofs.lemmas.Result.{err_from_is_err_and}
 use Rattle.index_image.specs.Answers.{Fails}
 use Rattle.index_image.specs.Image.{list_at, path_at}
