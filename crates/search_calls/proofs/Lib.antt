@@ -6,4 +6,5 @@ pub mod Literals
 pub mod Paths
 pub mod Masks
 pub mod Numbers
+pub mod Patches
 pub mod Unquoted
