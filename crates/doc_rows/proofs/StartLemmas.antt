@@ -29,43 +29,43 @@ next_start-last start (last ∷ []) (suc i) d h = absurd (omega arith)
 next_start-last start (token ∷ next ∷ later) zero d h = absurd (omega arith)
 next_start-last start (token ∷ next ∷ later) (suc i) d h = next_start-last start (next ∷ later) i d (omega arith)
 
-far_word : (number start : ℕ) (word : Token) → last_searched < start → is_searched (place_of number start word) ≡ false
-far_word number start word h = grind arith
+far_word : (number rank start : ℕ) (word : Token) → last_searched < start → is_searched (place_of number rank start word) ≡ false
+far_word number rank start word h = grind arith
 
-far_text : (number start : ℕ) (words : List Token) → last_searched < start → filter is_searched (map (place_of number start) words) ≡ []
-far_text number start [] h = refl
-far_text number start (word ∷ words) h = rw (far_word number start word h) (far_text number start words h)
+far_text : (number rank start : ℕ) (words : List Token) → last_searched < start → filter is_searched (map (place_of number rank start) words) ≡ []
+far_text number rank start [] h = refl
+far_text number rank start (word ∷ words) h = rw (far_word number rank start word h) (far_text number rank start words h)
 
 -- texts that start behind the last position have no word that is searched
-far : (number start : ℕ) (texts : List (List ℕ)) → last_searched < start → filter is_searched (all_places number start texts) ≡ []
-far number start [] h = refl
-far number start (text ∷ texts) h =
+far : (number rank start : ℕ) (texts : List (List ℕ)) → last_searched < start → filter is_searched (all_places number rank start texts) ≡ []
+far number rank start [] h = refl
+far number rank start (text ∷ texts) h =
     let later : last_searched < next_start start (tokens text) = omega (arith, next_start-ge start (tokens text)) in
-    filter-append is_searched (map (place_of number start) (tokens text)) (all_places number (next_start start (tokens text)) texts)
-    ∙ rw (far_text number start (tokens text) h) (far number (next_start start (tokens text)) texts later)
+    filter-append is_searched (map (place_of number rank start) (tokens text)) (all_places number rank (next_start start (tokens text)) texts)
+    ∙ rw (far_text number rank start (tokens text) h) (far number rank (next_start start (tokens text)) texts later)
 
 near_or_far : (start : ℕ) → start ≤ 65536 ⊎ last_searched < start
 near_or_far start = grind arith
 
 -- so all these starts are one
-one_start : (number start : ℕ) (texts : List (List ℕ)) → filter is_searched (all_places number (min start 65536) texts) ≡ filter is_searched (all_places number start texts)
-one_start number start texts = go (near_or_far start)
+one_start : (number rank start : ℕ) (texts : List (List ℕ)) → filter is_searched (all_places number rank (min start 65536) texts) ≡ filter is_searched (all_places number rank start texts)
+one_start number rank start texts = go (near_or_far start)
   where
-    go : start ≤ 65536 ⊎ last_searched < start → filter is_searched (all_places number (min start 65536) texts) ≡ filter is_searched (all_places number start texts)
+    go : start ≤ 65536 ⊎ last_searched < start → filter is_searched (all_places number rank (min start 65536) texts) ≡ filter is_searched (all_places number rank start texts)
     go (inl h) = let same : min start 65536 ≡ start = omega arith in rw same refl
-    go (inr h) = let behind : last_searched < min start 65536 = omega arith in far number (min start 65536) texts behind ∙ sym (far number start texts h)
+    go (inr h) = let behind : last_searched < min start 65536 = omega arith in far number rank (min start 65536) texts behind ∙ sym (far number rank start texts h)
 
 -- one more text
-pub texts_more : (number start next : ℕ) (text : List ℕ) (texts : List (List ℕ)) (places whole : List Place) (words : List Token) → words ≡ tokens text
+pub texts_more : (number rank start next : ℕ) (text : List ℕ) (texts : List (List ℕ)) (places whole : List Place) (words : List Token) → words ≡ tokens text
     → next ≡ min (next_start start words) 65536
-    → places ++ filter is_searched (all_places number start (text ∷ texts)) ≡ whole
-    → (places ++ filter is_searched (map (place_of number start) words)) ++ filter is_searched (all_places number next texts) ≡ whole
-texts_more number start next text texts places whole words same start_is told =
+    → places ++ filter is_searched (all_places number rank start (text ∷ texts)) ≡ whole
+    → (places ++ filter is_searched (map (place_of number rank start) words)) ++ filter is_searched (all_places number rank next texts) ≡ whole
+texts_more number rank start next text texts places whole words same start_is told =
     let toks = tokens text in
-    let split : filter is_searched (all_places number start (text ∷ texts)) ≡ filter is_searched (map (place_of number start) toks) ++ filter is_searched (all_places number (next_start start toks) texts) =
-    filter-append is_searched (map (place_of number start) toks) (all_places number (next_start start toks) texts) in
+    let split : filter is_searched (all_places number rank start (text ∷ texts)) ≡ filter is_searched (map (place_of number rank start) toks) ++ filter is_searched (all_places number rank (next_start start toks) texts) =
+    filter-append is_searched (map (place_of number rank start) toks) (all_places number rank (next_start start toks) texts) in
     let next_is : next ≡ min (next_start start toks) 65536 = start_is ∙ ap (λ (ts : List Token). min (next_start start ts) 65536) same in
-    rw (same, next_is, one_start number (next_start start toks) texts, append_assoc) (rw split at told)
+    rw (same, next_is, one_start number rank (next_start start toks) texts, append_assoc) (rw split at told)
 
 some_words : (n : ℕ) → true ≡ nat_lt 0 n → 0 < n
 some_words zero e = cc
@@ -81,13 +81,13 @@ next_from_last start position n words last near some is cut e =
     omega (arith, same, whole)
 
 -- one more text of the list
-pub texts_step : (number start next i : ℕ) (text : List ℕ) (texts : List (List ℕ)) (places more whole : List Place) (words : List Token)
+pub texts_step : (number rank start next i : ℕ) (text : List ℕ) (texts : List (List ℕ)) (places more whole : List Place) (words : List Token)
     → i < length texts → text ≡ get_or texts i text → words ≡ tokens text → next ≡ min (next_start start words) 65536
-    → more ≡ places ++ filter is_searched (map (place_of number start) words)
-    → places ++ filter is_searched (all_places number start (drop i texts)) ≡ whole
-    → more ++ filter is_searched (all_places number next (drop (i + 1) texts)) ≡ whole
-texts_step number start next i text texts places more whole words h is same start_is more_is told =
+    → more ≡ places ++ filter is_searched (map (place_of number rank start) words)
+    → places ++ filter is_searched (all_places number rank start (drop i texts)) ≡ whole
+    → more ++ filter is_searched (all_places number rank next (drop (i + 1) texts)) ≡ whole
+texts_step number rank start next i text texts places more whole words h is same start_is more_is told =
     let split : drop i texts ≡ text ∷ drop (i + 1) texts = drop_more texts i text h ∙ ap (λ (t : List ℕ). t ∷ drop (i + 1) texts) (sym is) in
-    ap (λ (ps : List Place). ps ++ filter is_searched (all_places number next (drop (i + 1) texts))) more_is
-    ∙ texts_more number start next text (drop (i + 1) texts) places whole words same start_is
-    (ap (λ (ts : List (List ℕ)). places ++ filter is_searched (all_places number start ts)) (sym split) ∙ told)
+    ap (λ (ps : List Place). ps ++ filter is_searched (all_places number rank next (drop (i + 1) texts))) more_is
+    ∙ texts_more number rank start next text (drop (i + 1) texts) places whole words same start_is
+    (ap (λ (ts : List (List ℕ)). places ++ filter is_searched (all_places number rank start ts)) (sym split) ∙ told)

@@ -1,6 +1,7 @@
 ghost use Rattle.std.specs.Prelude.{◌≡◌, ◌+◌, ◌≤◌, ◌++◌, map, filter, min, OnOk};
-ghost use Rattle.doc_rows.specs.Rows.{place_of, next_start, is_searched, places_of};
+ghost use Rattle.doc_rows.specs.Rows.{place_of, next_start, is_searched, places_of as places_of_path, places_at};
 
+use crate::shared::SharedWords;
 use search_base::{NoMemory, PathId, Place, Token, Word};
 use std::alloc::Global;
 use token_words::tokens;
@@ -9,20 +10,39 @@ const LAST_SEARCHED: u128 = 65535;
 
 const TEXT_STEP: u128 = 8;
 
-// The words that are searched of the path with this number, which has these texts.
+// The words that are searched of the path with this number and rank, which has these texts. A path without a rank is not
+// searched.
 pub fn add_path(
     alloc: Global,
     number: u16,
+    rank: Option<u16>,
     texts: &[Word],
+    shared: &mut SharedWords,
     places: &mut Vec<Place>,
 ) -> Result<(), NoMemory>
-    ensures { OnOk result (places.new.items ≡ places.old.items ++ places_of number texts.now) }
+    ensures { OnOk result (places.new.items ≡ places.old.items ++ places_at number rank texts.now) }
+{
+    match rank {
+        Some(rank) => add_texts(alloc, number, rank, texts, shared, places),
+        None => Ok(()),
+    }
+}
+
+fn add_texts(
+    alloc: Global,
+    number: u16,
+    rank: u16,
+    texts: &[Word],
+    shared: &mut SharedWords,
+    places: &mut Vec<Place>,
+) -> Result<(), NoMemory>
+    ensures { OnOk result (places.new.items ≡ places.old.items ++ places_of_path number rank texts.now) }
 {
     let mut start = 0;
     for text in texts {
         let words = tokens(alloc, text.as_str())?;
         let words = words.as_slice();
-        add_words(number, start, words, places)?;
+        add_words(number, rank, start, words, shared, places)?;
         start = next_start(start, words);
     }
     Ok(())
@@ -31,21 +51,23 @@ pub fn add_path(
 // The words of a text that starts at `start`.
 fn add_words(
     number: u16,
+    rank: u16,
     start: u128,
     words: &[Token],
+    shared: &mut SharedWords,
     places: &mut Vec<Place>,
 ) -> Result<(), NoMemory>
     ensures { OnOk result (places.new.items
-        ≡ places.old.items ++ filter is_searched (map (place_of number start) words.now)) }
+        ≡ places.old.items ++ filter is_searched (map (place_of number rank start) words.now)) }
 {
     for word in words {
         let position = start.saturating_add(word.position);
         if position <= LAST_SEARCHED {
             places.push(Place {
                 path: PathId(number),
-                rank: number,
+                rank,
                 position: position as u16,
-                word: word.word.clone()?,
+                word: shared.share(&word.word)?,
             })?;
         }
     }

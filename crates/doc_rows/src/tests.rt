@@ -1,4 +1,4 @@
-use super::rows;
+use super::{SharedWords, rows};
 use doc_values::Document;
 use search_base::{DocRows, Word};
 use serde_json::Value;
@@ -6,85 +6,62 @@ use std::alloc::Global;
 use std::process::Abort;
 use std::test::Fail;
 
-// What a document shows, the document, the registry, and the words as `path position word`.
-const DOCUMENTS: [(&str, &str, &str, &str); 8] = [
-    (
-        "one path from several places",
-        "{\"a\":[{\"b\":\"x y\"},{\"b\":\"z\"}]}",
-        "a a.b",
-        "1 0 x;1 1 y;1 9 z;",
-    ),
-    (
-        "arrays in arrays",
-        "{\"a\":[[\"x\"],[[\"y\"],\"z\"]]}",
-        "a",
-        "0 0 x;0 8 y;0 16 z;",
-    ),
-    (
-        "dotted names",
-        "{\"a.b\":\"x\",\"a\":{\"b\":\"y\"}}",
-        "a a.b",
-        "1 0 y;1 8 x;",
-    ),
-    (
-        "numbers and truth values",
-        "{\"n\":[12,-3,true,false]}",
-        "n",
-        "0 0 12;0 8 3;0 16 true;0 24 false;",
-    ),
-    (
-        "a leaf of separators",
-        "{\"t\":[\"?\",\"a. b\",\"?!\",\"c\"]}",
-        "t",
-        "0 0 a;0 8 b;0 16 c;",
-    ),
-    (
-        "null and objects give nothing",
-        "{\"a\":[null,{},[]],\"n\":null,\"o\":{}}",
-        "a n o",
-        "",
-    ),
-    (
-        "the registry's order",
-        "{\"a\":\"x\",\"b\":\"y\"}",
-        "b a",
-        "0 0 y;1 0 x;",
-    ),
-    (
-        "a path that is not in the registry",
-        "{\"a\":\"x\",\"b\":\"y\"}",
-        "b",
-        "0 0 y;",
-    ),
-];
+// A document, the registry with the rank of each path, and the words as `path rank position word`.
+const DOCUMENTS: &str = r#"{"a":[{"b":"x y"},{"b":"z"}]}~a:0 a.b:1~1 1 0 x;1 1 1 y;1 1 9 z;
+{"a":[["x"],[["y"],"z"]]}~a:0~0 0 0 x;0 0 8 y;0 0 16 z;
+{"a.b":"x","a":{"b":"y"}}~a:0 a.b:1~1 1 0 y;1 1 8 x;
+{"n":[12,-3,true,false]}~n:0~0 0 0 12;0 0 8 3;0 0 16 true;0 0 24 false;
+{"t":["?","a. b","?!","c"]}~t:0~0 0 0 a;0 0 8 b;0 0 16 c;
+{"a":[null,{},[]],"n":null,"o":{}}~a:0 n:1 o:2~
+{"a":"x","b":"y"}~b:0 a:1~0 0 0 y;1 1 0 x;
+{"a":"x","b":"y"}~b:0~0 0 0 y;
+{"a":"x","b":"y","c":"z"}~a:7 b:- c:7~0 7 0 x;2 7 0 z;
+{"a":"x x","b":"x"}~a:65535 b:0~0 65535 0 x;0 65535 1 x;1 0 0 x;"#;
 
-fn found(rt: &impl Abort, alloc: Global, document: &str, registry: &str) -> Result<DocRows, Fail> {
+fn found(
+    rt: &impl Abort,
+    alloc: Global,
+    document: &str,
+    registry: &str,
+    shared: &mut SharedWords,
+) -> Result<DocRows, Fail> {
     let value = Value::from_str(alloc, document).expect(rt, "JSON");
     let document = Document::from_json(alloc, value).expect(rt, "a document");
     let mut paths = Vec::new(alloc);
+    let mut ranks = Vec::new(alloc);
     for path in registry.split(' ') {
-        paths.push(Word::new(alloc, path)?)?;
+        let mut parts = path.split(':');
+        paths.push(Word::new(alloc, parts.next().unwrap_or(""))?)?;
+        ranks.push(parts.next().unwrap_or("").parse::<u16>().ok())?;
     }
-    assert!(rt; paths.len() <= 1000);
-    Ok(rows(alloc, &document, paths.as_slice())?)
+    let (paths, ranks) = (paths.as_slice(), ranks.as_slice());
+    assert!(rt; paths.len() <= 1000 && ranks.len() == paths.len());
+    Ok(rows(alloc, &document, paths, ranks, shared)?)
 }
 
 fn told(alloc: Global, rows: &DocRows) -> Result<String, Fail> {
     let mut told = String::new(alloc);
     for place in &rows.places {
         let word = place.word.as_str();
-        let line = format!(in alloc; "{} {} {word};", place.path.0, place.position)?;
+        let (path, rank, position) = (place.path.0, place.rank, place.position);
+        let line = format!(in alloc; "{path} {rank} {position} {word};")?;
         told.push_str(line.as_str())?;
     }
     Ok(told)
 }
 
+// The words are the same where others share their texts.
 #[test]
 fn documents_have_these_words(rt: HostRuntime) -> Result<(), Fail> {
-    for (shows, document, registry, want) in &DOCUMENTS {
-        let rows = found(&rt, rt.alloc(), document, registry)?;
-        assert_eq!(rt; told(rt.alloc(), &rows)?.as_str(), *want, "{shows}");
-        assert!(rt; rows.leaves.is_empty() && rows.marks.is_empty(), "{shows}");
+    let mut shared = SharedWords::new(rt.alloc());
+    for row in DOCUMENTS.lines() {
+        let mut parts = row.split('~');
+        let document = parts.next().unwrap_or("");
+        let registry = parts.next().unwrap_or("");
+        let want = parts.next().unwrap_or("");
+        let rows = found(&rt, rt.alloc(), document, registry, &mut shared)?;
+        assert_eq!(rt; told(rt.alloc(), &rows)?.as_str(), want, "{document}");
+        assert!(rt; rows.leaves.is_empty() && rows.marks.is_empty(), "{document}");
     }
     Ok(())
 }
@@ -97,7 +74,8 @@ fn words_behind_the_last_position_are_left_out(rt: HostRuntime) -> Result<(), Fa
         text.push_str("a. ")?;
     }
     text.push_str("b c d e f g h i j\",\"z\"]}")?;
-    let rows = found(&rt, rt.alloc(), text.as_str(), "t")?;
+    let mut shared = SharedWords::new(rt.alloc());
+    let rows = found(&rt, rt.alloc(), text.as_str(), "t:0", &mut shared)?;
     assert_eq!(rt; rows.places.len(), 8199);
     let last = rows.places.last().expect(&rt, "a word");
     assert_eq!(rt; last.position, 65535);
