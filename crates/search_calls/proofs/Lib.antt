@@ -7,4 +7,5 @@ pub mod Paths
 pub mod Masks
 pub mod Numbers
 pub mod Patches
+pub mod Asking
 pub mod Unquoted
