@@ -32,7 +32,14 @@ pub fn rows(
     let mut places = Vec::new(alloc);
     for (number, path) in paths.iter().enumerate() {
         let texts = texts_at(&texts, path);
-        add_path(alloc, number as u16, ranks[number], texts, shared, &mut places)?;
+        add_path(
+            alloc,
+            number as u16,
+            ranks[number],
+            texts,
+            shared,
+            &mut places,
+        )?;
     }
     Ok(DocRows {
         places,

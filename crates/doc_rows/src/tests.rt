@@ -61,7 +61,10 @@ fn documents_have_these_words(rt: HostRuntime) -> Result<(), Fail> {
         let want = parts.next().unwrap_or("");
         let rows = found(&rt, rt.alloc(), document, registry, &mut shared)?;
         assert_eq!(rt; told(rt.alloc(), &rows)?.as_str(), want, "{document}");
-        assert!(rt; rows.leaves.is_empty() && rows.marks.is_empty(), "{document}");
+        assert!(rt;
+            rows.leaves.is_empty() && rows.marks.is_empty(),
+            "{document}"
+        );
     }
     Ok(())
 }

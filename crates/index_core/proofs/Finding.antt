@@ -13,10 +13,11 @@ use Rattle.doc_store.specs.Store.{Row, Store, id_of, row_at}
 use Rattle.doc_store.specs.Sound.{Increase, IsSound}
 use Rattle.index_core.specs.declared.call.SearchCall.{SearchCall}
 use Rattle.index_core.specs.declared.kept.KeptRows.{KeptRows}
-use Rattle.index_core.specs.Index.{document_under}
-use Rattle.index_core.specs.Kept.{kept_at, AreKept}
-use Rattle.index_core.specs.Matching.{Match, match_at, match_of, matching, query_of, rows_in}
-use Rattle.index_core.specs.Hits.{hit_at, numbers, hits_of, window_end, place_among}
+use Rattle.index_settings.specs.View.{SettingsView}
+use Rattle.index_core.specs.Index.{Index, document_under}
+use Rattle.index_core.specs.Kept.{kept_at, AreKept, AreOf}
+use Rattle.index_core.specs.Matching.{Match, match_at, match_of, matching, query_of, rows_with}
+use Rattle.index_core.specs.Hits.{hit_at, numbers, hits_of, window_end, most_hits, place_among}
 use Rattle.index_core.specs.Ordered.{matches_in, RiseFrom, IdsRise}
 use Rattle.index_core.proofs.Placing.{AllAre}
 
@@ -145,16 +146,16 @@ reads-ids all (r ∷ rows) (id ∷ ids) e =
     let rest : map (λ id. id.0) ids ≡ map (λ r. r.id) rows = cc in
     ap (λ n. cons_option (document_at n all) (filter_map (λ id. document_at id.0 all) ids)) first ∙ ap (cons_option (document_at r.id all)) (reads-ids all rows ids rest)
 
-kept-ids : (s : Store) (rows : List Row) → map (λ k. k.id.0) (map (λ r. kept_at r.id (rows_in s r.document)) rows) ≡ map (λ r. r.id) rows
-kept-ids s [] = refl
-kept-ids s (r ∷ rows) = ap (λ v. r.id ∷ v) (kept-ids s rows)
+kept-ids : (st : SettingsView) (s : Store) (rows : List Row) → map (λ k. k.id.0) (map (λ r. kept_at r.id (rows_with st s.paths r.document)) rows) ≡ map (λ r. r.id) rows
+kept-ids st s [] = refl
+kept-ids st s (r ∷ rows) = ap (λ v. r.id ∷ v) (kept-ids st s rows)
 
 -- a part of the documents, by the ids that are kept for it
-pub part-read : (s : Store) (kept : List KeptRows) (ids : List DocId) (offset limit : ℕ) → AreKept kept s → map (λ id. id.0) ids ≡ map (λ k. k.id.0) (take limit (drop offset kept))
+pub part-read : (st : SettingsView) (s : Store) (kept : List KeptRows) (ids : List DocId) (offset limit : ℕ) → AreKept kept st s → map (λ id. id.0) ids ≡ map (λ k. k.id.0) (take limit (drop offset kept))
     → filter_map (λ id. option_map (λ r. r.document) (row_at id.0 s.rows)) ids ≡ take limit (drop offset (map (λ r. r.document) s.rows))
-part-read s kept ids offset limit h is =
-    reads-ids s.rows (take limit (drop offset s.rows)) ids (is ∙ ap (λ ks. map (λ k. k.id.0) (take limit (drop offset ks))) h.same ∙ ap (λ ks. map (λ k. k.id.0) (take limit ks)) (drop-map (λ r. kept_at r.id (rows_in s r.document)) offset s.rows)
-    ∙ ap (map (λ k. k.id.0)) (take-map (λ r. kept_at r.id (rows_in s r.document)) limit (drop offset s.rows)) ∙ kept-ids s (take limit (drop offset s.rows)))
+part-read st s kept ids offset limit h is =
+    reads-ids s.rows (take limit (drop offset s.rows)) ids (is ∙ ap (λ ks. map (λ k. k.id.0) (take limit (drop offset ks))) h.same ∙ ap (λ ks. map (λ k. k.id.0) (take limit ks)) (drop-map (λ r. kept_at r.id (rows_with st s.paths r.document)) offset s.rows)
+    ∙ ap (map (λ k. k.id.0)) (take-map (λ r. kept_at r.id (rows_with st s.paths r.document)) limit (drop offset s.rows)) ∙ kept-ids st s (take limit (drop offset s.rows)))
     ∙ reads-all s.rows (take limit (drop offset s.rows)) (rows-take (IsThere s.rows) limit (drop offset s.rows) (rows-drop (IsThere s.rows) offset s.rows (rows-there s h.sound)))
     ∙ sym (ap (take limit) (drop-map (λ r. r.document) offset s.rows) ∙ take-map (λ r. r.document) limit (drop offset s.rows))
 
@@ -164,34 +165,34 @@ same-lengths f g [] (y ∷ ys) e = absurd (cc)
 same-lengths f g (x ∷ xs) [] e = absurd (cc)
 same-lengths f g (x ∷ xs) (y ∷ ys) e = let rest : map f xs ≡ map g ys = cc in ap suc (same-lengths f g xs ys rest)
 
-length-part : (s : Store) (rows : List Row) (offset limit : ℕ) → length (take limit (drop offset (map (λ r. kept_at r.id (rows_in s r.document)) rows))) ≡ length (take limit (drop offset (map (λ r. r.document) rows)))
-length-part s [] zero zero = refl
-length-part s [] zero (suc limit) = refl
-length-part s [] (suc offset) zero = refl
-length-part s [] (suc offset) (suc limit) = refl
-length-part s (r ∷ rows) zero zero = refl
-length-part s (r ∷ rows) zero (suc limit) = ap suc (length-part s rows zero limit)
-length-part s (r ∷ rows) (suc offset) limit = length-part s rows offset limit
+length-part : (st : SettingsView) (s : Store) (rows : List Row) (offset limit : ℕ) → length (take limit (drop offset (map (λ r. kept_at r.id (rows_with st s.paths r.document)) rows))) ≡ length (take limit (drop offset (map (λ r. r.document) rows)))
+length-part st s [] zero zero = refl
+length-part st s [] zero (suc limit) = refl
+length-part st s [] (suc offset) zero = refl
+length-part st s [] (suc offset) (suc limit) = refl
+length-part st s (r ∷ rows) zero zero = refl
+length-part st s (r ∷ rows) zero (suc limit) = ap suc (length-part st s rows zero limit)
+length-part st s (r ∷ rows) (suc offset) limit = length-part st s rows offset limit
 
-pub part-length : (s : Store) (kept : List KeptRows) (ids : List DocId) (offset limit : ℕ) → AreKept kept s → map (λ id. id.0) ids ≡ map (λ k. k.id.0) (take limit (drop offset kept))
+pub part-length : (st : SettingsView) (s : Store) (kept : List KeptRows) (ids : List DocId) (offset limit : ℕ) → AreKept kept st s → map (λ id. id.0) ids ≡ map (λ k. k.id.0) (take limit (drop offset kept))
     → length ids ≡ length (take limit (drop offset (map (λ r. r.document) s.rows)))
-part-length s kept ids offset limit h is = same-lengths (λ id. id.0) (λ k. k.id.0) ids (take limit (drop offset kept)) is ∙ ap (λ ks. length (take limit (drop offset ks))) h.same ∙ length-part s s.rows offset limit
+part-length st s kept ids offset limit h is = same-lengths (λ id. id.0) (λ k. k.id.0) ids (take limit (drop offset kept)) is ∙ ap (λ ks. length (take limit (drop offset ks))) h.same ∙ length-part st s s.rows offset limit
 
 -- ---- hits are documents that are there
 
-kept-rise : (s : Store) (low : ℕ) (rows : List Row) (high : ℕ) → Increase low rows high → RiseFrom low (map (λ r. kept_at r.id (rows_in s r.document)) rows)
-kept-rise s low [] high h = tt
-kept-rise s low (r ∷ rows) high h = (h.0, kept-rise s (suc r.id) rows high h.1)
+kept-rise : (st : SettingsView) (s : Store) (low : ℕ) (rows : List Row) (high : ℕ) → Increase low rows high → RiseFrom low (map (λ r. kept_at r.id (rows_with st s.paths r.document)) rows)
+kept-rise st s low [] high h = tt
+kept-rise st s low (r ∷ rows) high h = (h.0, kept-rise st s (suc r.id) rows high h.1)
 
-pub ids-rise : (s : Store) (kept : List KeptRows) → AreKept kept s → IdsRise kept
-ids-rise s kept h = record { each = subst (RiseFrom 0) (sym h.same) (kept-rise s 0 s.rows s.next_id h.sound.increase) }
+pub ids-rise : (st : SettingsView) (s : Store) (kept : List KeptRows) → AreKept kept st s → IdsRise kept
+ids-rise st s kept h = record { each = subst (RiseFrom 0) (sym h.same) (kept-rise st s 0 s.rows s.next_id h.sound.increase) }
 
-matches-kept : (s : Store) (query : GraphView) (rows : List Row) → matches_in query (map (λ r. kept_at r.id (rows_in s r.document)) rows) ≡ filter_map (λ r. match_of query r.id (rows_in s r.document)) rows
-matches-kept s query [] = refl
-matches-kept s query (r ∷ rows) = ap (cons_option (match_of query r.id (rows_in s r.document))) (matches-kept s query rows)
+matches-kept : (st : SettingsView) (s : Store) (query : GraphView) (rows : List Row) → matches_in query (map (λ r. kept_at r.id (rows_with st s.paths r.document)) rows) ≡ filter_map (λ r. match_of query r.id (rows_with st s.paths r.document)) rows
+matches-kept st s query [] = refl
+matches-kept st s query (r ∷ rows) = ap (cons_option (match_of query r.id (rows_with st s.paths r.document))) (matches-kept st s query rows)
 
-pub matches-same : (s : Store) (kept : List KeptRows) (q : List ℕ) → AreKept kept s → matches_in (query_of q) kept ≡ matching s q
-matches-same s kept q h = ap (matches_in (query_of q)) h.same ∙ matches-kept s (query_of q) s.rows
+pub matches-same : (index : Index) (kept : List KeptRows) (q : List ℕ) → AreKept kept index.settings index.store → matches_in (query_of index q) kept ≡ matching index q
+matches-same index kept q h = ap (matches_in (query_of index q)) h.same ∙ matches-kept index.settings index.store (query_of index q) index.store.rows
 
 abbrev IsStored : List Row → Match → Type 0
 IsStored all m = is_some (document_at m.id all) ≡ true
@@ -200,14 +201,14 @@ match-stored : (all : List Row) (id : ℕ) (m : Match) (found : Option (List _))
 match-stored all id m None e h = absurd (cc)
 match-stored all id m (Some costs) e h = let same : match_at id costs ≡ m = cc in subst (λ (v : Match). is_some (document_at v.id all) ≡ true) same h
 
-matching-stored : (s : Store) (query : GraphView) (all rows : List Row) → AllByRecursion (IsThere all) rows → AllAre (IsStored all) (filter_map (λ r. match_of query r.id (rows_in s r.document)) rows)
-matching-stored s query all [] h = tt
-matching-stored s query all (r ∷ rows) h = by (match_of query r.id (rows_in s r.document)) refl (matching-stored s query all rows h.1)
+matching-stored : (st : SettingsView) (s : Store) (query : GraphView) (all rows : List Row) → AllByRecursion (IsThere all) rows → AllAre (IsStored all) (filter_map (λ r. match_of query r.id (rows_with st s.paths r.document)) rows)
+matching-stored st s query all [] h = tt
+matching-stored st s query all (r ∷ rows) h = by (match_of query r.id (rows_with st s.paths r.document)) refl (matching-stored st s query all rows h.1)
   where
-    by : (o : Option Match) → match_of query r.id (rows_in s r.document) ≡ o → AllAre (IsStored all) (filter_map (λ r. match_of query r.id (rows_in s r.document)) rows)
-        → AllAre (IsStored all) (cons_option (match_of query r.id (rows_in s r.document)) (filter_map (λ r. match_of query r.id (rows_in s r.document)) rows))
-    by None e rest = subst (λ o. AllAre (IsStored all) (cons_option o (filter_map (λ r. match_of query r.id (rows_in s r.document)) rows))) (sym e) rest
-    by (Some m) e rest = subst (λ o. AllAre (IsStored all) (cons_option o (filter_map (λ r. match_of query r.id (rows_in s r.document)) rows))) (sym e)
+    by : (o : Option Match) → match_of query r.id (rows_with st s.paths r.document) ≡ o → AllAre (IsStored all) (filter_map (λ r. match_of query r.id (rows_with st s.paths r.document)) rows)
+        → AllAre (IsStored all) (cons_option (match_of query r.id (rows_with st s.paths r.document)) (filter_map (λ r. match_of query r.id (rows_with st s.paths r.document)) rows))
+    by None e rest = subst (λ o. AllAre (IsStored all) (cons_option o (filter_map (λ r. match_of query r.id (rows_with st s.paths r.document)) rows))) (sym e) rest
+    by (Some m) e rest = subst (λ o. AllAre (IsStored all) (cons_option o (filter_map (λ r. match_of query r.id (rows_with st s.paths r.document)) rows))) (sym e)
         (match-stored all r.id m _ e (ap (λ o. is_some (option_map (λ (v : Row). v.document) o)) h.0), rest)
 
 all-filter : (P : Match → Type 0) (p : Match → Bool) (ms : List Match) → AllAre P ms → AllAre P (filter p ms)
@@ -239,12 +240,44 @@ stored-length all (m ∷ hits) h = by (document_at m.id all) refl (stored-length
     by None e again = absurd (let some = sym (ap is_some e) ∙ h.0 in cc)
     by (Some d) e again = ap suc again ∙ ap (λ o. length (cons_option o (filter_map (λ m. document_at m.id all) hits))) (sym e)
 
-pub hits-read : (s : Store) (kept : List KeptRows) (ids : List DocId) (call : SearchCall) → AreKept kept s → map (λ id. id.0) ids ≡ map (λ m. m.id) (hits_of call (matches_in (query_of call.q) kept))
-    → filter_map (λ id. option_map (λ r. r.document) (row_at id.0 s.rows)) ids ≡ filter_map (λ m. option_map (λ r. r.document) (row_at m.id s.rows)) (hits_of call (matching s call.q))
-hits-read s kept ids call h is = reads-hits s.rows (hits_of call (matching s call.q)) ids (is ∙ ap (λ ms. map (λ m. m.id) (hits_of call ms)) (matches-same s kept call.q h))
+pub hits-read : (index : Index) (kept : List KeptRows) (ids : List DocId) (call : SearchCall) → AreKept kept index.settings index.store
+    → map (λ id. id.0) ids ≡ map (λ m. m.id) (hits_of (most_hits index) call (matches_in (query_of index call.q) kept))
+    → filter_map (λ id. option_map (λ r. r.document) (row_at id.0 index.store.rows)) ids
+    ≡ filter_map (λ m. option_map (λ r. r.document) (row_at m.id index.store.rows)) (hits_of (most_hits index) call (matching index call.q))
+hits-read index kept ids call h is =
+    reads-hits index.store.rows (hits_of (most_hits index) call (matching index call.q)) ids
+    (is ∙ ap (λ ms. map (λ m. m.id) (hits_of (most_hits index) call ms)) (matches-same index kept call.q h))
 
-pub hits-length : (s : Store) (kept : List KeptRows) (ids : List DocId) (call : SearchCall) → AreKept kept s → map (λ id. id.0) ids ≡ map (λ m. m.id) (hits_of call (matches_in (query_of call.q) kept))
-    → length ids ≡ length (filter_map (λ m. option_map (λ r. r.document) (row_at m.id s.rows)) (hits_of call (matching s call.q)))
-hits-length s kept ids call h is =
-    same-lengths (λ id. id.0) (λ m. m.id) ids (hits_of call (matching s call.q)) (is ∙ ap (λ ms. map (λ m. m.id) (hits_of call ms)) (matches-same s kept call.q h))
-    ∙ stored-length s.rows (hits_of call (matching s call.q)) (all-hits (IsStored s.rows) (matching s call.q) (numbers call.offset (window_end call - call.offset)) (matching-stored s (query_of call.q) s.rows s.rows (rows-there s h.sound)))
+pub hits-length : (index : Index) (kept : List KeptRows) (ids : List DocId) (call : SearchCall) → AreKept kept index.settings index.store
+    → map (λ id. id.0) ids ≡ map (λ m. m.id) (hits_of (most_hits index) call (matches_in (query_of index call.q) kept))
+    → length ids ≡ length (filter_map (λ m. option_map (λ r. r.document) (row_at m.id index.store.rows)) (hits_of (most_hits index) call (matching index call.q)))
+hits-length index kept ids call h is =
+    let rows = index.store.rows in
+    let most = most_hits index in
+    let hits = hits_of most call (matching index call.q) in
+    same-lengths (λ id. id.0) (λ m. m.id) ids hits (is ∙ ap (λ ms. map (λ m. m.id) (hits_of most call ms)) (matches-same index kept call.q h))
+    ∙ stored-length rows hits (all-hits (IsStored rows) (matching index call.q) (numbers call.offset (window_end most call - call.offset)) (matching-stored index.settings index.store (query_of index call.q) rows rows (rows-there index.store h.sound)))
+
+-- ---- the documents of which something is kept
+
+pub kept-of : (st : SettingsView) (s : Store) (kept : List KeptRows) → AreKept kept st s → AreOf kept s
+kept-of st s kept h = ap (map (λ (k : KeptRows). k.id.0)) h.same ∙ kept-ids st s s.rows
+
+-- what is made of each of these documents is what is made of each row
+reads-kept : {A : Type 0} (f : ℕ → Row → A) (all rows : List Row) (kept : List KeptRows) → map (λ k. k.id.0) kept ≡ map (λ r. r.id) rows → AllByRecursion (IsThere all) rows
+    → filter_map (λ k. option_map (f k.id.0) (row_at k.id.0 all)) kept ≡ map (λ r. f r.id r) rows
+reads-kept f all [] [] e h = refl
+reads-kept f all [] (k ∷ kept) e h = absurd (cc)
+reads-kept f all (r ∷ rows) [] e h = absurd (cc)
+reads-kept f all (r ∷ rows) (k ∷ kept) e h =
+    let first : k.id.0 ≡ r.id = cc in
+    let rest : map (λ k. k.id.0) kept ≡ map (λ r. r.id) rows = cc in
+    ap (λ n. cons_option (option_map (f n) (row_at n all)) (filter_map (λ k. option_map (f k.id.0) (row_at k.id.0 all)) kept)) first
+    ∙ ap (λ o. cons_option (option_map (f r.id) o) (filter_map (λ k. option_map (f k.id.0) (row_at k.id.0 all)) kept)) h.0
+    ∙ ap (λ v. f r.id r ∷ v) (reads-kept f all rows kept rest h.1)
+
+pub all-kept : {A : Type 0} (f : ℕ → Row → A) (s : Store) (kept : List KeptRows) → IsSound s → AreOf kept s → filter_map (λ k. option_map (f k.id.0) (row_at k.id.0 s.rows)) kept ≡ map (λ r. f r.id r) s.rows
+all-kept f s kept sound of = reads-kept f s.rows s.rows kept of (rows-there s sound)
+
+pub length-kept : (s : Store) (kept : List KeptRows) → AreOf kept s → length kept ≡ length s.rows
+length-kept s kept of = same-lengths (λ k. k.id.0) (λ r. r.id) kept s.rows of

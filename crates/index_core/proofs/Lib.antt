@@ -8,4 +8,5 @@ pub mod Stable
 pub mod Putting
 pub mod Removing
 pub mod Updating
+pub mod Settling
 pub mod LawLemmas

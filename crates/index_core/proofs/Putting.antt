@@ -4,7 +4,7 @@ use Rattle.std.proofs.Math.ListN.{set}
 use Rattle.std.specs.Prelude.{◌⊎◌, bytes_eq}
 use Rattle.std.specs.Option.{unwrap_or}
 use Rattle.std.proofs.lemmas.Bool.{cond-true, cond-false, eq-eqb, ne_eqb}
-use Rattle.doc_rows.specs.Rows.{rows_of}
+use Rattle.index_settings.specs.View.{SettingsView}
 use Rattle.doc_store.specs.declared.rows.StoreRow.{StoreRow}
 use Rattle.doc_store.specs.Store.{Row, Store, id_of, put, stored, all_stored, ids_given}
 use Rattle.doc_store.specs.StoreView.{AdmissionView, IsAdmitted}
@@ -12,16 +12,17 @@ use Rattle.doc_store.specs.Sound.{Increase, StandOnce, IsSound}
 use Rattle.doc_store.proofs.SoundLemmas.{IsWhole, whole-stored, sound-all_stored}
 use Rattle.index_core.specs.declared.kept.KeptRows.{KeptRows}
 use Rattle.index_core.specs.Kept.{kept_at, AreKept}
+use Rattle.index_core.specs.Matching.{rows_with}
 use Rattle.index_core.specs.Ordered.{RiseFrom, IdsRise}
 use Rattle.index_core.specs.Putting.{put_kept, put_all, HasPlace, HavePlaces, rows_come}
 use Rattle.index_core.proofs.Stable.{all-stay}
 
 -- the rows of documents in an index with these paths
-abbrev pub kept_in : List (List ℕ) → List Row → List KeptRows
-kept_in paths rows = map (λ r. kept_at r.id (rows_of r.document paths)) rows
+abbrev pub kept_in : SettingsView → List (List ℕ) → List Row → List KeptRows
+kept_in st paths rows = map (λ r. kept_at r.id (rows_with st paths r.document)) rows
 
-abbrev pub one_in : List (List ℕ) → StoreRow → ℕ → KeptRows
-one_in paths new id = kept_at id (rows_of new.document paths)
+abbrev pub one_in : SettingsView → List (List ℕ) → StoreRow → ℕ → KeptRows
+one_in st paths new id = kept_at id (rows_with st paths new.document)
 
 id-low : (external : List ℕ) (low : ℕ) (rows : List Row) (high id : ℕ) → Increase low rows high → id_of external rows ≡ Some id → low ≤ id
 id-low external low [] high id h found = absurd (cc)
@@ -46,10 +47,10 @@ given-low external low rows next h = by (id_of external rows) refl
     by (Some id) s = subst (λ o. low ≤ unwrap_or o next) s (id-low external low rows next id h (sym s))
 
 -- one document put
-put-one : (paths : List (List ℕ)) (new : StoreRow) (low next : ℕ) (rows : List Row) → Increase low rows next
-    → (put_kept (one_in paths new (unwrap_or (id_of new.external rows) next)) (kept_in paths rows) ≡ kept_in paths (put new next rows)) × HasPlace (unwrap_or (id_of new.external rows) next) (kept_in paths rows)
-put-one paths new low next [] h = (refl, tt)
-put-one paths new low next (r ∷ rows) h = by (bytes_eq new.external r.external) refl (put-one paths new (suc r.id) next rows h.1) (given-low new.external (suc r.id) rows next h.1)
+put-one : (st : SettingsView) (paths : List (List ℕ)) (new : StoreRow) (low next : ℕ) (rows : List Row) → Increase low rows next
+    → (put_kept (one_in st paths new (unwrap_or (id_of new.external rows) next)) (kept_in st paths rows) ≡ kept_in st paths (put new next rows)) × HasPlace (unwrap_or (id_of new.external rows) next) (kept_in st paths rows)
+put-one st paths new low next [] h = (refl, tt)
+put-one st paths new low next (r ∷ rows) h = by (bytes_eq new.external r.external) refl (put-one st paths new (suc r.id) next rows h.1) (given-low new.external (suc r.id) rows next h.1)
   where
     id : ℕ
     id = unwrap_or (id_of new.external (r ∷ rows)) next
@@ -57,42 +58,42 @@ put-one paths new low next (r ∷ rows) h = by (bytes_eq new.external r.external
     rest : ℕ
     rest = unwrap_or (id_of new.external rows) next
 
-    by : (b : Bool) → b ≡ bytes_eq new.external r.external → (put_kept (one_in paths new rest) (kept_in paths rows) ≡ kept_in paths (put new next rows)) × HasPlace rest (kept_in paths rows) → suc r.id ≤ rest
-        → (put_kept (one_in paths new id) (kept_in paths (r ∷ rows)) ≡ kept_in paths (put new next (r ∷ rows))) × HasPlace id (kept_in paths (r ∷ rows))
+    by : (b : Bool) → b ≡ bytes_eq new.external r.external → (put_kept (one_in st paths new rest) (kept_in st paths rows) ≡ kept_in st paths (put new next rows)) × HasPlace rest (kept_in st paths rows) → suc r.id ≤ rest
+        → (put_kept (one_in st paths new id) (kept_in st paths (r ∷ rows)) ≡ kept_in st paths (put new next (r ∷ rows))) × HasPlace id (kept_in st paths (r ∷ rows))
     by true s again low =
         let same : id ≡ r.id = ap (λ o. unwrap_or o next) (cond-true _ _ _ (sym s)) in (
-          cond-true (id == r.id) _ _ (eq-eqb id r.id same) ∙ ap (λ n. one_in paths new n ∷ kept_in paths rows) same ∙ ap (kept_in paths) (sym (cond-true _ _ _ (sym s))),
+          cond-true (id == r.id) _ _ (eq-eqb id r.id same) ∙ ap (λ n. one_in st paths new n ∷ kept_in st paths rows) same ∙ ap (kept_in st paths) (sym (cond-true _ _ _ (sym s))),
           inl same,
         )
     by false s again low =
         let same : id ≡ rest = ap (λ o. unwrap_or o next) (cond-false _ _ _ (sym s)) in (
-          cond-false (id == r.id) _ _ (ne_eqb id r.id (λ e. absurd (omega arith))) ∙ ap (λ n. kept_at r.id (rows_of r.document paths) ∷ put_kept (one_in paths new n) (kept_in paths rows)) same
-              ∙ ap (λ v. kept_at r.id (rows_of r.document paths) ∷ v) again.0 ∙ ap (kept_in paths) (sym (cond-false _ _ _ (sym s))),
-          inr (omega arith, subst (λ n. HasPlace n (kept_in paths rows)) (sym same) again.1),
+          cond-false (id == r.id) _ _ (ne_eqb id r.id (λ e. absurd (omega arith))) ∙ ap (λ n. kept_at r.id (rows_with st paths r.document) ∷ put_kept (one_in st paths new n) (kept_in st paths rows)) same
+              ∙ ap (λ v. kept_at r.id (rows_with st paths r.document) ∷ v) again.0 ∙ ap (kept_in st paths) (sym (cond-false _ _ _ (sym s))),
+          inr (omega arith, subst (λ n. HasPlace n (kept_in st paths rows)) (sym same) again.1),
         )
 
 -- documents put one after the other
-put-each : (paths : List (List ℕ)) (rs : List StoreRow) (s : Store) → IsWhole s
-    → (put_all (rows_come paths rs (ids_given rs s)) (kept_in paths s.rows) ≡ kept_in paths (all_stored rs s).rows) × HavePlaces (rows_come paths rs (ids_given rs s)) (kept_in paths s.rows)
-put-each paths [] s h = (refl, tt)
-put-each paths (r ∷ rs) s h =
-    let one = put-one paths r 0 s.next_id s.rows h.increase in
-    let more = put-each paths rs (stored r s) (whole-stored r s h) in (
-      ap (put_all (rows_come paths rs (ids_given rs (stored r s)))) one.0 ∙ more.0,
-      (one.1, subst (HavePlaces (rows_come paths rs (ids_given rs (stored r s)))) (sym one.0) more.1),
+put-each : (st : SettingsView) (paths : List (List ℕ)) (rs : List StoreRow) (s : Store) → IsWhole s
+    → (put_all (rows_come st paths rs (ids_given rs s)) (kept_in st paths s.rows) ≡ kept_in st paths (all_stored rs s).rows) × HavePlaces (rows_come st paths rs (ids_given rs s)) (kept_in st paths s.rows)
+put-each st paths [] s h = (refl, tt)
+put-each st paths (r ∷ rs) s h =
+    let one = put-one st paths r 0 s.next_id s.rows h.increase in
+    let more = put-each st paths rs (stored r s) (whole-stored r s h) in (
+      ap (put_all (rows_come st paths rs (ids_given rs (stored r s)))) one.0 ∙ more.0,
+      (one.1, subst (HavePlaces (rows_come st paths rs (ids_given rs (stored r s)))) (sym one.0) more.1),
     )
 
 -- ---- the rows that are kept, after a change that was admitted
 
-pub record Puts (kept come : List KeptRows) (after : Store) : Type 0 where
+pub record Puts (st : SettingsView) (kept come : List KeptRows) (after : Store) : Type 0 where
   pub places : HavePlaces come kept
-  pub becomes : AreKept (put_all come kept) after
+  pub becomes : AreKept (put_all come kept) st after
 
-pub admitted-puts : (rs : List StoreRow) (s : Store) (admission : AdmissionView) (kept come : List KeptRows) (paths : List (List ℕ)) → AreKept kept s → IsAdmitted s rs admission → paths ≡ s.paths ++ admission.added
-    → come ≡ rows_come paths rs admission.ids → Puts kept come (all_stored rs s)
-admitted-puts rs s admission kept come paths h admitted is given = record {
-  places = subst (λ v. HavePlaces v kept) (sym comes) (subst (HavePlaces (rows_come paths rs (ids_given rs s))) (sym now) both.1);
-  becomes = record { same = ap (λ v. put_all v kept) comes ∙ ap (put_all (rows_come paths rs (ids_given rs s))) now ∙ both.0 ∙ ap (λ ps. kept_in ps (all_stored rs s).rows) paths_after; sound = sound };
+pub admitted-puts : (st : SettingsView) (rs : List StoreRow) (s : Store) (admission : AdmissionView) (kept come : List KeptRows) (paths : List (List ℕ)) → AreKept kept st s → IsAdmitted s rs admission → paths ≡ s.paths ++ admission.added
+    → come ≡ rows_come st paths rs admission.ids → Puts st kept come (all_stored rs s)
+admitted-puts st rs s admission kept come paths h admitted is given = record {
+  places = subst (λ v. HavePlaces v kept) (sym comes) (subst (HavePlaces (rows_come st paths rs (ids_given rs s))) (sym now) both.1);
+  becomes = record { same = ap (λ v. put_all v kept) comes ∙ ap (put_all (rows_come st paths rs (ids_given rs s))) now ∙ both.0 ∙ ap (λ ps. kept_in st ps (all_stored rs s).rows) paths_after; sound = sound };
 }
   where
     sound : IsSound (all_stored rs s)
@@ -101,14 +102,14 @@ admitted-puts rs s admission kept come paths h admitted is given = record {
     paths_after : paths ≡ (all_stored rs s).paths
     paths_after = is ∙ sym admitted.added
 
-    comes : come ≡ rows_come paths rs (ids_given rs s)
-    comes = given ∙ ap (rows_come paths rs) admitted.ids
+    comes : come ≡ rows_come st paths rs (ids_given rs s)
+    comes = given ∙ ap (rows_come st paths rs) admitted.ids
 
-    now : kept ≡ kept_in paths s.rows
-    now = h.same ∙ sym (ap (λ ps. kept_in ps s.rows) is ∙ all-stay s.rows s.paths admission.added (subst StandOnce admitted.added sound.once) h.sound.cover)
+    now : kept ≡ kept_in st paths s.rows
+    now = h.same ∙ sym (ap (λ ps. kept_in st ps s.rows) is ∙ all-stay st s.rows s.paths admission.added (subst StandOnce admitted.added sound.once) h.sound.cover)
 
-    both : (put_all (rows_come paths rs (ids_given rs s)) (kept_in paths s.rows) ≡ kept_in paths (all_stored rs s).rows) × HavePlaces (rows_come paths rs (ids_given rs s)) (kept_in paths s.rows)
-    both = put-each paths rs s (record { increase = h.sound.increase; apart = h.sound.apart; once = h.sound.once; cover = h.sound.cover })
+    both : (put_all (rows_come st paths rs (ids_given rs s)) (kept_in st paths s.rows) ≡ kept_in st paths (all_stored rs s).rows) × HavePlaces (rows_come st paths rs (ids_given rs s)) (kept_in st paths s.rows)
+    both = put-each st paths rs s (record { increase = h.sound.increase; apart = h.sound.apart; once = h.sound.once; cover = h.sound.cover })
 
 -- ---- rows put at a place
 

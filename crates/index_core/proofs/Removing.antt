@@ -1,19 +1,21 @@
 -- Documents that go, and the rows that are kept of the others.
-use Rattle.std.proofs.Common.{◌≡◌, ℕ, zero, suc, ◌+◌, ◌<◌, ◌≤◌, ◌==◌, Bool, true, false, cond, ◌||◌, List, [], ◌∷◌, length, filter, drop, slice_index_or, Option, None, Some, refl, sym, ap, subst, ◌∙◌, arith}
+use Rattle.std.proofs.Common.{◌≡◌, ℕ, zero, suc, ◌+◌, ◌<◌, ◌≤◌, ◌==◌, Bool, true, false, cond, ◌||◌, List, [], ◌∷◌, length, map, filter, drop, slice_index_or, Option, None, Some, refl, sym, ap, subst, ◌∙◌, arith}
 use Rattle.std.specs.Prelude.{bytes_eq, not}
 use Rattle.std.specs.Option.{is_some}
 use Rattle.std.proofs.lemmas.Bool.{cond-true, cond-false, cond_both, eq-eqb, ne_eqb}
 use Rattle.std.proofs.lemmas.List.{drop_all}
-use Rattle.doc_rows.specs.Rows.{rows_of}
+use Rattle.index_settings.specs.View.{SettingsView}
 use Rattle.doc_store.specs.Store.{Row, Store, id_of, row_at, without, removed}
 use Rattle.doc_store.specs.Sound.{Increase, AreApart, IsSound}
 use Rattle.doc_store.proofs.SoundLemmas.{sound-removed}
 use Rattle.doc_store.proofs.NameLemmas.{same_bytes, bytes_eq-turned}
 use Rattle.index_core.specs.declared.kept.KeptRows.{KeptRows}
-use Rattle.index_core.specs.Kept.{kept_at, AreKept}
+use Rattle.index_core.specs.Kept.{kept_at, AreKept, AreOf}
+use Rattle.index_core.specs.Matching.{rows_with}
 use Rattle.index_core.specs.Plans.{is_named, all_removed, cleared}
 use Rattle.index_core.specs.Removing.{removed_at, removed_under}
 use Rattle.index_core.proofs.Putting.{kept_in}
+use Rattle.index_core.proofs.Finding.{length-kept}
 
 -- ---- one external id
 
@@ -128,72 +130,68 @@ absent-above id low (r ∷ rows) high less h p = cond_both (p r) (r ∷ filter p
     (λ _. cond-false (id == r.id) _ _ (ne_eqb id r.id (λ e. absurd (let l = h.0 in omega arith))) ∙ absent-above id (suc r.id) rows high (let l = h.0 in omega arith) h.1 p)
     (λ _. absent-above id (suc r.id) rows high (let l = h.0 in omega arith) h.1 p)
 
-same-test : (f g : KeptRows → Bool) (low : ℕ) → ((k : KeptRows) → low ≤ k.id.0 → f k ≡ g k) → (paths : List (List ℕ)) (rows : List Row) (high : ℕ) → Increase low rows high → filter f (kept_in paths rows) ≡ filter g (kept_in paths rows)
-same-test f g low h paths [] high i = refl
-same-test f g low h paths (r ∷ rows) high i =
-    let first = h (kept_at r.id (rows_of r.document paths)) i.0 in
-    let rest = same-test f g (suc r.id) (λ k l. h k (let a = i.0 in omega arith)) paths rows high i.1 in
-    ap (λ b. cond b (kept_at r.id (rows_of r.document paths) ∷ filter f (kept_in paths rows)) (filter f (kept_in paths rows))) first ∙ ap (λ v. cond (g (kept_at r.id (rows_of r.document paths))) (kept_at r.id (rows_of r.document paths) ∷ v) v) rest
+same-test : (f g : KeptRows → Bool) (low : ℕ) → ((k : KeptRows) → low ≤ k.id.0 → f k ≡ g k) → (st : SettingsView) (paths : List (List ℕ)) (rows : List Row) (high : ℕ) → Increase low rows high → filter f (kept_in st paths rows) ≡ filter g (kept_in st paths rows)
+same-test f g low h st paths [] high i = refl
+same-test f g low h st paths (r ∷ rows) high i =
+    let first = h (kept_at r.id (rows_with st paths r.document)) i.0 in
+    let rest = same-test f g (suc r.id) (λ k l. h k (let a = i.0 in omega arith)) st paths rows high i.1 in
+    ap (λ b. cond b (kept_at r.id (rows_with st paths r.document) ∷ filter f (kept_in st paths rows)) (filter f (kept_in st paths rows))) first ∙ ap (λ v. cond (g (kept_at r.id (rows_with st paths r.document))) (kept_at r.id (rows_with st paths r.document) ∷ v) v) rest
 
-kept-filtered : (paths : List (List ℕ)) (p : Row → Bool) (low : ℕ) (rows : List Row) (high : ℕ) → Increase low rows high
-    → filter (λ k. is_some (row_at k.id.0 (filter p rows))) (kept_in paths rows) ≡ kept_in paths (filter p rows)
-kept-filtered paths p low [] high h = refl
-kept-filtered paths p low (r ∷ rows) high h = by (p r) refl (kept-filtered paths p (suc r.id) rows high h.1)
+kept-filtered : (st : SettingsView) (paths : List (List ℕ)) (p : Row → Bool) (low : ℕ) (rows : List Row) (high : ℕ) → Increase low rows high
+    → filter (λ k. is_some (row_at k.id.0 (filter p rows))) (kept_in st paths rows) ≡ kept_in st paths (filter p rows)
+kept-filtered st paths p low [] high h = refl
+kept-filtered st paths p low (r ∷ rows) high h = by (p r) refl (kept-filtered st paths p (suc r.id) rows high h.1)
   where
     one : KeptRows
-    one = kept_at r.id (rows_of r.document paths)
+    one = kept_at r.id (rows_with st paths r.document)
 
-    by : (b : Bool) → p r ≡ b → filter (λ k. is_some (row_at k.id.0 (filter p rows))) (kept_in paths rows) ≡ kept_in paths (filter p rows)
-        → filter (λ k. is_some (row_at k.id.0 (filter p (r ∷ rows)))) (kept_in paths (r ∷ rows)) ≡ kept_in paths (filter p (r ∷ rows))
+    by : (b : Bool) → p r ≡ b → filter (λ k. is_some (row_at k.id.0 (filter p rows))) (kept_in st paths rows) ≡ kept_in st paths (filter p rows)
+        → filter (λ k. is_some (row_at k.id.0 (filter p (r ∷ rows)))) (kept_in st paths (r ∷ rows)) ≡ kept_in st paths (filter p (r ∷ rows))
     by true e again =
-        ap (λ v. filter (λ k. is_some (row_at k.id.0 v)) (kept_in paths (r ∷ rows))) (cond-true _ _ _ e)
-        ∙ ap (λ b. cond b (one ∷ filter (λ k. is_some (row_at k.id.0 (r ∷ filter p rows))) (kept_in paths rows)) (filter (λ k. is_some (row_at k.id.0 (r ∷ filter p rows))) (kept_in paths rows)))
+        ap (λ v. filter (λ k. is_some (row_at k.id.0 v)) (kept_in st paths (r ∷ rows))) (cond-true _ _ _ e)
+        ∙ ap (λ b. cond b (one ∷ filter (λ k. is_some (row_at k.id.0 (r ∷ filter p rows))) (kept_in st paths rows)) (filter (λ k. is_some (row_at k.id.0 (r ∷ filter p rows))) (kept_in st paths rows)))
         (ap is_some (cond-true (r.id == r.id) (Some r) (row_at r.id (filter p rows)) (eq-eqb r.id r.id refl)))
         ∙ ap (λ v. one ∷ v) (same-test (λ k. is_some (row_at k.id.0 (r ∷ filter p rows))) (λ k. is_some (row_at k.id.0 (filter p rows))) (suc r.id)
-        (λ k l. ap is_some (cond-false (k.id.0 == r.id) (Some r) (row_at k.id.0 (filter p rows)) (ne_eqb k.id.0 r.id (λ s. absurd (omega arith))))) paths rows high h.1 ∙ again)
-        ∙ sym (ap (kept_in paths) (cond-true _ _ _ e))
+        (λ k l. ap is_some (cond-false (k.id.0 == r.id) (Some r) (row_at k.id.0 (filter p rows)) (ne_eqb k.id.0 r.id (λ s. absurd (omega arith))))) st paths rows high h.1 ∙ again)
+        ∙ sym (ap (kept_in st paths) (cond-true _ _ _ e))
     by false e again =
-        ap (λ v. filter (λ k. is_some (row_at k.id.0 v)) (kept_in paths (r ∷ rows))) (cond-false _ _ _ e)
-        ∙ ap (λ b. cond b (one ∷ filter (λ k. is_some (row_at k.id.0 (filter p rows))) (kept_in paths rows)) (filter (λ k. is_some (row_at k.id.0 (filter p rows))) (kept_in paths rows)))
+        ap (λ v. filter (λ k. is_some (row_at k.id.0 v)) (kept_in st paths (r ∷ rows))) (cond-false _ _ _ e)
+        ∙ ap (λ b. cond b (one ∷ filter (λ k. is_some (row_at k.id.0 (filter p rows))) (kept_in st paths rows)) (filter (λ k. is_some (row_at k.id.0 (filter p rows))) (kept_in st paths rows)))
         (ap is_some (absent-above r.id (suc r.id) rows high (omega arith) h.1 p))
-        ∙ again ∙ sym (ap (kept_in paths) (cond-false _ _ _ e))
+        ∙ again ∙ sym (ap (kept_in st paths) (cond-false _ _ _ e))
 
-pub kept-removed : (ids : List (List ℕ)) (s now : Store) (kept : List KeptRows) → AreKept kept s → now ≡ all_removed ids s → IsSound now → AreKept (filter (λ k. is_some (row_at k.id.0 now.rows)) kept) now
-kept-removed ids s now kept h is sound = record {
+pub kept-removed : (st : SettingsView) (ids : List (List ℕ)) (s now : Store) (kept : List KeptRows) → AreKept kept st s → now ≡ all_removed ids s → IsSound now → AreKept (filter (λ k. is_some (row_at k.id.0 now.rows)) kept) st now
+kept-removed st ids s now kept h is sound = record {
   same = ap (λ (t : Store). filter (λ k. is_some (row_at k.id.0 t.rows)) kept) is ∙ ap (filter (λ k. is_some (row_at k.id.0 (all_removed ids s).rows))) h.same
-      ∙ kept-filtered s.paths (λ r. not (is_named ids r)) 0 s.rows s.next_id h.sound.increase ∙ ap (λ (t : Store). kept_in t.paths t.rows) (sym is);
+      ∙ kept-filtered st s.paths (λ r. not (is_named ids r)) 0 s.rows s.next_id h.sound.increase ∙ ap (λ (t : Store). kept_in st t.paths t.rows) (sym is);
   sound = sound;
 }
 
 -- ---- all documents
 
-ends-cleared : (low : ℕ) (rows : List Row) (high : ℕ) → Increase low rows high → low ≤ high
-ends-cleared low [] high h = h
-ends-cleared low (r ∷ rows) high h = let rest = ends-cleared (suc r.id) rows high h.1 in let first = h.0 in omega arith
-
-pub kept-cleared : (s : Store) → IsSound s → AreKept [] (cleared s)
-kept-cleared s h = record { same = refl; sound = record { increase = omega arith; apart = tt; once = h.once; cover = tt; ids_within = h.ids_within; paths_within = h.paths_within } }
+pub kept-cleared : (st : SettingsView) (s : Store) → IsSound s → AreKept [] st (cleared s)
+kept-cleared st s h = record { same = refl; sound = record { increase = omega arith; apart = tt; once = h.once; cover = tt; ids_within = h.ids_within; paths_within = h.paths_within } }
 
 pub record Clears (s now : Store) (i : ℕ) : Type 0 where
   pub left : now ≡ record { paths = s.paths; next_id = s.next_id; rows = drop i s.rows }
 
-drop-first : (paths : List (List ℕ)) (rows : List Row) (i : ℕ) (k : KeptRows) → i < length (kept_in paths rows) → k ≡ slice_index_or (kept_in paths rows) i k → without k.id.0 (drop i rows) ≡ drop (i + 1) rows
-drop-first paths [] i k less is = absurd (omega arith)
-drop-first paths (x ∷ rows) zero k less is = ap (λ (v : KeptRows). without v.id.0 (x ∷ rows)) is ∙ cond-true (x.id == x.id) _ _ (eq-eqb x.id x.id refl)
-drop-first paths (x ∷ rows) (suc i) k less is = drop-first paths rows i k (omega arith) is ∙ ap (λ n. drop n (x ∷ rows)) (let e : suc (i + 1) ≡ suc i + 1 = omega arith in e)
+drop-first : (kept : List KeptRows) (rows : List Row) (i : ℕ) (k : KeptRows) → map (λ k. k.id.0) kept ≡ map (λ r. r.id) rows → i < length kept → k ≡ slice_index_or kept i k → without k.id.0 (drop i rows) ≡ drop (i + 1) rows
+drop-first [] rows i k e less is = absurd (omega arith)
+drop-first (x ∷ kept) [] i k e less is = absurd (cc)
+drop-first (x ∷ kept) (r ∷ rows) zero k e less is =
+    let first : x.id.0 ≡ r.id = cc in
+    ap (λ (v : KeptRows). without v.id.0 (r ∷ rows)) is ∙ cond-true (x.id.0 == r.id) _ _ (eq-eqb x.id.0 r.id first)
+drop-first (x ∷ kept) (r ∷ rows) (suc i) k e less is =
+    let rest : map (λ k. k.id.0) kept ≡ map (λ r. r.id) rows = cc in
+    drop-first kept rows i k rest (omega arith) is ∙ ap (λ n. drop n (r ∷ rows)) (let e : suc (i + 1) ≡ suc i + 1 = omega arith in e)
 
 pub clears-start : (s : Store) → Clears s s 0
 clears-start s = record { left = refl }
 
-pub clears-one : (s now next : Store) (kept : List KeptRows) (i : ℕ) (k : KeptRows) → AreKept kept s → i < length kept → k ≡ slice_index_or kept i k → next ≡ removed k.id.0 now → Clears s now i → Clears s next (i + 1)
-clears-one s now next kept i k h less is goes c = record {
-  left = goes ∙ ap (removed k.id.0) c.left ∙ ap (λ v. record { paths = s.paths; next_id = s.next_id; rows = v })
-      (drop-first s.paths s.rows i k (subst (λ ks. i < length ks) h.same less) (is ∙ ap (λ ks. slice_index_or ks i k) h.same));
+pub clears-one : (s now next : Store) (kept : List KeptRows) (i : ℕ) (k : KeptRows) → AreOf kept s → i < length kept → k ≡ slice_index_or kept i k → next ≡ removed k.id.0 now → Clears s now i → Clears s next (i + 1)
+clears-one s now next kept i k of less is goes c = record {
+  left = goes ∙ ap (removed k.id.0) c.left ∙ ap (λ v. record { paths = s.paths; next_id = s.next_id; rows = v }) (drop-first kept s.rows i k of less is);
 }
 
-length-kept : (paths : List (List ℕ)) (rows : List Row) → length (kept_in paths rows) ≡ length rows
-length-kept paths [] = refl
-length-kept paths (r ∷ rows) = ap suc (length-kept paths rows)
-
-pub clears-end : (s now : Store) (kept : List KeptRows) (i : ℕ) → AreKept kept s → length kept ≤ i → Clears s now i → now ≡ cleared s
-clears-end s now kept i h past c = c.left ∙ ap (λ v. record { paths = s.paths; next_id = s.next_id; rows = v }) (drop_all i s.rows (let e = ap length h.same ∙ length-kept s.paths s.rows in omega arith))
+pub clears-end : (s now : Store) (kept : List KeptRows) (i : ℕ) → AreOf kept s → length kept ≤ i → Clears s now i → now ≡ cleared s
+clears-end s now kept i of past c = c.left ∙ ap (λ v. record { paths = s.paths; next_id = s.next_id; rows = v }) (drop_all i s.rows (let e = length-kept s kept of in omega arith))

@@ -1,5 +1,5 @@
 -- What a search sees of a document stays when the registry grows by paths that the document does not have.
-use Rattle.std.proofs.Common.{◌≡◌, ℕ, ◌+◌, Bool, true, false, ◌||◌, List, [], ◌∷◌, ◌++◌, map, None, refl, sym, ap, ◌∙◌}
+use Rattle.std.proofs.Common.{◌≡◌, ℕ, ◌+◌, Bool, true, false, ◌||◌, List, [], ◌∷◌, ◌++◌, map, Option, None, Some, refl, sym, ap, ◌∙◌}
 use Rattle.std.specs.Prelude.{bytes_eq}
 use Rattle.std.specs.List.{filter_map}
 use Rattle.std.proofs.lemmas.Bool.{cond-false, true≢false}
@@ -7,7 +7,10 @@ use Rattle.serde_json.specs.Data.{Data}
 use Rattle.doc_values.specs.Walk.{Visit, walk, visited, paths_of}
 use Rattle.doc_values.specs.Leaves.{found_at}
 use Rattle.doc_rows.specs.Texts.{leaf_text, texts_of}
-use Rattle.doc_rows.specs.Rows.{places_of, places_from, rows_of}
+use Rattle.doc_rows.specs.Rows.{places_at, places_from}
+use Rattle.index_settings.specs.View.{SettingsView}
+use Rattle.index_settings.specs.Paths.{rank_of}
+use Rattle.index_core.specs.Matching.{ranks_from, rows_with}
 use Rattle.doc_values.specs.Walk.{members_in}
 use Rattle.doc_values.proofs.Leaves.{members_say}
 use Rattle.doc_store.proofs.NameLemmas.{same_bytes, bytes_eq-turned}
@@ -33,16 +36,24 @@ abbrev AreAbsent : List (List ℕ) → List (List ℕ) → Type 0
 AreAbsent [] paths = Unit {0}
 AreAbsent (path ∷ more) paths = (has_path path paths ≡ false) × AreAbsent more paths
 
-places-none : (number : ℕ) (d : Data) (more paths : List (List ℕ)) → AreAbsent more paths → AreRegistered (paths_of d) paths → places_from number d more ≡ []
-places-none number d [] paths absent h = refl
-places-none number d (path ∷ more) paths absent h = ap (λ texts. places_of number texts ++ places_from (number + 1) d more) (texts-none path paths d absent.0 h) ∙ places-none (number + 1) d more paths absent.1 h
+no-texts : (number : ℕ) (rank : Option ℕ) → places_at number rank [] ≡ []
+no-texts number None = refl
+no-texts number (Some rank) = refl
 
-places-append : (number : ℕ) (d : Data) (more paths before : List (List ℕ)) → AreAbsent more before → AreRegistered (paths_of d) before → places_from number d (paths ++ more) ≡ places_from number d paths
-places-append number d more [] before absent h = places-none number d more before absent h
-places-append number d more (path ∷ paths) before absent h = ap (λ v. places_of number (texts_of d path) ++ v) (places-append (number + 1) d more paths before absent h)
+places-none : (st : SettingsView) (number : ℕ) (d : Data) (more paths : List (List ℕ)) → AreAbsent more paths → AreRegistered (paths_of d) paths → places_from number d more (ranks_from st number more) ≡ []
+places-none st number d [] paths absent h = refl
+places-none st number d (path ∷ more) paths absent h =
+    let later = places_from (number + 1) d more (ranks_from st (number + 1) more) in
+    ap (λ texts. places_at number (rank_of st path number) texts ++ later) (texts-none path paths d absent.0 h)
+    ∙ ap (λ v. v ++ later) (no-texts number (rank_of st path number)) ∙ places-none st (number + 1) d more paths absent.1 h
 
-pub rows-stay : (d : Data) (paths more : List (List ℕ)) → AreAbsent more paths → AreRegistered (paths_of d) paths → rows_of d (paths ++ more) ≡ rows_of d paths
-rows-stay d paths more absent h = ap (λ v. record { places = v; leaves = []; marks = [] }) (places-append 0 d more paths paths absent h)
+places-append : (st : SettingsView) (number : ℕ) (d : Data) (more paths before : List (List ℕ)) → AreAbsent more before → AreRegistered (paths_of d) before
+    → places_from number d (paths ++ more) (ranks_from st number (paths ++ more)) ≡ places_from number d paths (ranks_from st number paths)
+places-append st number d more [] before absent h = places-none st number d more before absent h
+places-append st number d more (path ∷ paths) before absent h = ap (λ v. places_at number (rank_of st path number) (texts_of d path) ++ v) (places-append st (number + 1) d more paths before absent h)
+
+pub rows-stay : (st : SettingsView) (d : Data) (paths more : List (List ℕ)) → AreAbsent more paths → AreRegistered (paths_of d) paths → rows_with st (paths ++ more) d ≡ rows_with st paths d
+rows-stay st d paths more absent h = ap (λ v. record { places = v; leaves = []; marks = [] }) (places-append st 0 d more paths paths absent h)
 
 -- ---- paths that stand once
 
@@ -74,9 +85,9 @@ once-absent (path ∷ paths) more h = absent-behind path more paths (has-append 
 
 -- ---- the rows of all documents
 
-pub all-stay : (rows : List Row) (paths more : List (List ℕ)) → StandOnce (paths ++ more) → CoverRows rows paths
-    → map (λ r. kept_at r.id (rows_of r.document (paths ++ more))) rows ≡ map (λ r. kept_at r.id (rows_of r.document paths)) rows
-all-stay [] paths more once h = refl
-all-stay (r ∷ rows) paths more once h =
-    ap (λ v. kept_at r.id v ∷ map (λ r. kept_at r.id (rows_of r.document (paths ++ more))) rows) (rows-stay r.document paths more (once-absent paths more once) h.0)
-    ∙ ap (λ v. kept_at r.id (rows_of r.document paths) ∷ v) (all-stay rows paths more once h.1)
+pub all-stay : (st : SettingsView) (rows : List Row) (paths more : List (List ℕ)) → StandOnce (paths ++ more) → CoverRows rows paths
+    → map (λ r. kept_at r.id (rows_with st (paths ++ more) r.document)) rows ≡ map (λ r. kept_at r.id (rows_with st paths r.document)) rows
+all-stay st [] paths more once h = refl
+all-stay st (r ∷ rows) paths more once h =
+    ap (λ v. kept_at r.id v ∷ map (λ r. kept_at r.id (rows_with st (paths ++ more) r.document)) rows) (rows-stay st r.document paths more (once-absent paths more once) h.0)
+    ∙ ap (λ v. kept_at r.id (rows_with st paths r.document) ∷ v) (all-stay st rows paths more once h.1)

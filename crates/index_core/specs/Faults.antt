@@ -6,8 +6,10 @@ use Rattle.doc_values.specs.declared.keys.KeyFault.{KeyFault}
 use Rattle.doc_values.specs.declared.keys.KeyFault.TheVariants as key
 use Rattle.doc_store.specs.declared.rows.StoreFault.{StoreFault}
 use Rattle.doc_store.specs.declared.rows.StoreFault.TheVariants as store
+use Rattle.index_settings.specs.declared.fault.SettingsFault.{SettingsFault}
+use Rattle.index_settings.specs.declared.fault.SettingsFault.TheVariants as settings
 use Rattle.index_core.specs.declared.fault.CoreFault.{CoreFault}
-use Rattle.index_core.specs.declared.fault.CoreFault.TheVariants.{NoCandidate, SeveralCandidates, MissingId, BadId, IdsSpent, PathsSpent, NoMemory}
+use Rattle.index_core.specs.declared.fault.CoreFault.TheVariants.{NoCandidate, SeveralCandidates, MissingId, BadId, IdsSpent, PathsSpent, Settings, NoMemory}
 
 -- the key that a document gives
 abbrev pub key_result : Result (List ℕ) KeyFault → Result (Option (List ℕ)) CoreFault
@@ -27,3 +29,11 @@ abbrev pub store_refusal : StoreFault → CoreFault
 store_refusal store.IdsSpent = IdsSpent
 store_refusal store.PathsSpent = PathsSpent
 store_refusal store.NoMemory = NoMemory
+
+-- want of memory is one fault, whoever finds it
+abbrev pub settings_refusal : SettingsFault → CoreFault
+settings_refusal (settings.UnknownMember name) = Settings (settings.UnknownMember name)
+settings_refusal (settings.WrongShape name) = Settings (settings.WrongShape name)
+settings_refusal (settings.BadRankingRule text) = Settings (settings.BadRankingRule text)
+settings_refusal (settings.NotBuilt name) = Settings (settings.NotBuilt name)
+settings_refusal settings.NoMemory = NoMemory

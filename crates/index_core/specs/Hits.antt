@@ -5,8 +5,9 @@ use Rattle.std.specs.List.{filter_map}
 use Rattle.serde_json.specs.Data.{Data}
 use Rattle.search_base.specs.declared.cost_key.CostKey.{CostKey}
 use Rattle.search_base.specs.CostOrder.{before}
-use Rattle.doc_store.specs.Store.{Store, row_at}
+use Rattle.doc_store.specs.Store.{row_at}
 use Rattle.index_core.specs.declared.call.SearchCall.{SearchCall}
+use Rattle.index_core.specs.Index.{Index}
 use Rattle.index_core.specs.Matching.{Match, matching}
 
 -- Whether a document with these costs stands before another: it has the earlier entry at the first place at which
@@ -33,27 +34,28 @@ abbrev pub numbers : ℕ → ℕ → List ℕ
 numbers first zero = []
 numbers first (suc n) = first ∷ numbers (suc first) n
 
-abbrev pub most_hits : ℕ
-most_hits = 1000
+-- how many matches of an index are counted or handed out at most
+abbrev pub most_hits : Index → ℕ
+most_hits index = index.settings.max_total_hits
 
--- the end of the window of hits that a search asks for
-abbrev pub window_end : SearchCall → ℕ
-window_end call = min (call.offset + call.limit) most_hits
+-- the end of the window of hits that a search asks for, where no more than `most` are handed out
+abbrev pub window_end : ℕ → SearchCall → ℕ
+window_end most call = min (call.offset + call.limit) most
 
 -- the hits from `offset` on, up to the end of the window, in their order
-abbrev pub hits_of : SearchCall → List Match → List Match
-hits_of call matches = flat_map (hit_at matches) (numbers call.offset (window_end call - call.offset))
+abbrev pub hits_of : ℕ → SearchCall → List Match → List Match
+hits_of most call matches = flat_map (hit_at matches) (numbers call.offset (window_end most call - call.offset))
 
 -- what a search finds
 pub record Found : Type 0 where
   pub hits : List Data
   pub total : ℕ
 
--- the documents of the hits, and the number of matches, of which no more than 1,000 are counted
-abbrev pub found : Store → SearchCall → Found
-found s call =
-    let matches = matching s call.q in
+-- the documents of the hits, and the number of matches, of which no more are counted than the settings say
+abbrev pub found : Index → SearchCall → Found
+found index call =
+    let matches = matching index call.q in
     record {
-      hits = filter_map (λ m. option_map (λ r. r.document) (row_at m.id s.rows)) (hits_of call matches);
-      total = min (length matches) most_hits;
+      hits = filter_map (λ m. option_map (λ r. r.document) (row_at m.id index.store.rows)) (hits_of (most_hits index) call matches);
+      total = min (length matches) (most_hits index);
     }

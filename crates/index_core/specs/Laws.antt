@@ -1,13 +1,17 @@
 -- What holds of an index whatever changes it takes.
-use Rattle.std.specs.Prelude.{◌≡◌, ◌<◌, ◌≤◌, ℕ, ◌-◌, List, [], ◌++◌, take, drop, map, Some, None, Ok}
-use Rattle.doc_values.specs.Changes.{KindData}
-use Rattle.doc_store.specs.Store.{Store, row_at}
+use Rattle.std.specs.Prelude.{◌≡◌, ◌<◌, ◌≤◌, ℕ, ◌-◌, List, [], ◌++◌, length, take, drop, codes, Some, None, Ok}
+use Rattle.doc_values.specs.Changes.{KindData, patch}
+use Rattle.index_settings.specs.View.{SettingsView}
+use Rattle.serde_json.specs.Data.{Data}
+use Rattle.serde_json.specs.Find.{get}
+use Rattle.doc_store.specs.Store.{row_at}
 use Rattle.doc_store.specs.Sound.{IsSound}
 use Rattle.index_core.specs.declared.call.SearchCall.{SearchCall}
-use Rattle.index_core.specs.Hits.{found, window_end}
-use Rattle.index_core.specs.Index.{Index}
+use Rattle.index_core.specs.Fetches.{needed}
+use Rattle.index_core.specs.Hits.{found, most_hits, window_end}
+use Rattle.index_core.specs.Index.{Index, documents}
 use Rattle.index_core.specs.Matching.{query_of}
-use Rattle.index_core.specs.PlanView.{PlanView}
+use Rattle.index_core.specs.PlanView.{PlanView, settle}
 use Rattle.index_core.specs.Plans.{planned, applied}
 
 -- the index took the change, and became the other one
@@ -31,5 +35,20 @@ IdsAreSpentOnce = (index after : Index) (change : KindData) (id : ℕ) → Takes
 
 -- a search for no word finds the documents in the order of their internal ids
 abbrev pub NoWordFindsTheList : Type 0
-NoWordFindsTheList = (s : Store) (call : SearchCall) → IsSound s → (query_of call.q).levels ≡ [] →
-    (found s call).hits ≡ take (window_end call - call.offset) (drop call.offset (map (λ r. r.document) s.rows))
+NoWordFindsTheList = (index : Index) (call : SearchCall) → IsSound index.store → (query_of index call.q).levels ≡ [] →
+    (found index call).hits ≡ take (window_end (most_hits index) call - call.offset) (drop call.offset (documents index))
+
+-- a patch that does not name the searchable attributes leaves them, and reads no document
+pub record LeavesSearch (index : Index) (plan : PlanView) : Type 0 where
+  pub settings : SettingsView
+  pub settles : plan.work ≡ settle settings
+  pub attributes : settings.searchable_attributes ≡ index.settings.searchable_attributes
+  pub reads : needed plan.work index ≡ 0
+
+abbrev pub OtherPatchesLeaveSearch : Type 0
+OtherPatchesLeaveSearch = (index : Index) (members : Data) (plan : PlanView) → get (codes "searchableAttributes") members ≡ None →
+    planned index (patch members) ≡ Ok plan → LeavesSearch index plan
+
+-- a patch or a reset reads each document at most once
+abbrev pub SettingsReadOnce : Type 0
+SettingsReadOnce = (index : Index) (settings : SettingsView) → needed (settle settings) index ≤ length (documents index)

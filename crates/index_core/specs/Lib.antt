@@ -1,3 +1,4 @@
+pub mod Codes
 pub mod Index
 pub mod Faults
 pub mod PlanView

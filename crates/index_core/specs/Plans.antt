@@ -1,4 +1,4 @@
--- What a change of documents does to an index.
+-- What a change does to an index.
 use Rattle.std.specs.Prelude.{ℕ, ◌+◌, Bool, not, List, [], ◌∷◌, filter, Option, Some, None, Result, Ok, Err, bytes_eq, if◌then◌else◌}
 use Rattle.std.specs.List.{list_any}
 use Rattle.serde_json.specs.Data.{Data}
@@ -9,9 +9,13 @@ use Rattle.doc_values.specs.Stored.{merge}
 use Rattle.doc_store.specs.declared.rows.StoreRow.{StoreRow}
 use Rattle.doc_store.specs.declared.rows.StoreFault.{StoreFault}
 use Rattle.doc_store.specs.Store.{Row, Store, stored, all_stored, spent}
+use Rattle.index_settings.specs.declared.fault.SettingsFault.{SettingsFault}
+use Rattle.index_settings.specs.View.{SettingsView}
+use Rattle.index_settings.specs.Table.{defaults}
+use Rattle.index_settings.specs.Patch.{patch_of}
 use Rattle.index_core.specs.Index.{Index, document_under}
-use Rattle.index_core.specs.PlanView.{PlanView, Work, replace, update, remove, clear}
-use Rattle.index_core.specs.Faults.{key_result, id_result, store_refusal}
+use Rattle.index_core.specs.PlanView.{PlanView, Work, replace, update, remove, clear, settle}
+use Rattle.index_core.specs.Faults.{key_result, id_result, store_refusal, settings_refusal}
 use Rattle.index_core.specs.declared.fault.CoreFault.{CoreFault}
 use Rattle.index_core.specs.declared.fault.CoreFault.TheVariants.{KeyDiffers}
 
@@ -54,12 +58,19 @@ documents_planned own given ds work = do
   rows ← rows_for key ds
   Ok (plan_of key (work rows))
 
--- One equation a kind of change. A change that is none of documents does nothing here.
+-- the settings that a patch makes, or what is wrong with it
+abbrev pub settled : Option (List ℕ) → Result SettingsView SettingsFault → Result PlanView CoreFault
+settled key (Ok settings) = Ok (plan_of key (settle settings))
+settled key (Err fault) = Err (settings_refusal fault)
+
+-- One equation a kind of change. A change that makes an index or takes it away does nothing here.
 abbrev pub planned : Index → KindData → Result PlanView CoreFault
 planned index (kind.replace given ds) = documents_planned index.key given ds replace
 planned index (kind.update given ds) = documents_planned index.key given ds update
 planned index (kind.remove ids) = Ok (plan_of index.key (remove ids))
 planned index kind.clear = Ok (plan_of index.key clear)
+planned index (kind.patch members) = settled index.key (patch_of index.settings members)
+planned index kind.reset = Ok (plan_of index.key (settle defaults))
 planned index other = Ok (plan_of index.key (replace []))
 
 -- ---- what changes
@@ -93,6 +104,14 @@ after_work (replace rows) s = all_stored rows s
 after_work (update rows) s = all_updated rows s
 after_work (remove ids) s = all_removed ids s
 after_work clear s = cleared s
+after_work (settle settings) s = s
+
+abbrev pub settings_after : Work → SettingsView → SettingsView
+settings_after (replace rows) old = old
+settings_after (update rows) old = old
+settings_after (remove ids) old = old
+settings_after clear old = old
+settings_after (settle settings) old = settings
 
 abbrev pub unless_spent : Index → Option StoreFault → Result Index CoreFault
 unless_spent after None = Ok after
@@ -102,4 +121,4 @@ unless_spent after (Some fault) = Err (store_refusal fault)
 abbrev pub applied : PlanView → Index → Result Index CoreFault
 applied plan index =
     let after = after_work plan.work index.store in
-    unless_spent (record { key = plan.key; store = after }) (spent after)
+    unless_spent (record { key = plan.key; store = after; settings = settings_after plan.work index.settings }) (spent after)

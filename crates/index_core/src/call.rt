@@ -13,7 +13,7 @@ pub struct SearchCall {
 }
 
 /// What a search found: the documents that were asked for, the best match first, and how many documents match. No more
-/// than 1,000 matches are counted or handed out.
+/// matches are counted or handed out than the settings say.
 #[derive(Drop)]
 pub struct SearchResult<'a> {
     pub hits: Vec<&'a DocumentText>,

@@ -1,8 +1,9 @@
-ghost use Rattle.std.specs.Prelude.{◌≡◌, ◌≢◌, ◌++◌, None, Some, filter, IfOk, IfErr, OnOk, OnErr};
+ghost use Rattle.std.specs.Prelude.{◌≡◌, ◌≢◌, ◌++◌, [], None, Some, filter, IfOk, IfErr, OnOk, OnErr};
 ghost use Rattle.std.specs.Option.{option_map, is_some};
 ghost use Rattle.doc_store.specs.Store.{all_stored, row_at, spent};
 ghost use Rattle.index_core.specs.Faults.{store_refusal};
-ghost use Rattle.index_core.specs.Kept.{AreKept};
+ghost use Rattle.doc_store.specs.Sound.{IsSound};
+ghost use Rattle.index_core.specs.Kept.{AreKept, AreOf};
 ghost use Rattle.index_core.specs.Plans.{all_removed, cleared};
 ghost use Rattle.index_core.specs.Removing.{removed_under};
 ghost use Rattle.index_core.specs.declared.fault.CoreFault.TheVariants.{NoMemory as Memory};
@@ -10,18 +11,20 @@ ghost use Rattle.index_core.specs.declared.fault.CoreFault.TheVariants.{NoMemory
 use crate::fault::CoreFault;
 use crate::kept::{KeptRows, put_all, rows_of_new};
 use doc_store::{DocStore, StoreRow};
+use index_settings::Settings;
 use search_base::{NoMemory, Word};
 use std::alloc::Global;
 
 /// Stores documents one after the other, and keeps their rows. All memory is taken before anything changes.
 pub(crate) fn store_documents(
     alloc: Global,
+    settings: &Settings,
     store: &mut DocStore,
     kept: &mut Vec<KeptRows>,
     documents: Vec<StoreRow>,
 ) -> Result<(), CoreFault>
-    requires { AreKept kept.old.items store.old.content }
-    ensures kept { AreKept kept.new.items store.new.content }
+    requires { AreKept kept.old.items settings.now store.old.content }
+    ensures kept { AreKept kept.new.items settings.now store.new.content }
     ensures stored { OnOk result (store.new.content ≡ all_stored documents.items store.old.content) }
     ensures within { OnOk result (spent (all_stored documents.items store.old.content) ≡ None) }
     ensures stays { OnErr result (store.new.content ≡ store.old.content) }
@@ -32,6 +35,7 @@ pub(crate) fn store_documents(
     let paths = joined(alloc, store.paths(), admission.added())?;
     let come = rows_of_new(
         alloc,
+        settings,
         paths.as_slice(),
         documents.as_slice(),
         admission.ids(),
@@ -64,9 +68,10 @@ fn add_paths(paths: &[Word], all: &mut Vec<Word>) -> Result<(), NoMemory>
 
 /// Takes out the documents with these external ids, and what is kept of them.
 pub(crate) fn remove_documents(store: &mut DocStore, kept: &mut Vec<KeptRows>, ids: &[Word])
-    requires { AreKept kept.old.items store.old.content }
-    ensures kept { AreKept kept.new.items store.new.content }
+    requires { IsSound store.old.content }
+    ensures kept { kept.new.items ≡ filter (λ k. is_some (row_at k.id.0 store.new.content.rows)) kept.old.items }
     ensures removed { store.new.content ≡ all_removed ids.now store.old.content }
+    ensures sound { IsSound store.new.content }
 {
     for id in ids {
         remove_document(store, id.as_str());
@@ -100,8 +105,8 @@ fn is_stored(store: &DocStore, document: &KeptRows) -> bool
 
 /// Takes out all documents, and what is kept of them.
 pub(crate) fn clear_documents(store: &mut DocStore, kept: &mut Vec<KeptRows>)
-    requires { AreKept kept.old.items store.old.content }
-    ensures kept { AreKept kept.new.items store.new.content }
+    requires { AreOf kept.old.items store.old.content }
+    ensures kept { kept.new.items ≡ [] }
     ensures cleared { store.new.content ≡ cleared store.old.content }
 {
     remove_each(store, kept.as_slice());
@@ -109,7 +114,7 @@ pub(crate) fn clear_documents(store: &mut DocStore, kept: &mut Vec<KeptRows>)
 }
 
 fn remove_each(store: &mut DocStore, kept: &[KeptRows])
-    requires { AreKept kept.now store.old.content }
+    requires { AreOf kept.now store.old.content }
     ensures { store.new.content ≡ cleared store.old.content }
 {
     for document in kept {

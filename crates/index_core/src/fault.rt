@@ -1,13 +1,14 @@
 ghost use Rattle.std.specs.Prelude.{◌≡◌};
-ghost use Rattle.index_core.specs.Faults.{store_refusal};
+ghost use Rattle.index_core.specs.Faults.{store_refusal, settings_refusal};
 ghost use Rattle.index_core.specs.declared.fault.CoreFault.TheVariants.{NoMemory as Memory};
 
 use doc_store::StoreFault;
+use index_settings::SettingsFault;
 use search_base::NoMemory;
 use std::alloc::{AllocError, AllocFailed};
 
 /// Why an index refuses a change. Documents of a change are numbered from 1.
-#[derive(Clone, Copy, Debug, Drop, PartialEq, Eq)]
+#[derive(Debug, Drop)]
 pub enum CoreFault {
     /// The index has a primary key, and the change names another.
     KeyDiffers,
@@ -23,6 +24,8 @@ pub enum CoreFault {
     IdsSpent,
     /// The registry would have more than 1,000 paths.
     PathsSpent,
+    /// A patch of the settings is refused for this. It is never want of memory.
+    Settings(SettingsFault),
     /// Memory ran out.
     NoMemory,
 }
@@ -59,6 +62,17 @@ impl From<StoreFault> for CoreFault {
             StoreFault::IdsSpent => CoreFault::IdsSpent,
             StoreFault::PathsSpent => CoreFault::PathsSpent,
             StoreFault::NoMemory => CoreFault::NoMemory,
+        }
+    }
+}
+
+impl From<SettingsFault> for CoreFault {
+    ghost from_gives = { λ refused fault. fault ≡ settings_refusal refused };
+
+    fn from(refused: SettingsFault) -> CoreFault {
+        match refused {
+            SettingsFault::NoMemory => CoreFault::NoMemory,
+            other => CoreFault::Settings(other),
         }
     }
 }

@@ -5,7 +5,7 @@ ghost use Rattle.index_core.specs.Index.{empty_index, documents as documents_in,
 ghost use Rattle.doc_store.specs.Store.{spent};
 ghost use Rattle.index_core.specs.Faults.{store_refusal};
 ghost use Rattle.index_core.specs.PlanView.{work_view};
-ghost use Rattle.index_core.specs.Plans.{planned, applied, after_work};
+ghost use Rattle.index_core.specs.Plans.{planned, applied, after_work, settings_after};
 ghost use Rattle.index_core.specs.Fetches.{needed};
 ghost use Rattle.index_core.specs.Hits.{found};
 ghost use Rattle.index_core.specs.declared.fault.CoreFault.TheVariants.{NoMemory as Memory};
@@ -14,21 +14,27 @@ use crate::call::{Listing, SearchCall, SearchResult};
 use crate::change::{clear_documents, remove_documents, store_documents};
 use crate::fault::CoreFault;
 use crate::kept::{KeptRows, ids_of_kept, part};
-use crate::plan::{Plan, Work, keeping_key, no_work, planned_replace, planned_update};
+use crate::plan::{
+    Plan, Work, keeping_key, no_work, planned_patch, planned_replace, planned_reset, planned_update,
+};
 use crate::read::read;
-use crate::search::{MOST_HITS, rank};
+use crate::search::rank;
+use crate::settle::settle;
 use crate::update::update_rows;
 use doc_store::DocStore;
 use doc_values::{ChangeKind, DocumentText};
+use index_settings::Settings;
 use search_base::{NoMemory, Steps, Word};
 use std::alloc::Global;
 use std::marker::Model;
 
-/// One index, seen as its primary key and its store. What it keeps so that a search reads no document is not seen.
+/// One index, seen as its primary key, its store and its settings. What it keeps so that a search reads no document is
+/// not seen.
 #[derive(Drop)]
 pub struct IndexCore {
     key: Option<Word>,
     store: DocStore,
+    settings: Settings,
     kept: Vec<KeptRows>,
 }
 
@@ -40,19 +46,20 @@ impl Model for IndexCore {
 
     ghost coded = { index_code };
 
-    ghost view = { λ index. record { key = index.key; store = index.store.content } };
+    ghost view = { λ index. record { key = index.key; store = index.store.content; settings = index.settings } };
 
-    ghost invariant = { λ index. AreKept index.kept.items index.store.content };
+    ghost invariant = { λ index. AreKept index.kept.items index.settings index.store.content };
 }
 
 impl IndexCore {
-    /// An index with no key and no documents.
+    /// An index with no key and no documents, and the settings of a new index.
     pub fn new(alloc: Global) -> Result<IndexCore, NoMemory>
         ensures { IfOk result (λ index. index ≡ empty_index) }
     {
         Ok(IndexCore {
             key: None,
             store: DocStore::new(alloc)?,
+            settings: Settings::defaults(alloc)?,
             kept: Vec::new(alloc),
         })
     }
@@ -62,6 +69,13 @@ impl IndexCore {
         ensures { option_copied result ≡ self.now.key }
     {
         self.key.as_ref()
+    }
+
+    /// The settings. Takes no memory.
+    pub fn settings(&self) -> &Settings
+        ensures { result.now ≡ self.now.settings }
+    {
+        &self.settings
     }
 
     /// How many documents the index holds. Takes no memory.
@@ -78,10 +92,11 @@ impl IndexCore {
         self.len() == 0
     }
 
-    /// Tries the key of a change and then the id of each document, in order, and changes nothing.
+    /// Tries the key of a change and then the id of each document, in order, or the members of a patch, and changes
+    /// nothing.
     ///
-    /// A change that makes an index, drops it or is one of settings is planned as one of no documents. A change of 2^32
-    /// documents or more counts as one for which there is no memory.
+    /// A change that makes an index or drops it is planned as one of no documents. A change of 2^32 documents or more
+    /// counts as one for which there is no memory. Settings share their lists with those that a patch makes of them.
     pub fn plan(&self, alloc: Global, change: ChangeKind) -> Result<Plan, CoreFault>
         ensures { MatchResult result (λ plan. planned self.now (kind_view change) ≡ Ok plan)
             (λ fault. fault ≢ Memory → planned self.now (kind_view change) ≡ Err fault) }
@@ -92,6 +107,8 @@ impl IndexCore {
             ChangeKind::Update { key, documents } => planned_update(alloc, own, key, documents),
             ChangeKind::Remove { ids } => keeping_key(own, Work::Remove { ids }),
             ChangeKind::Clear => keeping_key(own, Work::Clear),
+            ChangeKind::Patch { members } => planned_patch(alloc, own, &self.settings, &members),
+            ChangeKind::Reset => planned_reset(alloc, own),
             _ => keeping_key(own, no_work(alloc)),
         }
     }
@@ -99,8 +116,9 @@ impl IndexCore {
     /// Does what a plan says, under its key. Takes its memory before it changes anything: a refusal, want of memory
     /// too, leaves the index as it was.
     ///
-    /// Where ids or paths are spent, ids are named first. An update reads each stored document that it names once; no
-    /// other change reads one.
+    /// Where ids or paths are spent, ids are named first. An update reads each stored document that it names once, and
+    /// new settings read each document once where they search other paths or rank them otherwise; no other change reads
+    /// one.
     pub fn apply<F>(
         &mut self,
         alloc: Global,
@@ -110,8 +128,8 @@ impl IndexCore {
         ensures answer { MatchResult result (λ _. applied plan self.old ≡ Ok self.new)
             (λ fault. fault ≢ Memory → applied plan self.old ≡ Err fault) }
         ensures stays { OnErr result (self.new ≡ self.old) }
-        ensures fetches { OnOk result (fetches.new ≡ fetches.old + needed plan.work self.old.store) }
-        ensures at_most { fetches.new ≤ fetches.old + needed plan.work self.old.store }
+        ensures fetches { OnOk result (fetches.new ≡ fetches.old + needed plan.work self.old) }
+        ensures at_most { fetches.new ≤ fetches.old + needed plan.work self.old }
     {
         let Plan { key, work } = plan;
         self.work(alloc, work, fetches)?;
@@ -130,17 +148,18 @@ impl IndexCore {
         ensures within { OnOk result (spent (after_work (work_view work) self.old.store) ≡ None) }
         ensures fault { IfErr result (λ fault. fault ≢ Memory
             → option_map store_refusal (spent (after_work (work_view work) self.old.store)) ≡ Some fault) }
-        ensures stays { OnErr result (self.new.store ≡ self.old.store) }
-        ensures fetches { OnOk result (fetches.new ≡ fetches.old + needed (work_view work) self.old.store) }
-        ensures at_most { fetches.new ≤ fetches.old + needed (work_view work) self.old.store }
+        ensures settings { OnOk result (self.new.settings ≡ settings_after (work_view work) self.old.settings) }
+        ensures stays { OnErr result (self.new ≡ self.old) }
+        ensures fetches { OnOk result (fetches.new ≡ fetches.old + needed (work_view work) self.old) }
+        ensures at_most { fetches.new ≤ fetches.old + needed (work_view work) self.old }
     {
         match work {
             Work::Replace { rows } => {
-                store_documents(alloc, &mut self.store, &mut self.kept, rows)
+                store_documents(alloc, &self.settings, &mut self.store, &mut self.kept, rows)
             }
             Work::Update { rows } => {
                 let rows = update_rows(alloc, &self.store, rows, fetches)?;
-                store_documents(alloc, &mut self.store, &mut self.kept, rows)
+                store_documents(alloc, &self.settings, &mut self.store, &mut self.kept, rows)
             }
             Work::Remove { ids } => {
                 remove_documents(&mut self.store, &mut self.kept, ids.as_slice());
@@ -150,11 +169,17 @@ impl IndexCore {
                 clear_documents(&mut self.store, &mut self.kept);
                 Ok(())
             }
+            Work::Settle { settings } => {
+                let (kept, old) = (&mut self.kept, &mut self.settings);
+                settle(alloc, &self.store, kept, old, settings, fetches)?;
+                Ok(())
+            }
         }
     }
 
     /// The hits of a search, each a stored document: the asked slice of the documents that match, ranked by how many
-    /// words of the query were dropped before they matched and then by their internal ids.
+    /// words of the query were dropped before they matched and then by their internal ids. The settings say which paths
+    /// are searched, which words of a query are left out, and how many matches are counted or handed out.
     ///
     /// Reads no other document than the hits, and each of them once.
     pub fn search<F>(
@@ -164,16 +189,16 @@ impl IndexCore {
         fetches: &mut Steps<F>,
     ) -> Result<SearchResult, NoMemory>
         ensures hits { IfOk result (λ result. map (λ document. document.now) result.hits.items
-            ≡ (found self.now.store call.now).hits) }
-        ensures total { IfOk result (λ result. result.total ≡ (found self.now.store call.now).total) }
-        ensures fetches { OnOk result (fetches.new ≡ fetches.old + length (found self.now.store call.now).hits) }
+            ≡ (found self.now call.now).hits) }
+        ensures total { IfOk result (λ result. result.total ≡ (found self.now call.now).total) }
+        ensures fetches { OnOk result (fetches.new ≡ fetches.old + length (found self.now call.now).hits) }
         ensures starved { OnErr result (fetches.new ≡ fetches.old) }
     {
-        let ranked = rank(alloc, self.kept.as_slice(), call)?;
+        let ranked = rank(alloc, &self.settings, self.kept.as_slice(), call)?;
         let hits = read(alloc, &self.store, ranked.ids.as_slice(), fetches)?;
         Ok(SearchResult {
             hits,
-            total: ranked.total.min(MOST_HITS),
+            total: ranked.total.min(self.settings.max_total_hits()),
         })
     }
 

@@ -5,8 +5,10 @@ ghost use Rattle.index_core.specs.declared.kept.KeptRows.{KeptRows as Kept};
 ghost use Rattle.index_core.specs.Ordered.{IdsRise};
 ghost use Rattle.index_core.specs.Putting.{put_kept as kept_with, put_all as kept_with_all, HasPlace, HavePlaces, rows_come};
 
-use doc_rows::rows;
+use crate::settle::ranks_of;
+use doc_rows::{SharedWords, rows};
 use doc_store::StoreRow;
+use index_settings::Settings;
 use search_base::{DocId, DocRows, NoMemory, Word};
 use std::alloc::Global;
 
@@ -37,21 +39,25 @@ pub(crate) fn ids_of_kept(alloc: Global, kept: &[KeptRows]) -> Result<Vec<DocId>
     Ok(ids)
 }
 
-/// The rows of documents that come with these internal ids, in an index with these paths.
+/// The rows of documents that come with these internal ids, in an index with these settings and paths.
 pub(crate) fn rows_of_new(
     alloc: Global,
+    settings: &Settings,
     paths: &[Word],
     documents: &[StoreRow],
     ids: &[DocId],
 ) -> Result<Vec<KeptRows>, NoMemory>
     requires few { length paths.now ≤ 1000 }
-    ensures { IfOk result (λ come. come.items ≡ rows_come paths.now documents.now (map (λ id. id.0) ids.now)) }
+    ensures { IfOk result (λ come. come.items ≡ rows_come settings.now paths.now documents.now (map (λ id. id.0) ids.now)) }
 {
+    let ranks = ranks_of(alloc, settings, paths)?;
+    let ranks = ranks.as_slice();
+    let mut shared = SharedWords::new(alloc);
     let mut come = Vec::with_capacity(alloc, documents.len())?;
     for (document, id) in documents.iter().zip(ids) {
         come.push(KeptRows {
             id: *id,
-            rows: rows(alloc, &document.document, paths)?,
+            rows: rows(alloc, &document.document, paths, ranks, &mut shared)?,
         })?;
     }
     Ok(come)

@@ -1,7 +1,10 @@
 ghost use Rattle.std.specs.Prelude.{◌≡◌, ◌≢◌, [], Ok, Err, IfOk, OnErr, IfErr, MatchResult};
 ghost use Rattle.std.specs.Option.{option_copied};
-ghost use Rattle.index_core.specs.PlanView.{replace as replace_rows, update as update_rows, work_view};
-ghost use Rattle.index_core.specs.Plans.{documents_planned, plan_of};
+ghost use Rattle.serde_json.specs.View.{view as data_of};
+ghost use Rattle.index_settings.specs.Patch.{patch_of};
+ghost use Rattle.index_settings.specs.Table.{defaults};
+ghost use Rattle.index_core.specs.PlanView.{replace as replace_rows, update as update_rows, settle as settle_to, work_view};
+ghost use Rattle.index_core.specs.Plans.{documents_planned, plan_of, settled};
 ghost use Rattle.index_core.specs.declared.fault.CoreFault.TheVariants.{NoMemory as Memory};
 
 use crate::fault::CoreFault;
@@ -9,19 +12,20 @@ use crate::key::key_for;
 use crate::rows::rows_for;
 use doc_store::StoreRow;
 use doc_values::Document;
+use index_settings::{Settings, patch};
 use search_base::Word;
+use serde_json::Value;
 use std::alloc::Global;
 use std::marker::Model;
 
-/// A change whose key and ids an index has found good: the primary key after it, and what is to be done. It holds no
-/// memory of the index, and may be dropped.
+/// A change that an index has found good: the primary key after it, and what is to be done. It may be dropped.
 #[derive(Drop)]
 pub struct Plan {
     pub(crate) key: Option<Word>,
     pub(crate) work: Work,
 }
 
-/// What a plan does to the documents of an index.
+/// What a plan does to an index.
 #[derive(Drop)]
 pub(crate) enum Work {
     /// Stores documents whole, in order.
@@ -32,6 +36,8 @@ pub(crate) enum Work {
     Remove { ids: Vec<Word> },
     /// Takes out all documents.
     Clear,
+    /// Gives the index these settings.
+    Settle { settings: Settings },
 }
 
 impl Model for Plan {
@@ -82,6 +88,31 @@ pub(crate) fn planned_update(
         key,
         work: Work::Update { rows },
     })
+}
+
+/// The settings that a patch of an index's gives.
+pub(crate) fn planned_patch(
+    alloc: Global,
+    own: Option<&Word>,
+    settings: &Settings,
+    members: &Value,
+) -> Result<Plan, CoreFault>
+    ensures { MatchResult result
+        (λ plan. settled (option_copied own.entry) (patch_of settings.now (data_of members.now)) ≡ Ok plan)
+        (λ fault. fault ≢ Memory
+        → settled (option_copied own.entry) (patch_of settings.now (data_of members.now)) ≡ Err fault) }
+{
+    let settings = patch(alloc, settings, members)?;
+    keeping_key(own, Work::Settle { settings })
+}
+
+/// The settings of a new index.
+pub(crate) fn planned_reset(alloc: Global, own: Option<&Word>) -> Result<Plan, CoreFault>
+    ensures plan { IfOk result (λ plan. plan ≡ plan_of (option_copied own.entry) (settle_to defaults)) }
+    ensures starved { IfErr result (λ fault. fault ≡ Memory) }
+{
+    let settings = Settings::defaults(alloc)?;
+    keeping_key(own, Work::Settle { settings })
 }
 
 /// The plan of work under the key that the index has.

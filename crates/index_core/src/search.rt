@@ -1,19 +1,18 @@
 ghost use Rattle.std.specs.Prelude.{◌≡◌, ◌-◌, map, length, take, drop, [], IfOk};
 ghost use Rattle.search_base.specs.Graphs.{IsGraph};
-ghost use Rattle.index_core.specs.Matching.{query_of as query_in};
+ghost use Rattle.index_core.specs.Matching.{query_without, stop_words_of};
 ghost use Rattle.index_core.specs.Hits.{hits_of, window_end as end_of_window};
 ghost use Rattle.index_core.specs.Ordered.{placed_all, matches_in, IdsRise};
 
 use crate::call::SearchCall;
 use crate::candidate::{Candidate, place};
 use crate::kept::{KeptRows, ids_of_kept, part};
+use crate::stops::stop_words;
+use index_settings::Settings;
 use plain_rank::cost_tuple;
 use query_graph::{build_graph, items};
 use search_base::{DocId, Graph, NoMemory, Rule, Strategy};
 use std::alloc::Global;
-
-/// No more matches than these are counted or handed out.
-pub(crate) const MOST_HITS: u64 = 1_000;
 
 /// The internal ids of the hits of a search, and how many documents match.
 #[derive(Drop)]
@@ -23,14 +22,20 @@ pub(crate) struct Ranked {
 }
 
 /// Ranks the documents of which these rows are kept. Without a word to look for, no rows are read.
-pub(crate) fn rank(alloc: Global, kept: &[KeptRows], call: &SearchCall) -> Result<Ranked, NoMemory>
+pub(crate) fn rank(
+    alloc: Global,
+    settings: &Settings,
+    kept: &[KeptRows],
+    call: &SearchCall,
+) -> Result<Ranked, NoMemory>
     requires { IdsRise kept.now }
     ensures ids { IfOk result (λ ranked. map (λ id. id.0) ranked.ids.items
-        ≡ map (λ m. m.id) (hits_of call.now (matches_in (query_in call.now.q) kept.now))) }
-    ensures total { IfOk result (λ ranked. ranked.total ≡ length (matches_in (query_in call.now.q) kept.now)) }
+        ≡ map (λ m. m.id) (hits_of settings.now.max_total_hits call.now (matches_in (query_without (stop_words_of settings.now) call.now.q) kept.now))) }
+    ensures total { IfOk result (λ ranked. ranked.total
+        ≡ length (matches_in (query_without (stop_words_of settings.now) call.now.q) kept.now)) }
 {
-    let query = query_of(alloc, call.q.as_str())?;
-    let end = window_end(call);
+    let query = query_of(alloc, settings, call.q.as_str())?;
+    let end = window_end(settings.max_total_hits(), call);
     let limit = end.saturating_sub(call.offset);
     let levels = query.levels.as_slice();
     if levels.is_empty() {
@@ -46,19 +51,20 @@ pub(crate) fn rank(alloc: Global, kept: &[KeptRows], call: &SearchCall) -> Resul
     })
 }
 
-fn query_of(alloc: Global, q: &str) -> Result<Graph, NoMemory>
-    ensures query { IfOk result (λ query. query ≡ query_in q.now) }
+fn query_of(alloc: Global, settings: &Settings, q: &str) -> Result<Graph, NoMemory>
+    ensures query { IfOk result (λ query. query ≡ query_without (stop_words_of settings.now) q.now) }
     ensures sound { IfOk result IsGraph }
 {
-    let items = items(alloc, q, &[])?;
+    let words = stop_words(alloc, settings)?;
+    let items = items(alloc, q, words.as_slice())?;
     build_graph(alloc, &items, Strategy::Last)
 }
 
-// The place of the first hit that the search does not ask for.
-fn window_end(call: &SearchCall) -> u64
-    ensures { result ≡ end_of_window call.now }
+// The place of the first hit that the search does not ask for, where no more than `most` are handed out.
+fn window_end(most: u64, call: &SearchCall) -> u64
+    ensures { result ≡ end_of_window most call.now }
 {
-    call.offset.saturating_add(call.limit).min(MOST_HITS)
+    call.offset.saturating_add(call.limit).min(most)
 }
 
 // The matches that stand first, and how many there are in all.

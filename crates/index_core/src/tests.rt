@@ -1,5 +1,7 @@
+use crate::settle::ranks_of;
 use crate::{CoreFault, IndexCore, SearchCall};
 use doc_values::{ChangeKind, Document, documents_of};
+use index_settings::SettingsFault;
 use search_base::{Steps, Word};
 use serde_json::Value;
 use std::alloc::Global;
@@ -60,12 +62,12 @@ fn remove(rt: &impl Abort, alloc: Global, index: &mut IndexCore, names: &str) {
         ids.push(word(rt, alloc, name)).expect(rt, "memory");
     }
     let done = change(alloc, index, ChangeKind::Remove { ids });
-    assert_eq!(rt; done, Ok(()));
+    assert!(rt; done.is_ok());
 }
 
 fn films(rt: &impl Abort, alloc: Global) -> IndexCore {
     let mut index = IndexCore::new(alloc).expect(rt, "memory");
-    assert_eq!(rt; add(rt, alloc, &mut index, None, FILMS), Ok(()));
+    assert!(rt; add(rt, alloc, &mut index, None, FILMS).is_ok());
     index
 }
 
@@ -111,17 +113,17 @@ fn keys_and_ids_of_a_change(rt: HostRuntime) {
     let alloc = rt.alloc();
     let mut index = IndexCore::new(alloc).expect(&rt, "memory");
     let none = add(&rt, alloc, &mut index, None, "[{\"t\":1}]");
-    assert_eq!(rt; none, Err(CoreFault::NoCandidate));
+    assert!(rt; matches!(none, Err(CoreFault::NoCandidate)));
     let several = add(&rt, alloc, &mut index, None, "[{\"ID\":1,\"pid\":2}]");
-    assert_eq!(rt; several, Err(CoreFault::SeveralCandidates));
+    assert!(rt; matches!(several, Err(CoreFault::SeveralCandidates)));
     let key = Some(word(&rt, alloc, "id"));
-    assert_eq!(rt; add(&rt, alloc, &mut index, key, "[]"), Ok(()));
+    assert!(rt; add(&rt, alloc, &mut index, key, "[]").is_ok());
     assert!(rt; index.key().is_some());
     let other = Some(word(&rt, alloc, "pid"));
     let differs = add(&rt, alloc, &mut index, other, "[]");
-    assert_eq!(rt; differs, Err(CoreFault::KeyDiffers));
+    assert!(rt; matches!(differs, Err(CoreFault::KeyDiffers)));
     let missing = update(&rt, alloc, &mut index, "[{\"id\":2},{\"t\":1},{\"id\":[]}]");
-    assert_eq!(rt; missing, Err(CoreFault::MissingId { document: 2 }));
+    assert!(rt; matches!(missing, Err(CoreFault::MissingId { document: 2 })));
     let bad = add(
         &rt,
         alloc,
@@ -129,30 +131,117 @@ fn keys_and_ids_of_a_change(rt: HostRuntime) {
         None,
         "[{\"id\":2},{\"id\":\"a b\"}]",
     );
-    assert_eq!(rt; bad, Err(CoreFault::BadId { document: 2 }));
+    assert!(rt; matches!(bad, Err(CoreFault::BadId { document: 2 })));
     assert!(rt; index.is_empty());
 }
 
+// Patches of the settings, each of the defaults, a query, and what is found.
+const PATCHED: &str = r#"{}~dark knight~1 2 3 of 3
+{}~knight rises~2 1 3 of 3
+{}~dark~1 2 3 4 of 4
+{}~dark ~1 2 3 of 3
+{}~~1 2 3 4 of 4
+{}~zebra~of 0
+{}~action~1 2 of 2
+{"searchableAttributes":["title"]}~action~of 0
+{"searchableAttributes":["gen","year"]}~action~of 0
+{"searchableAttributes":["year","genres"]}~action~1 2 of 2
+{"searchableAttributes":["title","*"]}~drama~1 4 of 2
+{"searchableAttributes":[]}~dark~of 0
+{"stopWords":["Dark"]}~dark rises~2 of 1
+{"stopWords":["dark knight","?"]}~dark rises~2 1 3 of 3
+{"stopWords":["dark"]}~dark ~1 2 3 of 3
+{"pagination":{"maxTotalHits":2}}~dark~1 2 of 2
+{"pagination":{"maxTotalHits":2}}~~1 2 of 2
+{"pagination":{"maxTotalHits":0}}~dark~of 0
+{"displayedAttributes":["id"],"rankingRules":[]}~action~1 2 of 2"#;
+
+fn patch(
+    rt: &impl Abort,
+    alloc: Global,
+    index: &mut IndexCore,
+    body: &str,
+) -> Result<(), CoreFault> {
+    let members = Value::from_str(alloc, body).expect(rt, "JSON");
+    change(alloc, index, ChangeKind::Patch { members })
+}
+
 #[test]
-fn queries_of_the_films(rt: HostRuntime) {
+fn queries_of_the_films_under_settings(rt: HostRuntime) {
+    let alloc = rt.alloc();
+    let mut index = films(&rt, alloc);
+    for row in PATCHED.lines() {
+        let mut parts = row.split('~');
+        let body = parts.next().unwrap_or("");
+        let q = parts.next().unwrap_or("");
+        let want = parts.next().unwrap_or("");
+        assert!(rt; patch(&rt, alloc, &mut index, body).is_ok(), "{row}");
+        assert_eq!(rt; found(&rt, alloc, &index, q, 0, 20).as_str(), want, "{row}");
+        assert!(rt;
+            change(alloc, &mut index, ChangeKind::Reset).is_ok(),
+            "{row}"
+        );
+    }
+}
+
+#[test]
+fn a_refused_patch_changes_nothing(rt: HostRuntime) {
+    let alloc = rt.alloc();
+    let mut index = films(&rt, alloc);
+    let body = "{\"searchableAttributes\":[\"title\"],\"stopWords\":5}";
+    let done = patch(&rt, alloc, &mut index, body);
+    assert!(rt;
+        matches!(
+            done,
+            Err(CoreFault::Settings(SettingsFault::WrongShape { .. }))
+        )
+    );
+    assert_eq!(rt;
+        found(&rt, alloc, &index, "action", 0, 9).as_str(),
+        "1 2 of 2"
+    );
+    assert_eq!(rt; index.settings().max_total_hits(), 1000);
+}
+
+// The ranks of paths, each behind a blank; `-` is that of a path that is not searched.
+fn ranks(rt: &impl Abort, alloc: Global, index: &IndexCore, registry: &str) -> String {
+    let mut paths = Vec::new(alloc);
+    for path in registry.split(' ') {
+        paths.push(word(rt, alloc, path)).expect(rt, "memory");
+    }
+    assert!(rt; paths.len() <= 1000);
+    let ranks = ranks_of(alloc, index.settings(), paths.as_slice()).expect(rt, "memory");
+    let mut told = String::new(alloc);
+    for rank in &ranks {
+        match rank {
+            Some(rank) => write!(told, " {rank}").expect(rt, "memory"),
+            None => told.push_str(" -").expect(rt, "memory"),
+        }
+    }
+    told
+}
+
+#[test]
+fn ranks_of_paths(rt: HostRuntime) {
+    let alloc = rt.alloc();
+    let mut index = films(&rt, alloc);
+    assert_eq!(rt; ranks(&rt, alloc, &index, "a b.c b").as_str(), " 0 1 2");
+    let body = "{\"searchableAttributes\":[\"b.c\",\"a\",\"b\"]}";
+    assert!(rt; patch(&rt, alloc, &mut index, body).is_ok());
+    let told = ranks(&rt, alloc, &index, "a a.x ab b b.c b.cd b.c.d");
+    assert_eq!(rt; told.as_str(), " 1 1 - 2 0 2 0");
+}
+
+#[test]
+fn windows_of_the_films(rt: HostRuntime) {
     let alloc = rt.alloc();
     let index = films(&rt, alloc);
-    let cases = [
-        ("dark knight", 0, 20, "1 2 3 of 3"),
-        ("knight rises", 0, 20, "2 1 3 of 3"),
-        ("dark", 0, 20, "1 2 3 4 of 4"),
-        ("dark ", 0, 20, "1 2 3 of 3"),
-        ("", 0, 20, "1 2 3 4 of 4"),
-        ("zebra", 0, 20, "of 0"),
-        ("knight rises", 1, 1, "1 of 3"),
-        ("knight rises", 0, 0, "of 3"),
-        ("", 3, 2, "4 of 4"),
-        ("dark", u64::MAX, u64::MAX, "of 4"),
-    ];
-    for (q, offset, limit, want) in &cases {
-        let told = found(&rt, alloc, &index, q, *offset, *limit);
-        assert_eq!(rt; told.as_str(), *want, "{q} from {offset}");
-    }
+    let q = "knight rises";
+    assert_eq!(rt; found(&rt, alloc, &index, q, 1, 1).as_str(), "1 of 3");
+    assert_eq!(rt; found(&rt, alloc, &index, q, 0, 0).as_str(), "of 3");
+    assert_eq!(rt; found(&rt, alloc, &index, "", 3, 2).as_str(), "4 of 4");
+    let far = found(&rt, alloc, &index, "dark", u64::MAX, u64::MAX);
+    assert_eq!(rt; far.as_str(), "of 4");
 }
 
 #[test]
@@ -165,23 +254,15 @@ fn removed_documents_come_again_behind_the_others(rt: HostRuntime) {
         found(&rt, alloc, &index, "dark knight", 0, 9).as_str(),
         "1 3 of 2"
     );
-    assert_eq!(rt;
-        add(
-            &rt,
-            alloc,
-            &mut index,
-            None,
-            "[{\"id\":2,\"title\":\"Dark Knight Rises\"}]"
-        ),
-        Ok(())
-    );
+    let again = "[{\"id\":2,\"title\":\"Dark Knight Rises\"}]";
+    assert!(rt; add(&rt, alloc, &mut index, None, again).is_ok());
     assert_eq!(rt;
         found(&rt, alloc, &index, "", 0, 9).as_str(),
         "1 3 4 2 of 4"
     );
-    assert_eq!(rt; change(alloc, &mut index, ChangeKind::Clear), Ok(()));
+    assert!(rt; change(alloc, &mut index, ChangeKind::Clear).is_ok());
     assert_eq!(rt; found(&rt, alloc, &index, "", 0, 9).as_str(), "of 0");
-    assert_eq!(rt; add(&rt, alloc, &mut index, None, FILMS), Ok(()));
+    assert!(rt; add(&rt, alloc, &mut index, None, FILMS).is_ok());
     assert_eq!(rt; found(&rt, alloc, &index, "rises", 0, 9).as_str(), "2 of 1");
 }
 
@@ -190,7 +271,7 @@ fn updates_keep_what_they_do_not_name(rt: HostRuntime) {
     let alloc = rt.alloc();
     let mut index = films(&rt, alloc);
     let body = "[{\"id\":3,\"genres\":[\"Western\"]},{\"id\":5,\"a\":1},{\"id\":5,\"b\":2}]";
-    assert_eq!(rt; update(&rt, alloc, &mut index, body), Ok(()));
+    assert!(rt; update(&rt, alloc, &mut index, body).is_ok());
     assert_eq!(rt;
         text(&rt, alloc, &index, "3").as_str(),
         "{\"genres\":[\"Western\"],\"id\":3,\"title\":\"Knight of the Dark\",\"year\":1999}"

@@ -1,8 +1,7 @@
-use Rattle.std.proofs.Common.{◌≡◌, ◌+◌, ◌∷◌, drop, sym, ap, ◌∙◌, subst, arith}
+use Rattle.std.proofs.Common.{◌≡◌, ◌+◌, ◌∷◌, drop, sym, ap, ◌∙◌, arith}
 use Rattle.std.proofs.lemmas.List.{drop_more, drop_all}
-use Rattle.index_core.specs.Kept.{AreKept}
 use Rattle.index_core.specs.Removing.{removed_under}
-use Rattle.index_core.proofs.Removing.{removes-one, removes-end, kept-removed}
+use Rattle.index_core.proofs.Removing.{removes-one, removes-end}
 use Rattle.index_core.proofs.change.remove_documents.Goals as goal
 
 pub loop-id-preserved : goal.loop-id-preserved
@@ -14,16 +13,11 @@ loop-id-preserved c =
     removes-one ids (drop i ids) id (drop (i + 1) ids) c.args.store.now.content c.loop-id.store.content c.remove_document.new.store.content here
     (c.remove_document.ensures ∙ ap (λ e. removed_under e c.loop-id.store.content) c.as_str.ensures) c.loop-id.invariant
 
-pub returns-clause-kept : goal.returns-clause-kept
-returns-clause-kept c =
-    let ids = c.args.ids.now in
-    let i = c.loop-id.id-index in
-    let now = c.loop-id.store.content in
-    subst (λ ks. AreKept ks now) (sym c.keep_stored.ensures)
-    (kept-removed ids c.args.store.now.content now c.args.kept.now.items c.requires (removes-end ids (drop i ids) c.args.store.now.content now (drop_all i ids (omega arith)) c.loop-id.invariant) c.loop-id.invariant.sound)
-
 pub returns-clause-removed : goal.returns-clause-removed
 returns-clause-removed c =
     let ids = c.args.ids.now in
     let i = c.loop-id.id-index in
     removes-end ids (drop i ids) c.args.store.now.content c.loop-id.store.content (drop_all i ids (omega arith)) c.loop-id.invariant
+
+pub returns-clause-sound : goal.returns-clause-sound
+returns-clause-sound c = c.loop-id.invariant.sound

@@ -11,4 +11,4 @@ returns-clause-documents g c =
     let s = c.self.inside.store.content in
     let ids : map (λ id. id.0) c.in_ok-ids.ids.items ≡ map (λ k. k.id.0) (take c.args.limit (drop c.args.offset c.self.inside.kept.items)) =
     c.in_ok-ids.ensures ∙ ap (map (λ k. k.id.0)) (c.part.ensures ∙ ap (λ v. take c.args.limit (drop c.args.offset v)) c.as_slice.ensures.value) in
-    c.in_ok-documents.ensures.documents ∙ ap (filter_map (λ id. option_map (λ row. row.document) (row_at id.0 s.rows))) c.as_slice-2.ensures.value ∙ part-read s c.self.inside.kept.items c.in_ok-ids.ids.items c.args.offset c.args.limit c.self.invariant ids ∙ ap (λ (i : Index). take c.args.limit (drop c.args.offset (documents i))) c.self.view_is
+    c.in_ok-documents.ensures.documents ∙ ap (filter_map (λ id. option_map (λ row. row.document) (row_at id.0 s.rows))) c.as_slice-2.ensures.value ∙ part-read c.self.inside.settings s c.self.inside.kept.items c.in_ok-ids.ids.items c.args.offset c.args.limit c.self.invariant ids ∙ ap (λ (i : Index). take c.args.limit (drop c.args.offset (documents i))) c.self.view_is
