@@ -6,4 +6,6 @@ pub mod Literals
 pub mod Paths
 pub mod Masks
 pub mod Numbers
+pub mod Patches
+pub mod Asking
 pub mod Unquoted

@@ -7,7 +7,7 @@ use Rattle.std.proofs.lemmas.Bool.{true≢false, cases_eq}
 use Rattle.std.proofs.lemmas.Slice.Eq.{bytes_eq-Decides}
 use Rattle.form_urlencoded.specs.Form.{split, onto_first}
 use Rattle.search_calls.specs.declared.pattern.Pattern.{Pattern}
-use Rattle.search_calls.specs.declared.pattern.Pattern.TheVariants.{Health, Indexes, Index, Documents, Document, DeleteBatch, Search}
+use Rattle.search_calls.specs.declared.pattern.Pattern.TheVariants.{Health, Indexes, Index, Documents, Document, DeleteBatch, Settings, Search}
 use Rattle.search_calls.specs.Routes.{Part, text, any_id, health, indexes, index, of_index, of_documents, agrees, is_part, parts_of}
 use Rattle.search_calls.specs.Held.{IsAt, HasNoPlace, in_documents}
 use Rattle.search_calls.specs.Masked.{joined, masked, masked_uid, masked_id, is_batch, pattern_parts, pattern_of, named_place}
@@ -103,6 +103,7 @@ pattern_split Index = refl
 pattern_split Documents = refl
 pattern_split Document = refl
 pattern_split DeleteBatch = refl
+pattern_split Settings = refl
 pattern_split Search = refl
 
 -- ---- the pattern that a text is
@@ -114,6 +115,7 @@ pattern_itself Index = refl
 pattern_itself Documents = refl
 pattern_itself Document = refl
 pattern_itself DeleteBatch = refl
+pattern_itself Settings = refl
 pattern_itself Search = refl
 
 pattern_is : (t : List ℕ) (p : Pattern) → pattern_of t ≡ Some p → t ≡ joined (pattern_parts p)
@@ -123,8 +125,9 @@ pattern_is t p is =
     row (codes "/indexes/_/documents/delete-batch") DeleteBatch refl _ (
     row (codes "/indexes/_/documents") Documents refl _ (
     row (codes "/indexes/_/search") Search refl _ (
+    row (codes "/indexes/_/settings") Settings refl _ (
     row (codes "/indexes/_") Index refl _ (
-    row (codes "/indexes") Indexes refl None (λ e. absurd (cc))))))))
+    row (codes "/indexes") Indexes refl None (λ e. absurd (cc)))))))))
     is
   where
     row : (c : List ℕ) (q : Pattern) → joined (pattern_parts q) ≡ c → (later : Option Pattern) → (later ≡ Some p → t ≡ joined (pattern_parts p))
@@ -235,6 +238,10 @@ is_at method parts DeleteBatch uid id is u i =
     let at = in_documents_at method (codes "delete-batch") (get_or parts 0 []) (get_or parts 1 []) (get_or parts 2 []) (get_or parts 3 []) (get_or parts 4 []) (subst (λ v. In DeleteBatch (masked method v)) shape is) in
     let there = batch_there method (get_or parts 4 []) at.2 in
     (shape ∙ at.0 ∙ rw (u, there.0) refl, rw u at.1, there.1)
+is_at method parts Settings uid id is u i =
+    let shape = four_parts [] parts (has_length method parts Settings is) in
+    let at = of_index_at (codes "settings") (get_or parts 0 []) (get_or parts 1 []) (get_or parts 2 []) (get_or parts 3 []) (subst (λ v. In Settings (masked method v)) shape is) in
+    (shape ∙ rw u at.0, rw u at.1)
 is_at method parts Search uid id is u i =
     let shape = four_parts [] parts (has_length method parts Search is) in
     let at = of_index_at (codes "search") (get_or parts 0 []) (get_or parts 1 []) (get_or parts 2 []) (get_or parts 3 []) (subst (λ v. In Search (masked method v)) shape is) in
@@ -308,7 +315,7 @@ masked_of_documents method q (a ∷ b ∷ u ∷ n ∷ i ∷ j ∷ more) some h =
 -- a path whose masked text is no pattern is no route's
 no_pattern : (method : List ℕ) (parts : List (List ℕ)) → ((p : Pattern) → In p (masked method parts) → ⊥) → HasNoPlace parts
 no_pattern method parts none =
-    rows_of parts false false false false false false false (record {
+    rows_of parts false false false false false false false false (record {
       health = agrees_not health parts (λ h. none Health (masked_top method (codes "health") parts h));
       indexes = agrees_not indexes parts (λ h. none Indexes (masked_top method (codes "indexes") parts h));
       index = agrees_not index parts (λ h. none Index (masked_index method parts h));
@@ -316,6 +323,7 @@ no_pattern method parts none =
       document = agrees_not (of_documents any_id) parts (λ h. ⊎_elim (none Document) (none DeleteBatch) (masked_of_documents method any_id parts (λ i some. some) h));
       batch = agrees_not (of_documents (text (codes "delete-batch"))) parts
           (λ h. ⊎_elim (none Document) (none DeleteBatch) (masked_of_documents method (text (codes "delete-batch")) parts some_batch h));
+      settings = agrees_not (of_index (codes "settings")) parts (λ h. none Settings (masked_of_index method (codes "settings") parts h));
       search = agrees_not (of_index (codes "search")) parts (λ h. none Search (masked_of_index method (codes "search") parts h));
     })
 

@@ -11,7 +11,7 @@ use Rattle.search_calls.specs.declared.refusal.Refusal.TheVariants.{NoRoute}
 use Rattle.search_calls.specs.declared.path.Place.{Place}
 use Rattle.search_calls.specs.declared.path.Place.TheVariants as place
 use Rattle.search_calls.specs.declared.routes.Route.{Route}
-use Rattle.search_calls.specs.declared.routes.Route.TheVariants.{Health, CreateIndex, ListIndexes, ShowIndex, DropIndex, AddDocuments, UpdateDocuments, ListDocuments, ClearDocuments, ShowDocument, RemoveDocument, RemoveDocuments, Search}
+use Rattle.search_calls.specs.declared.routes.Route.TheVariants.{Health, CreateIndex, ListIndexes, ShowIndex, DropIndex, AddDocuments, UpdateDocuments, ListDocuments, ClearDocuments, ShowDocument, RemoveDocument, RemoveDocuments, ShowSettings, PatchSettings, ResetSettings, Search}
 use Rattle.search_calls.specs.Trying.{◌>>=◌}
 use Rattle.search_calls.specs.Laws.{fits}
 use Rattle.search_calls.specs.Routes.{Part, text, any_id, row, routes, health, indexes, index, of_index, of_documents, agrees, is_part, has_path, parts_of, uid_in, id_in, with_method, route_of}
@@ -86,8 +86,8 @@ five_parts d (a ∷ b ∷ u ∷ n ∷ i ∷ j ∷ xs) len = absurd (omega arith)
 
 -- ---- no route
 
-no_path : (parts : List (List ℕ)) → Agreement parts false false false false false false false → HasNoPlace parts
-no_path parts a = rows_of parts false false false false false false false a
+no_path : (parts : List (List ℕ)) → Agreement parts false false false false false false false false → HasNoPlace parts
+no_path parts a = rows_of parts false false false false false false false false a
 
 -- a path of fewer than two parts, or of more than five, is none
 pub no_other : (parts : List (List ℕ)) → (length parts < 2) ⊎ (5 < length parts) → HasNoPlace parts
@@ -98,6 +98,7 @@ no_other parts (inl short) = no_path parts (record {
   documents = other_length (of_index (codes "documents")) parts (λ e. absurd (omega (arith, e, short)));
   document = other_length (of_documents any_id) parts (λ e. absurd (omega (arith, e, short)));
   batch = other_length (of_documents (text (codes "delete-batch"))) parts (λ e. absurd (omega (arith, e, short)));
+  settings = other_length (of_index (codes "settings")) parts (λ e. absurd (omega (arith, e, short)));
   search = other_length (of_index (codes "search")) parts (λ e. absurd (omega (arith, e, short)));
 })
 no_other parts (inr long) = no_path parts (record {
@@ -107,6 +108,7 @@ no_other parts (inr long) = no_path parts (record {
   documents = other_length (of_index (codes "documents")) parts (λ e. absurd (omega (arith, e, long)));
   document = other_length (of_documents any_id) parts (λ e. absurd (omega (arith, e, long)));
   batch = other_length (of_documents (text (codes "delete-batch"))) parts (λ e. absurd (omega (arith, e, long)));
+  settings = other_length (of_index (codes "settings")) parts (λ e. absurd (omega (arith, e, long)));
   search = other_length (of_index (codes "search")) parts (λ e. absurd (omega (arith, e, long)));
 })
 
@@ -121,26 +123,27 @@ health_route : (method : List ℕ) → route_of method ([] ∷ codes "health" �
 health_route method =
     let parts = [] ∷ codes "health" ∷ [] in
     by_rows method [] [] parts health (codes "GET", Health) []
-    (rows_of parts true false false false false false false (record { health = refl; indexes = refl; index = refl; documents = refl; document = refl; batch = refl; search = refl })) refl refl
+    (rows_of parts true false false false false false false false (record { health = refl; indexes = refl; index = refl; documents = refl; document = refl; batch = refl; settings = refl; search = refl })) refl refl
 
 indexes_route : (method : List ℕ) → route_of method ([] ∷ codes "indexes" ∷ []) ≡ outcome (lookup (bytes_eq method) (methods place.Indexes)) [] []
 indexes_route method =
     let parts = [] ∷ codes "indexes" ∷ [] in
     by_rows method [] [] parts indexes (codes "POST", CreateIndex) ((codes "GET", ListIndexes) ∷ [])
-    (rows_of parts false true false false false false false (record { health = refl; indexes = refl; index = refl; documents = refl; document = refl; batch = refl; search = refl })) refl refl
+    (rows_of parts false true false false false false false false (record { health = refl; indexes = refl; index = refl; documents = refl; document = refl; batch = refl; settings = refl; search = refl })) refl refl
 
 index_route : (method u : List ℕ) → 0 < length u
     → route_of method ([] ∷ codes "indexes" ∷ u ∷ []) ≡ outcome (lookup (bytes_eq method) ((codes "GET", ShowIndex) ∷ (codes "DELETE", DropIndex) ∷ [])) u []
 index_route method u some =
     let parts = [] ∷ codes "indexes" ∷ u ∷ [] in
     by_rows method u [] parts index (codes "GET", ShowIndex) ((codes "DELETE", DropIndex) ∷ [])
-    (rows_of parts false false true false false false false (record {
+    (rows_of parts false false true false false false false false (record {
       health = other_length health parts (λ e. absurd (omega (arith, e)));
       indexes = other_length indexes parts (λ e. absurd (omega (arith, e)));
       index = rw (lt_test u some) refl;
       documents = other_length (of_index (codes "documents")) parts (λ e. absurd (omega (arith, e)));
       document = other_length (of_documents any_id) parts (λ e. absurd (omega (arith, e)));
       batch = other_length (of_documents (text (codes "delete-batch"))) parts (λ e. absurd (omega (arith, e)));
+      settings = other_length (of_index (codes "settings")) parts (λ e. absurd (omega (arith, e)));
       search = other_length (of_index (codes "search")) parts (λ e. absurd (omega (arith, e)));
     })) refl refl
 
@@ -150,13 +153,31 @@ documents_route : (method u : List ℕ) → 0 < length u
 documents_route method u some =
     let parts = [] ∷ codes "indexes" ∷ u ∷ codes "documents" ∷ [] in
     by_rows method u [] parts (of_index (codes "documents")) (codes "POST", AddDocuments) ((codes "PUT", UpdateDocuments) ∷ (codes "GET", ListDocuments) ∷ (codes "DELETE", ClearDocuments) ∷ [])
-    (rows_of parts false false false true false false false (record {
+    (rows_of parts false false false true false false false false (record {
       health = other_length health parts (λ e. absurd (omega (arith, e)));
       indexes = other_length indexes parts (λ e. absurd (omega (arith, e)));
       index = other_length index parts (λ e. absurd (omega (arith, e)));
       documents = rw (lt_test u some) refl;
       document = other_length (of_documents any_id) parts (λ e. absurd (omega (arith, e)));
       batch = other_length (of_documents (text (codes "delete-batch"))) parts (λ e. absurd (omega (arith, e)));
+      settings = rw (lt_test u some) refl;
+      search = rw (lt_test u some) refl;
+    })) refl refl
+
+settings_route : (method u : List ℕ) → 0 < length u
+    → route_of method ([] ∷ codes "indexes" ∷ u ∷ codes "settings" ∷ [])
+    ≡ outcome (lookup (bytes_eq method) ((codes "GET", ShowSettings) ∷ (codes "PATCH", PatchSettings) ∷ (codes "DELETE", ResetSettings) ∷ [])) u []
+settings_route method u some =
+    let parts = [] ∷ codes "indexes" ∷ u ∷ codes "settings" ∷ [] in
+    by_rows method u [] parts (of_index (codes "settings")) (codes "GET", ShowSettings) ((codes "PATCH", PatchSettings) ∷ (codes "DELETE", ResetSettings) ∷ [])
+    (rows_of parts false false false false false false true false (record {
+      health = other_length health parts (λ e. absurd (omega (arith, e)));
+      indexes = other_length indexes parts (λ e. absurd (omega (arith, e)));
+      index = other_length index parts (λ e. absurd (omega (arith, e)));
+      documents = rw (lt_test u some) refl;
+      document = other_length (of_documents any_id) parts (λ e. absurd (omega (arith, e)));
+      batch = other_length (of_documents (text (codes "delete-batch"))) parts (λ e. absurd (omega (arith, e)));
+      settings = rw (lt_test u some) refl;
       search = rw (lt_test u some) refl;
     })) refl refl
 
@@ -165,13 +186,14 @@ search_route : (method u : List ℕ) → 0 < length u
 search_route method u some =
     let parts = [] ∷ codes "indexes" ∷ u ∷ codes "search" ∷ [] in
     by_rows method u [] parts (of_index (codes "search")) (codes "POST", Search) []
-    (rows_of parts false false false false false false true (record {
+    (rows_of parts false false false false false false false true (record {
       health = other_length health parts (λ e. absurd (omega (arith, e)));
       indexes = other_length indexes parts (λ e. absurd (omega (arith, e)));
       index = other_length index parts (λ e. absurd (omega (arith, e)));
       documents = rw (lt_test u some) refl;
       document = other_length (of_documents any_id) parts (λ e. absurd (omega (arith, e)));
       batch = other_length (of_documents (text (codes "delete-batch"))) parts (λ e. absurd (omega (arith, e)));
+      settings = rw (lt_test u some) refl;
       search = rw (lt_test u some) refl;
     })) refl refl
 
@@ -180,15 +202,16 @@ and_end true = refl
 and_end false = refl
 
 document_rows : (u i : List ℕ) (w : Bool) → 0 < length u → 0 < length i → bytes_eq i (codes "delete-batch") ≡ w
-    → filter (has_path (in_documents u i)) routes ≡ keep (marked false false false false true w false)
+    → filter (has_path (in_documents u i)) routes ≡ keep (marked false false false false true w false false)
 document_rows u i w some_u some_i is =
-    rows_of (in_documents u i) false false false false true w false (record {
+    rows_of (in_documents u i) false false false false true w false false (record {
       health = other_length health (in_documents u i) (λ e. absurd (omega (arith, e)));
       indexes = other_length indexes (in_documents u i) (λ e. absurd (omega (arith, e)));
       index = other_length index (in_documents u i) (λ e. absurd (omega (arith, e)));
       documents = other_length (of_index (codes "documents")) (in_documents u i) (λ e. absurd (omega (arith, e)));
       document = rw (lt_test u some_u, lt_test i some_i) refl;
       batch = rw (lt_test u some_u) (ap (λ v. v && true) is ∙ and_end w);
+      settings = other_length (of_index (codes "settings")) (in_documents u i) (λ e. absurd (omega (arith, e)));
       search = other_length (of_index (codes "search")) (in_documents u i) (λ e. absurd (omega (arith, e)));
     })
 
@@ -221,6 +244,7 @@ at_place method parts (place.Index uid) (e, some) = ap (route_of method) e ∙ i
 at_place method parts (place.Documents uid) (e, some) = ap (route_of method) e ∙ documents_route method uid.now some
 at_place method parts (place.Document uid id) (e, some, some_id, other) = ap (route_of method) e ∙ document_route method uid.now id.now some some_id other
 at_place method parts (place.DeleteBatch uid) (e, some, post) = rw (post, e) (batch_route uid.now some)
+at_place method parts (place.Settings uid) (e, some) = ap (route_of method) e ∙ settings_route method uid.now some
 at_place method parts (place.Search uid) (e, some) = ap (route_of method) e ∙ search_route method uid.now some
 
 pub at_none : (method : List ℕ) (parts : List (List ℕ)) → HasNoPlace parts → route_of method parts ≡ Err NoRoute
@@ -228,35 +252,39 @@ at_none method parts none = ap (λ rs. with_method method rs >>= found_of parts)
 
 -- ---- the rows of a path have as many methods
 
-alone_h : (h : Bool) → are_distinct (keep (marked h false false false false false false)) ≡ true
+alone_h : (h : Bool) → are_distinct (keep (marked h false false false false false false false)) ≡ true
 alone_h true = refl
 alone_h false = refl
 
-alone_i : (i : Bool) → are_distinct (keep (marked false i false false false false false)) ≡ true
+alone_i : (i : Bool) → are_distinct (keep (marked false i false false false false false false)) ≡ true
 alone_i true = refl
 alone_i false = refl
 
-alone_x : (x : Bool) → are_distinct (keep (marked false false x false false false false)) ≡ true
+alone_x : (x : Bool) → are_distinct (keep (marked false false x false false false false false)) ≡ true
 alone_x true = refl
 alone_x false = refl
 
-alone_d : (d : Bool) → are_distinct (keep (marked false false false d false false false)) ≡ true
+alone_d : (d : Bool) → are_distinct (keep (marked false false false d false false false false)) ≡ true
 alone_d true = refl
 alone_d false = refl
 
-alone_s : (s : Bool) → are_distinct (keep (marked false false false false false false s)) ≡ true
+alone_g : (g : Bool) → are_distinct (keep (marked false false false false false false g false)) ≡ true
+alone_g true = refl
+alone_g false = refl
+
+alone_s : (s : Bool) → are_distinct (keep (marked false false false false false false false s)) ≡ true
 alone_s true = refl
 alone_s false = refl
 
-alone_mb : (m b : Bool) → are_distinct (keep (marked false false false false m b false)) ≡ true
+alone_mb : (m b : Bool) → are_distinct (keep (marked false false false false m b false false)) ≡ true
 alone_mb true true = refl
 alone_mb true false = refl
 alone_mb false true = refl
 alone_mb false false = refl
 
-distinct_of : (parts : List (List ℕ)) (h i x d m b s : Bool) → Agreement parts h i x d m b s → are_distinct (keep (marked h i x d m b s)) ≡ true
+distinct_of : (parts : List (List ℕ)) (h i x d m b g s : Bool) → Agreement parts h i x d m b g s → are_distinct (keep (marked h i x d m b g s)) ≡ true
     → are_distinct (filter (has_path parts) routes) ≡ true
-distinct_of parts h i x d m b s a is = ap are_distinct (rows_of parts h i x d m b s a) ∙ is
+distinct_of parts h i x d m b g s a is = ap are_distinct (rows_of parts h i x d m b g s a) ∙ is
 
 nowhere : (parts : List (List ℕ)) → HasNoPlace parts → are_distinct (filter (has_path parts) routes) ≡ true
 nowhere parts none = ap are_distinct none
@@ -269,70 +297,84 @@ and_false4 false q r = refl
 
 distinct_two : (a b : List ℕ) (w : Bool) → bytes_eq b (codes "health") ≡ w → are_distinct (filter (has_path (a ∷ b ∷ [])) routes) ≡ true
 distinct_two a b true is =
-    distinct_of (a ∷ b ∷ []) (agrees health (a ∷ b ∷ [])) false false false false false false (record {
+    distinct_of (a ∷ b ∷ []) (agrees health (a ∷ b ∷ [])) false false false false false false false (record {
       health = refl;
       indexes = rw (apart b (codes "health") (codes "indexes") refl is) (and-false (bytes_eq a []));
       index = other_length index (a ∷ b ∷ []) (λ e. absurd (omega (arith, e)));
       documents = other_length (of_index (codes "documents")) (a ∷ b ∷ []) (λ e. absurd (omega (arith, e)));
       document = other_length (of_documents any_id) (a ∷ b ∷ []) (λ e. absurd (omega (arith, e)));
       batch = other_length (of_documents (text (codes "delete-batch"))) (a ∷ b ∷ []) (λ e. absurd (omega (arith, e)));
+      settings = other_length (of_index (codes "settings")) (a ∷ b ∷ []) (λ e. absurd (omega (arith, e)));
       search = other_length (of_index (codes "search")) (a ∷ b ∷ []) (λ e. absurd (omega (arith, e)));
     }) (alone_h _)
 distinct_two a b false is =
-    distinct_of (a ∷ b ∷ []) false (agrees indexes (a ∷ b ∷ [])) false false false false false (record {
+    distinct_of (a ∷ b ∷ []) false (agrees indexes (a ∷ b ∷ [])) false false false false false false (record {
       health = rw is (and-false (bytes_eq a []));
       indexes = refl;
       index = other_length index (a ∷ b ∷ []) (λ e. absurd (omega (arith, e)));
       documents = other_length (of_index (codes "documents")) (a ∷ b ∷ []) (λ e. absurd (omega (arith, e)));
       document = other_length (of_documents any_id) (a ∷ b ∷ []) (λ e. absurd (omega (arith, e)));
       batch = other_length (of_documents (text (codes "delete-batch"))) (a ∷ b ∷ []) (λ e. absurd (omega (arith, e)));
+      settings = other_length (of_index (codes "settings")) (a ∷ b ∷ []) (λ e. absurd (omega (arith, e)));
       search = other_length (of_index (codes "search")) (a ∷ b ∷ []) (λ e. absurd (omega (arith, e)));
     }) (alone_i _)
 
 distinct_three : (a b c : List ℕ) → are_distinct (filter (has_path (a ∷ b ∷ c ∷ [])) routes) ≡ true
 distinct_three a b c =
-    distinct_of (a ∷ b ∷ c ∷ []) false false (agrees index (a ∷ b ∷ c ∷ [])) false false false false (record {
+    distinct_of (a ∷ b ∷ c ∷ []) false false (agrees index (a ∷ b ∷ c ∷ [])) false false false false false (record {
       health = other_length health (a ∷ b ∷ c ∷ []) (λ e. absurd (omega (arith, e)));
       indexes = other_length indexes (a ∷ b ∷ c ∷ []) (λ e. absurd (omega (arith, e)));
       index = refl;
       documents = other_length (of_index (codes "documents")) (a ∷ b ∷ c ∷ []) (λ e. absurd (omega (arith, e)));
       document = other_length (of_documents any_id) (a ∷ b ∷ c ∷ []) (λ e. absurd (omega (arith, e)));
       batch = other_length (of_documents (text (codes "delete-batch"))) (a ∷ b ∷ c ∷ []) (λ e. absurd (omega (arith, e)));
+      settings = other_length (of_index (codes "settings")) (a ∷ b ∷ c ∷ []) (λ e. absurd (omega (arith, e)));
       search = other_length (of_index (codes "search")) (a ∷ b ∷ c ∷ []) (λ e. absurd (omega (arith, e)));
     }) (alone_x _)
 
-distinct_four : (a b c n : List ℕ) (w : Bool) → bytes_eq n (codes "documents") ≡ w → are_distinct (filter (has_path (a ∷ b ∷ c ∷ n ∷ [])) routes) ≡ true
-distinct_four a b c n true is =
-    distinct_of (a ∷ b ∷ c ∷ n ∷ []) false false false (agrees (of_index (codes "documents")) (a ∷ b ∷ c ∷ n ∷ [])) false false false (record {
+-- of the paths of four parts the last part decides
+of_last : (a b c n last : List ℕ) → bytes_eq n last ≡ false → agrees (of_index last) (a ∷ b ∷ c ∷ n ∷ []) ≡ false
+of_last a b c n last other = rw other (and_false4 (bytes_eq a []) (bytes_eq b (codes "indexes")) (nat_lt 0 (length c)))
+
+distinct_four_of : (a b c n : List ℕ) (d g s : Bool) → agrees (of_index (codes "documents")) (a ∷ b ∷ c ∷ n ∷ []) ≡ d
+    → agrees (of_index (codes "settings")) (a ∷ b ∷ c ∷ n ∷ []) ≡ g → agrees (of_index (codes "search")) (a ∷ b ∷ c ∷ n ∷ []) ≡ s
+    → are_distinct (keep (marked false false false d false false g s)) ≡ true → are_distinct (filter (has_path (a ∷ b ∷ c ∷ n ∷ [])) routes) ≡ true
+distinct_four_of a b c n d g s documents_is settings_is search_is =
+    distinct_of (a ∷ b ∷ c ∷ n ∷ []) false false false d false false g s (record {
       health = other_length health (a ∷ b ∷ c ∷ n ∷ []) (λ e. absurd (omega (arith, e)));
       indexes = other_length indexes (a ∷ b ∷ c ∷ n ∷ []) (λ e. absurd (omega (arith, e)));
       index = other_length index (a ∷ b ∷ c ∷ n ∷ []) (λ e. absurd (omega (arith, e)));
-      documents = refl;
+      documents = documents_is;
       document = other_length (of_documents any_id) (a ∷ b ∷ c ∷ n ∷ []) (λ e. absurd (omega (arith, e)));
       batch = other_length (of_documents (text (codes "delete-batch"))) (a ∷ b ∷ c ∷ n ∷ []) (λ e. absurd (omega (arith, e)));
-      search = rw (apart n (codes "documents") (codes "search") refl is) (and_false4 (bytes_eq a []) (bytes_eq b (codes "indexes")) (nat_lt 0 (length c)));
-    }) (alone_d _)
-distinct_four a b c n false is =
-    distinct_of (a ∷ b ∷ c ∷ n ∷ []) false false false false false false (agrees (of_index (codes "search")) (a ∷ b ∷ c ∷ n ∷ [])) (record {
-      health = other_length health (a ∷ b ∷ c ∷ n ∷ []) (λ e. absurd (omega (arith, e)));
-      indexes = other_length indexes (a ∷ b ∷ c ∷ n ∷ []) (λ e. absurd (omega (arith, e)));
-      index = other_length index (a ∷ b ∷ c ∷ n ∷ []) (λ e. absurd (omega (arith, e)));
-      documents = rw is (and_false4 (bytes_eq a []) (bytes_eq b (codes "indexes")) (nat_lt 0 (length c)));
-      document = other_length (of_documents any_id) (a ∷ b ∷ c ∷ n ∷ []) (λ e. absurd (omega (arith, e)));
-      batch = other_length (of_documents (text (codes "delete-batch"))) (a ∷ b ∷ c ∷ n ∷ []) (λ e. absurd (omega (arith, e)));
-      search = refl;
-    }) (alone_s _)
+      settings = settings_is;
+      search = search_is;
+    })
+
+distinct_four : (a b c n : List ℕ) (v w : Bool) → bytes_eq n (codes "documents") ≡ v → bytes_eq n (codes "settings") ≡ w
+    → are_distinct (filter (has_path (a ∷ b ∷ c ∷ n ∷ [])) routes) ≡ true
+distinct_four a b c n true w is settings_is =
+    distinct_four_of a b c n (agrees (of_index (codes "documents")) (a ∷ b ∷ c ∷ n ∷ [])) false false refl
+    (of_last a b c n (codes "settings") (apart n (codes "documents") (codes "settings") refl is))
+    (of_last a b c n (codes "search") (apart n (codes "documents") (codes "search") refl is)) (alone_d _)
+distinct_four a b c n false true is settings_is =
+    distinct_four_of a b c n false (agrees (of_index (codes "settings")) (a ∷ b ∷ c ∷ n ∷ [])) false (of_last a b c n (codes "documents") is) refl
+    (of_last a b c n (codes "search") (apart n (codes "settings") (codes "search") refl settings_is)) (alone_g _)
+distinct_four a b c n false false is settings_is =
+    distinct_four_of a b c n false false (agrees (of_index (codes "search")) (a ∷ b ∷ c ∷ n ∷ [])) (of_last a b c n (codes "documents") is)
+    (of_last a b c n (codes "settings") settings_is) refl (alone_s _)
 
 distinct_five : (a b c n i : List ℕ) → are_distinct (filter (has_path (a ∷ b ∷ c ∷ n ∷ i ∷ [])) routes) ≡ true
 distinct_five a b c n i =
     distinct_of (a ∷ b ∷ c ∷ n ∷ i ∷ []) false false false false (agrees (of_documents any_id) (a ∷ b ∷ c ∷ n ∷ i ∷ []))
-    (agrees (of_documents (text (codes "delete-batch"))) (a ∷ b ∷ c ∷ n ∷ i ∷ [])) false (record {
+    (agrees (of_documents (text (codes "delete-batch"))) (a ∷ b ∷ c ∷ n ∷ i ∷ [])) false false (record {
       health = other_length health (a ∷ b ∷ c ∷ n ∷ i ∷ []) (λ e. absurd (omega (arith, e)));
       indexes = other_length indexes (a ∷ b ∷ c ∷ n ∷ i ∷ []) (λ e. absurd (omega (arith, e)));
       index = other_length index (a ∷ b ∷ c ∷ n ∷ i ∷ []) (λ e. absurd (omega (arith, e)));
       documents = other_length (of_index (codes "documents")) (a ∷ b ∷ c ∷ n ∷ i ∷ []) (λ e. absurd (omega (arith, e)));
       document = refl;
       batch = refl;
+      settings = other_length (of_index (codes "settings")) (a ∷ b ∷ c ∷ n ∷ i ∷ []) (λ e. absurd (omega (arith, e)));
       search = other_length (of_index (codes "search")) (a ∷ b ∷ c ∷ n ∷ i ∷ []) (λ e. absurd (omega (arith, e)));
     }) (alone_mb _ _)
 
@@ -341,7 +383,7 @@ distinct_rows [] = nowhere [] (no_other [] (inl (omega arith)))
 distinct_rows (a ∷ []) = nowhere (a ∷ []) (no_other (a ∷ []) (inl (omega arith)))
 distinct_rows (a ∷ b ∷ []) = distinct_two a b (bytes_eq b (codes "health")) refl
 distinct_rows (a ∷ b ∷ c ∷ []) = distinct_three a b c
-distinct_rows (a ∷ b ∷ c ∷ n ∷ []) = distinct_four a b c n (bytes_eq n (codes "documents")) refl
+distinct_rows (a ∷ b ∷ c ∷ n ∷ []) = distinct_four a b c n (bytes_eq n (codes "documents")) (bytes_eq n (codes "settings")) refl refl
 distinct_rows (a ∷ b ∷ c ∷ n ∷ i ∷ []) = distinct_five a b c n i
 distinct_rows (a ∷ b ∷ c ∷ n ∷ i ∷ j ∷ more) = nowhere (a ∷ b ∷ c ∷ n ∷ i ∷ j ∷ more) (no_other (a ∷ b ∷ c ∷ n ∷ i ∷ j ∷ more) (inr (omega arith)))
 

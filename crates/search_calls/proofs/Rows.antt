@@ -9,7 +9,7 @@ use Rattle.std.proofs.lemmas.Bool.{true≢false}
 use Rattle.search_calls.specs.declared.refusal.Refusal.{Refusal}
 use Rattle.search_calls.specs.declared.refusal.Refusal.TheVariants.{MethodNotAllowed}
 use Rattle.search_calls.specs.declared.routes.Route.{Route}
-use Rattle.search_calls.specs.declared.routes.Route.TheVariants.{Health, CreateIndex, ListIndexes, ShowIndex, DropIndex, AddDocuments, UpdateDocuments, ListDocuments, ClearDocuments, ShowDocument, RemoveDocument, RemoveDocuments, Search}
+use Rattle.search_calls.specs.declared.routes.Route.TheVariants.{Health, CreateIndex, ListIndexes, ShowIndex, DropIndex, AddDocuments, UpdateDocuments, ListDocuments, ClearDocuments, ShowDocument, RemoveDocument, RemoveDocuments, ShowSettings, PatchSettings, ResetSettings, Search}
 use Rattle.search_calls.specs.Trying.{◌>>=◌, or_refuse}
 use Rattle.search_calls.specs.Routes.{Part, text, any_id, Row, row, routes, health, indexes, index, of_index, of_documents, agrees, has_path, uid_in, id_in, Found}
 
@@ -29,18 +29,19 @@ filter_keep f (r ∷ rs) =
       | false ↦ filter_keep f rs
     ]
 
--- which paths of the table agree with a path: health, indexes, index, documents, document, delete-batch, search
-pub record Agreement (parts : List (List ℕ)) (h i x d m b s : Bool) : Type 0 where
+-- which paths of the table agree with a path: health, indexes, index, documents, document, delete-batch, settings, search
+pub record Agreement (parts : List (List ℕ)) (h i x d m b g s : Bool) : Type 0 where
   pub health : agrees health parts ≡ h
   pub indexes : agrees indexes parts ≡ i
   pub index : agrees index parts ≡ x
   pub documents : agrees (of_index (codes "documents")) parts ≡ d
   pub document : agrees (of_documents any_id) parts ≡ m
   pub batch : agrees (of_documents (text (codes "delete-batch"))) parts ≡ b
+  pub settings : agrees (of_index (codes "settings")) parts ≡ g
   pub search : agrees (of_index (codes "search")) parts ≡ s
 
-abbrev pub marked : (h i x d m b s : Bool) → List (Bool × Row)
-marked h i x d m b s =
+abbrev pub marked : (h i x d m b g s : Bool) → List (Bool × Row)
+marked h i x d m b g s =
     (h, row (codes "GET") health Health)
     ∷ (i, row (codes "POST") indexes CreateIndex)
     ∷ (i, row (codes "GET") indexes ListIndexes)
@@ -53,13 +54,16 @@ marked h i x d m b s =
     ∷ (m, row (codes "GET") (of_documents any_id) ShowDocument)
     ∷ (m, row (codes "DELETE") (of_documents any_id) RemoveDocument)
     ∷ (b, row (codes "POST") (of_documents (text (codes "delete-batch"))) RemoveDocuments)
+    ∷ (g, row (codes "GET") (of_index (codes "settings")) ShowSettings)
+    ∷ (g, row (codes "PATCH") (of_index (codes "settings")) PatchSettings)
+    ∷ (g, row (codes "DELETE") (of_index (codes "settings")) ResetSettings)
     ∷ (s, row (codes "POST") (of_index (codes "search")) Search)
     ∷ []
 
-pub rows_of : (parts : List (List ℕ)) (h i x d m b s : Bool) → Agreement parts h i x d m b s → filter (has_path parts) routes ≡ keep (marked h i x d m b s)
-rows_of parts h i x d m b s a =
-    let marks : map (λ r. (has_path parts r, r)) routes ≡ marked h i x d m b s =
-    rw (sym a.health, sym a.indexes, sym a.index, sym a.documents, sym a.document, sym a.batch, sym a.search) refl in
+pub rows_of : (parts : List (List ℕ)) (h i x d m b g s : Bool) → Agreement parts h i x d m b g s → filter (has_path parts) routes ≡ keep (marked h i x d m b g s)
+rows_of parts h i x d m b g s a =
+    let marks : map (λ r. (has_path parts r, r)) routes ≡ marked h i x d m b g s =
+    rw (sym a.health, sym a.indexes, sym a.index, sym a.documents, sym a.document, sym a.batch, sym a.settings, sym a.search) refl in
     filter_keep (has_path parts) routes ∙ ap keep marks
 
 -- ---- the row of a method

@@ -1,5 +1,5 @@
--- What is searched for has no quotes.
-use Rattle.std.proofs.Common.{◌≡◌, ℕ, List, true, false, Bool, Option, Some, None, Result, Ok, Err, cond, codes, refl, sym, subst}
+-- What is searched for has no quotes, and a patch no fault.
+use Rattle.std.proofs.Common.{◌≡◌, ℕ, List, true, false, Bool, Option, Some, None, Result, Ok, Err, cond, codes, option_map, refl, sym, subst}
 use Rattle.std.specs.Ordering.{nat_cmp, match_ordering}
 use Rattle.std.specs.declared.cmp.Ordering.{Ordering}
 use Rattle.std.specs.declared.cmp.Ordering.TheVariants.{Less, Equal, Greater}
@@ -8,18 +8,19 @@ use Rattle.std.proofs.lemmas.Map.Lookups.{exact_bytes}
 use Rattle.std.proofs.lemmas.Bool.{true≢false}
 use Rattle.serde_json.specs.Data.{Data, null, boolean, number, string, array, object, Members, no_members, member}
 use Rattle.serde_json.specs.Find.{get_member}
+use Rattle.index_settings.specs.declared.fault.SettingsFault.{SettingsFault}
+use Rattle.index_settings.specs.Table.{patch_fault}
 use Rattle.http_wire.specs.Stream.{Request}
 use Rattle.search_calls.specs.declared.refusal.Refusal.{Refusal}
 use Rattle.search_calls.specs.declared.refusal.Refusal.TheVariants.{NotBuilt}
-use Rattle.search_calls.specs.declared.call.SearchCall.{SearchCall}
 use Rattle.search_calls.specs.declared.routes.Route.{Route}
-use Rattle.search_calls.specs.declared.routes.Route.TheVariants.{Health, CreateIndex, ListIndexes, ShowIndex, DropIndex, AddDocuments, UpdateDocuments, ListDocuments, ClearDocuments, ShowDocument, RemoveDocument, RemoveDocuments, Search}
+use Rattle.search_calls.specs.declared.routes.Route.TheVariants.{Health, CreateIndex, ListIndexes, ShowIndex, DropIndex, AddDocuments, UpdateDocuments, ListDocuments, ClearDocuments, ShowDocument, RemoveDocument, RemoveDocuments, ShowSettings, PatchSettings, ResetSettings, Search}
 use Rattle.search_calls.specs.Trying.{◌>>=◌, ◌>>◌, first_of}
-use Rattle.search_calls.specs.Asked.{CallData, write, read}
+use Rattle.search_calls.specs.Asked.{SearchData, CallData, write, read}
 use Rattle.search_calls.specs.Routes.{path_of, query_of, parts_of, route_of, uid_fault}
 use Rattle.search_calls.specs.Query.{Pair, query_for}
-use Rattle.search_calls.specs.Bodies.{index_in, documents_in, ids_in, object_in, members_of, members_fault, member_fault, is_query_or_null, is_unquoted, as_text, text_or_none, text_or_empty, text_at, search_in, search_from, search_from_members, search_of}
-use Rattle.search_calls.specs.Calls.{call_at, call_of, IsUnquotedRead}
+use Rattle.search_calls.specs.Bodies.{index_in, documents_in, ids_in, patch_in, patch_from, json_in, settings_refusal, object_in, members_of, members_fault, member_fault, is_query_or_null, is_unquoted, as_text, text_or_none, text_or_empty, text_at, search_in, search_from, search_from_members, search_of}
+use Rattle.search_calls.specs.Calls.{call_at, call_of, IsUnquotedRead, IsAcceptedKind}
 
 -- ---- the member `q`
 
@@ -57,11 +58,11 @@ members_unquoted (member name d ms) h =
 
 -- ---- the search
 
-abbrev IsPlain : Result SearchCall Refusal → Type 0
+abbrev IsPlain : Result SearchData Refusal → Type 0
 IsPlain (Ok call) = is_unquoted call.q ≡ true
 IsPlain (Err r) = Unit {0}
 
-plain_bind : {A : Type 0} (r : Result A Refusal) (f : A → Result SearchCall Refusal) → ((x : A) → IsPlain (f x)) → IsPlain (r >>= f)
+plain_bind : {A : Type 0} (r : Result A Refusal) (f : A → Result SearchData Refusal) → ((x : A) → IsPlain (f x)) → IsPlain (r >>= f)
 plain_bind (Ok x) f h = h x
 plain_bind (Err e) f h = tt
 
@@ -75,10 +76,27 @@ plain_members ms = go (members_fault ms) refl
 plain_search : (body : List ℕ) → IsPlain (search_of body)
 plain_search body = plain_bind (object_in body) search_from (λ d. plain_bind (members_of d) search_from_members plain_members)
 
+-- ---- the patch
+
+abbrev HasNoFault : Result Data Refusal → Type 0
+HasNoFault (Ok d) = patch_fault d ≡ None
+HasNoFault (Err r) = Unit {0}
+
+accepted_from : (d : Data) → HasNoFault (patch_from d)
+accepted_from d = go (patch_fault d) refl
+  where
+    go : (o : Option SettingsFault) → patch_fault d ≡ o → HasNoFault (option_map settings_refusal o >> Ok d)
+    go None is = is
+    go (Some fault) is = tt
+
+accepted_bind : (r : Result Data Refusal) → HasNoFault (r >>= patch_from)
+accepted_bind (Ok d) = accepted_from d
+accepted_bind (Err e) = tt
+
 -- ---- the call
 
 abbrev IsPlainCall : Result CallData Refusal → Type 0
-IsPlainCall (Ok (write change)) = Unit {0}
+IsPlainCall (Ok (write change)) = IsAcceptedKind change.kind
 IsPlainCall (Ok (read call)) = IsUnquotedRead call
 IsPlainCall (Err r) = Unit {0}
 
@@ -86,9 +104,13 @@ call_bind : {A : Type 0} (r : Result A Refusal) (f : A → Result CallData Refus
 call_bind (Ok x) f h = h x
 call_bind (Err e) f h = tt
 
-search_bind : (r : Result SearchCall Refusal) (f : SearchCall → Result CallData Refusal) → ((c : SearchCall) → is_unquoted c.q ≡ true → IsPlainCall (f c)) → IsPlain r → IsPlainCall (r >>= f)
+search_bind : (r : Result SearchData Refusal) (f : SearchData → Result CallData Refusal) → ((c : SearchData) → is_unquoted c.q ≡ true → IsPlainCall (f c)) → IsPlain r → IsPlainCall (r >>= f)
 search_bind (Ok c) f h plain = h c plain
 search_bind (Err e) f h plain = tt
+
+patch_bind : (r : Result Data Refusal) (f : Data → Result CallData Refusal) → ((d : Data) → patch_fault d ≡ None → IsPlainCall (f d)) → HasNoFault r → IsPlainCall (r >>= f)
+patch_bind (Ok d) f h accepted = h d accepted
+patch_bind (Err e) f h accepted = tt
 
 plain_at : (route : Route) (uid id : List ℕ) (query : List Pair) (body : List ℕ) → IsPlainCall (call_at route uid id query body)
 plain_at Health uid id query body = tt
@@ -103,6 +125,9 @@ plain_at ClearDocuments uid id query body = tt
 plain_at ShowDocument uid id query body = tt
 plain_at RemoveDocument uid id query body = tt
 plain_at RemoveDocuments uid id query body = call_bind (ids_in body) _ (λ ids. tt)
+plain_at ShowSettings uid id query body = tt
+plain_at PatchSettings uid id query body = patch_bind (patch_in body) _ (λ members accepted. accepted) (accepted_bind (json_in body))
+plain_at ResetSettings uid id query body = tt
 plain_at Search uid id query body = search_bind (search_of body) _ (λ call plain. plain) (plain_search body)
 
 plain_call : (q : Request) → IsPlainCall (call_of q)

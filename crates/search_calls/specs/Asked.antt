@@ -5,15 +5,26 @@ use Rattle.search_calls.specs.declared.call.SearchCall.{SearchCall}
 use Rattle.search_calls.specs.declared.call.ReadCall.{ReadCall}
 use Rattle.search_calls.specs.declared.call.ReadCall.TheVariants as called
 
+-- the text that is searched for, the place of the first hit and the most hits, and the names of the members that hits show
+pub record SearchData : Type 0 where
+  pub q : List ℕ
+  pub offset : ℕ
+  pub limit : ℕ
+  pub retrieve : List (List ℕ)
+
+abbrev pub search_view : SearchCall → SearchData
+search_view call = record { q = call.q; offset = call.offset; limit = call.limit; retrieve = call.retrieve.items }
+
 -- what is read: the health, the indexes from a place on, an index, its documents from a place on, one of its documents
--- (each with the names of the members that are shown), and the hits of a search
+-- (each with the names of the members that are shown), its settings, and the hits of a search
 pub data ReadData : Type 0 where
   health : ReadData
   indexes : ℕ → ℕ → ReadData
   index : List ℕ → ReadData
   documents : List ℕ → ℕ → ℕ → List (List ℕ) → ReadData
   document : List ℕ → List ℕ → List (List ℕ) → ReadData
-  search : List ℕ → SearchCall → ReadData
+  settings : List ℕ → ReadData
+  search : List ℕ → SearchData → ReadData
 
 abbrev pub read_view : ReadCall → ReadData
 read_view called.Health = health
@@ -21,7 +32,8 @@ read_view (called.Indexes offset limit) = indexes offset limit
 read_view (called.Index uid) = index uid
 read_view (called.Documents uid offset limit fields) = documents uid offset limit fields.items
 read_view (called.Document uid id fields) = document uid id fields.items
-read_view (called.Search uid call) = search uid call
+read_view (called.Settings uid) = settings uid
+read_view (called.Search uid call) = search uid (search_view call)
 
 -- a change, or a read
 pub data CallData : Type 0 where

@@ -1,20 +1,24 @@
 -- The bodies of requests.
-use Rattle.std.specs.Prelude.{ℕ, ◌+◌, List, [], ◌∷◌, length, nat_lt, ◌==◌, not, Bool, true, false, codes, Option, Some, None, Result, Ok, Err, if◌then◌else◌}
+use Rattle.std.specs.Prelude.{ℕ, ◌+◌, List, [], ◌∷◌, length, nat_lt, ◌==◌, not, ◌||◌, Bool, true, false, codes, Option, Some, None, option_map, Result, Ok, Err, if◌then◌else◌}
 use Rattle.std.specs.List.{list_any}
 use Rattle.std.specs.Map.{lookup}
 use Rattle.std.specs.Str.{bytes_eq, is_utf8}
 use Rattle.serde_json.specs.Data.{Num, unsigned, negative, float, Data, null, boolean, number, string, array, object, Items, no_items, item, Members, no_members, member}
 use Rattle.serde_json.specs.Read.{read}
 use Rattle.serde_json.specs.Find.{get_member}
+use Rattle.index_settings.specs.declared.fault.SettingsFault.{SettingsFault}
+use Rattle.index_settings.specs.declared.fault.SettingsFault.TheVariants as settings
+use Rattle.index_settings.specs.Table.{patch_fault}
+use Rattle.index_settings.specs.Values.{is_null, are_texts, texts_in}
 use Rattle.doc_values.specs.Bodies as doc
 use Rattle.doc_values.specs.Ids as ids
 use Rattle.doc_values.specs.declared.bodies.BodyFault.{BodyFault}
 use Rattle.doc_values.specs.declared.bodies.BodyFault.TheVariants as body
 use Rattle.search_calls.specs.declared.refusal.Refusal.{Refusal}
-use Rattle.search_calls.specs.declared.refusal.Refusal.TheVariants.{InvalidUid, Unknown, NotBuilt, NotJson, NotList, NotObject, NumberNotWhole, BadListedId, MissingUid}
+use Rattle.search_calls.specs.declared.refusal.Refusal.TheVariants.{InvalidUid, Unknown, NotBuilt, NotJson, NotList, NotObject, NumberNotWhole, BadListedId, MissingUid, BadSettings, BadRankingRule}
 use Rattle.search_calls.specs.declared.search.Member.{Member}
-use Rattle.search_calls.specs.declared.search.Member.TheVariants.{Query, Count, Later}
-use Rattle.search_calls.specs.declared.call.SearchCall.{SearchCall}
+use Rattle.search_calls.specs.declared.search.Member.TheVariants.{Query, Count, Names, Later}
+use Rattle.search_calls.specs.Asked.{SearchData}
 use Rattle.search_calls.specs.Trying.{◌>>=◌, ◌>>◌, first_of, or_refuse}
 use Rattle.search_calls.specs.Routes.{is_uid}
 
@@ -127,6 +131,28 @@ ids_of (object ms) = Err NotList
 abbrev pub ids_in : List ℕ → Result (List (List ℕ)) Refusal
 ids_in body = json_in body >>= ids_of
 
+-- ---- a patch of settings
+
+-- Why a patch is refused, by its fault, which names no member where the patch is no object. (Want of memory is no fault
+-- of a patch, and never comes from its definition.)
+abbrev pub settings_refusal : SettingsFault → Refusal
+settings_refusal (settings.UnknownMember name) = Unknown name
+settings_refusal (settings.WrongShape []) = Unknown (codes "body")
+settings_refusal (settings.WrongShape (b ∷ bytes)) = BadSettings (b ∷ bytes)
+settings_refusal (settings.BadRankingRule text) = BadRankingRule text
+settings_refusal (settings.NotBuilt name) = NotBuilt name
+settings_refusal settings.NoMemory = Unknown (codes "body")
+
+abbrev pub patch_refusal : Data → Option Refusal
+patch_refusal d = option_map settings_refusal (patch_fault d)
+
+abbrev pub patch_from : Data → Result Data Refusal
+patch_from d = patch_refusal d >> Ok d
+
+-- the patch that a body is
+abbrev pub patch_in : List ℕ → Result Data Refusal
+patch_in body = json_in body >>= patch_from
+
 -- ---- searches
 
 -- no byte of it is `"`
@@ -156,6 +182,10 @@ is_count_or_null (string s) = false
 is_count_or_null (array ds) = false
 is_count_or_null (object ms) = false
 
+-- a list of texts, or null
+abbrev pub are_texts_or_null : Data → Bool
+are_texts_or_null d = is_null d || are_texts d
+
 -- the members of a search, and what each is
 abbrev pub search_members : List (List ℕ × Member)
 search_members =
@@ -167,7 +197,7 @@ search_members =
     ∷ (codes "filter", Later)
     ∷ (codes "facets", Later)
     ∷ (codes "sort", Later)
-    ∷ (codes "attributesToRetrieve", Later)
+    ∷ (codes "attributesToRetrieve", Names)
     ∷ (codes "matchingStrategy", Later)
     ∷ (codes "showCosts", Later)
     ∷ (codes "attributesToHighlight", Later)
@@ -187,6 +217,7 @@ member_named name = lookup (bytes_eq name) search_members
 abbrev pub is_built : Member → Data → Bool
 is_built Query d = is_query_or_null d
 is_built Count d = is_count_or_null d
+is_built Names d = are_texts_or_null d
 is_built Later d = false
 
 abbrev pub fault_at : List ℕ → Data → Option Member → Option Refusal
@@ -222,18 +253,24 @@ abbrev pub text_or_empty : Option (List ℕ) → List ℕ
 text_or_empty None = []
 text_or_empty (Some text) = text
 
+-- the names that a list has: `*`, which stands for all, where none is given
+abbrev pub names_or_all : Option Data → List (List ℕ)
+names_or_all None = codes "*" ∷ []
+names_or_all (Some d) = if is_null d then codes "*" ∷ [] else texts_in d
+
 -- the search that members ask for, with the defaults of those that are not given
-abbrev pub search_in : Members → SearchCall
+abbrev pub search_in : Members → SearchData
 search_in ms = record {
   q = text_or_empty (text_at (codes "q") ms);
   offset = count_or 0 (get_member (codes "offset") ms);
   limit = count_or 20 (get_member (codes "limit") ms);
+  retrieve = names_or_all (get_member (codes "attributesToRetrieve") ms);
 }
 
-abbrev pub search_from_members : Members → Result SearchCall Refusal
+abbrev pub search_from_members : Members → Result SearchData Refusal
 search_from_members ms = members_fault ms >> Ok (search_in ms)
 
-abbrev pub search_from : Data → Result SearchCall Refusal
+abbrev pub search_from : Data → Result SearchData Refusal
 search_from d = members_of d >>= search_from_members
 
 -- an empty body counts as an object with no members
@@ -242,5 +279,5 @@ object_in [] = Ok (object no_members)
 object_in (b ∷ bytes) = json_in (b ∷ bytes)
 
 -- the search that a body asks for
-abbrev pub search_of : List ℕ → Result SearchCall Refusal
+abbrev pub search_of : List ℕ → Result SearchData Refusal
 search_of body = object_in body >>= search_from

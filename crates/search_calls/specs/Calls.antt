@@ -1,18 +1,19 @@
 -- The call that a request is, or why it is none: its first fault in the order in which it is tried.
-use Rattle.std.specs.Prelude.{◌≡◌, ℕ, List, [], ◌∷◌, codes, true, Result, Ok, Err}
-use Rattle.doc_values.specs.Changes.{change_view, create, drop_index, replace, update, remove, clear}
+use Rattle.std.specs.Prelude.{◌≡◌, ℕ, List, [], ◌∷◌, codes, true, None, Result, Ok, Err}
+use Rattle.index_settings.specs.Table.{patch_fault}
+use Rattle.doc_values.specs.Changes.{KindData, kind_view, change_view, create, drop_index, replace, update, remove, clear, patch, reset}
 use Rattle.http_wire.specs.Stream.{Request}
 use Rattle.http_wire.specs.Sent.{IsSentAs}
 use Rattle.search_calls.specs.declared.refusal.Refusal.{Refusal}
 use Rattle.search_calls.specs.declared.routes.Route.{Route}
-use Rattle.search_calls.specs.declared.routes.Route.TheVariants.{Health, CreateIndex, ListIndexes, ShowIndex, DropIndex, AddDocuments, UpdateDocuments, ListDocuments, ClearDocuments, ShowDocument, RemoveDocument, RemoveDocuments, Search}
+use Rattle.search_calls.specs.declared.routes.Route.TheVariants.{Health, CreateIndex, ListIndexes, ShowIndex, DropIndex, AddDocuments, UpdateDocuments, ListDocuments, ClearDocuments, ShowDocument, RemoveDocument, RemoveDocuments, ShowSettings, PatchSettings, ResetSettings, Search}
 use Rattle.search_calls.specs.declared.call.Call.{Call}
 use Rattle.search_calls.specs.declared.call.Call.TheVariants as call
 use Rattle.search_calls.specs.Trying.{◌>>=◌, ◌>>◌}
 use Rattle.search_calls.specs.Refusals.{refused}
 use Rattle.search_calls.specs.Routes.{path_of, query_of, parts_of, route_of, uid_fault}
 use Rattle.search_calls.specs.Query.{Pair, query_for, value_of, count_in, fields_in}
-use Rattle.search_calls.specs.Bodies.{index_in, documents_in, ids_in, search_of, is_unquoted}
+use Rattle.search_calls.specs.Bodies.{index_in, documents_in, ids_in, patch_in, search_of, is_unquoted}
 use Rattle.search_calls.specs.Asked.{ReadData, CallData, write, read, read_view}
 use Rattle.search_calls.specs.Asked as asked
 
@@ -39,6 +40,11 @@ call_at RemoveDocument uid id query body = Ok (write (record { uid = uid; kind =
 call_at RemoveDocuments uid id query body = do
   ids ← ids_in body
   Ok (write (record { uid = uid; kind = remove ids }))
+call_at ShowSettings uid id query body = Ok (read (asked.settings uid))
+call_at PatchSettings uid id query body = do
+  members ← patch_in body
+  Ok (write (record { uid = uid; kind = patch members }))
+call_at ResetSettings uid id query body = Ok (write (record { uid = uid; kind = reset }))
 call_at Search uid id query body = do
   search ← search_of body
   Ok (read (asked.search uid search))
@@ -63,7 +69,24 @@ IsUnquotedRead (asked.indexes offset limit) = Unit {0}
 IsUnquotedRead (asked.index uid) = Unit {0}
 IsUnquotedRead (asked.documents uid offset limit fields) = Unit {0}
 IsUnquotedRead (asked.document uid id fields) = Unit {0}
+IsUnquotedRead (asked.settings uid) = Unit {0}
 IsUnquotedRead (asked.search uid call) = is_unquoted call.q ≡ true
+
+-- a patch has no fault
+abbrev pub IsAcceptedKind : KindData → Type 0
+IsAcceptedKind (create key) = Unit {0}
+IsAcceptedKind drop_index = Unit {0}
+IsAcceptedKind (replace key documents) = Unit {0}
+IsAcceptedKind (update key documents) = Unit {0}
+IsAcceptedKind (remove ids) = Unit {0}
+IsAcceptedKind clear = Unit {0}
+IsAcceptedKind (patch members) = patch_fault members ≡ None
+IsAcceptedKind reset = Unit {0}
+
+abbrev pub IsAccepted : Call → Type 0
+IsAccepted (call.Refused reply) = Unit {0}
+IsAccepted (call.Write change) = IsAcceptedKind (kind_view change.kind)
+IsAccepted (call.Read c) = Unit {0}
 
 abbrev pub IsUnquoted : Call → Type 0
 IsUnquoted (call.Refused reply) = Unit {0}

@@ -14,6 +14,11 @@ abbrev pub Gives : {X Y : Type 0} → (X → Y) → Result X Fault → Result Y 
 Gives view (Ok x) defined = defined ≡ Ok (view x)
 Gives view (Err fault) defined = Fails fault defined
 
+-- it is this fault, or want of memory
+abbrev pub Turns : Fault → Fault → Type 0
+Turns why NoMemory = Unit {0}
+Turns why (Refused refusal) = why ≡ Refused refusal
+
 -- the same where no memory is taken
 abbrev pub Tells : {X Y : Type 0} → (X → Y) → Result X Refusal → Result Y Refusal → Type 0
 Tells view (Ok x) defined = defined ≡ Ok (view x)

@@ -11,7 +11,12 @@ use Rattle.search_calls.specs.Asked.{CallData, write, read, read_view}
 use Rattle.search_calls.specs.declared.path.Place.{Place}
 use Rattle.search_calls.specs.declared.path.Place.TheVariants as place
 use Rattle.search_calls.specs.declared.routes.Route.{Route}
-use Rattle.search_calls.specs.declared.routes.Route.TheVariants.{Health, CreateIndex, ListIndexes, ShowIndex, DropIndex, AddDocuments, UpdateDocuments, ListDocuments, ClearDocuments, ShowDocument, RemoveDocument, RemoveDocuments, Search}
+use Rattle.search_calls.specs.declared.routes.Route.TheVariants.{Health, CreateIndex, ListIndexes, ShowIndex, DropIndex, AddDocuments, UpdateDocuments, ListDocuments, ClearDocuments, ShowDocument, RemoveDocument, RemoveDocuments, ShowSettings, PatchSettings, ResetSettings, Search}
+use Rattle.index_settings.specs.declared.fault.SettingsFault.{SettingsFault}
+use Rattle.index_settings.specs.declared.fault.SettingsFault.TheVariants as settings
+use Rattle.search_calls.specs.declared.refusal.Fault.{Fault}
+use Rattle.search_calls.specs.declared.refusal.Fault.TheVariants.{Refused, NoMemory}
+use Rattle.search_calls.specs.Bodies.{settings_refusal}
 use Rattle.search_calls.specs.Routes.{Found, has_path, routes}
 use Rattle.search_calls.specs.Query.{Pair}
 
@@ -27,6 +32,14 @@ call_data (asked.Read call) = read (read_view call)
 
 abbrev pub new_index : HeldIndex → List ℕ × Option (List ℕ)
 new_index held = (held.uid, held.key)
+
+-- a patch's fault, as that of its request
+abbrev pub settings_fault_of : SettingsFault → Fault
+settings_fault_of (settings.UnknownMember name) = Refused (settings_refusal (settings.UnknownMember name))
+settings_fault_of (settings.WrongShape name) = Refused (settings_refusal (settings.WrongShape name))
+settings_fault_of (settings.BadRankingRule text) = Refused (settings_refusal (settings.BadRankingRule text))
+settings_fault_of (settings.NotBuilt name) = Refused (settings_refusal (settings.NotBuilt name))
+settings_fault_of settings.NoMemory = NoMemory
 
 -- ---- the paths of the routes
 
@@ -44,6 +57,7 @@ IsAt method parts (place.Document uid id) =
     × ((bytes_eq method (codes "POST") && bytes_eq id.now (codes "delete-batch")) ≡ false)
 IsAt method parts (place.DeleteBatch uid) =
     (parts ≡ in_documents uid.now (codes "delete-batch")) × (0 < length uid.now) × (method ≡ codes "POST")
+IsAt method parts (place.Settings uid) = (parts ≡ [] ∷ codes "indexes" ∷ uid.now ∷ codes "settings" ∷ []) × (0 < length uid.now)
 IsAt method parts (place.Search uid) = (parts ≡ [] ∷ codes "indexes" ∷ uid.now ∷ codes "search" ∷ []) × (0 < length uid.now)
 
 -- no route has the path
@@ -57,6 +71,7 @@ uid_of (place.Index uid) = uid.now
 uid_of (place.Documents uid) = uid.now
 uid_of (place.Document uid id) = uid.now
 uid_of (place.DeleteBatch uid) = uid.now
+uid_of (place.Settings uid) = uid.now
 uid_of (place.Search uid) = uid.now
 
 abbrev pub id_of : Place → List ℕ
@@ -66,6 +81,7 @@ id_of (place.Index uid) = []
 id_of (place.Documents uid) = []
 id_of (place.Document uid id) = id.now
 id_of (place.DeleteBatch uid) = []
+id_of (place.Settings uid) = []
 id_of (place.Search uid) = []
 
 -- the methods of each, and their routes
@@ -76,4 +92,5 @@ methods (place.Index uid) = (codes "GET", ShowIndex) ∷ (codes "DELETE", DropIn
 methods (place.Documents uid) = (codes "POST", AddDocuments) ∷ (codes "PUT", UpdateDocuments) ∷ (codes "GET", ListDocuments) ∷ (codes "DELETE", ClearDocuments) ∷ []
 methods (place.Document uid id) = (codes "GET", ShowDocument) ∷ (codes "DELETE", RemoveDocument) ∷ []
 methods (place.DeleteBatch uid) = (codes "POST", RemoveDocuments) ∷ []
+methods (place.Settings uid) = (codes "GET", ShowSettings) ∷ (codes "PATCH", PatchSettings) ∷ (codes "DELETE", ResetSettings) ∷ []
 methods (place.Search uid) = (codes "POST", Search) ∷ []

@@ -10,7 +10,7 @@ use Rattle.matchit.specs.Seek.{first}
 use Rattle.search_calls.specs.declared.path.Place.{Place}
 use Rattle.search_calls.specs.declared.path.Place.TheVariants as place
 use Rattle.search_calls.specs.declared.pattern.Pattern.{Pattern}
-use Rattle.search_calls.specs.declared.pattern.Pattern.TheVariants.{Health, Indexes, Index, Documents, Document, DeleteBatch, Search}
+use Rattle.search_calls.specs.declared.pattern.Pattern.TheVariants.{Health, Indexes, Index, Documents, Document, DeleteBatch, Settings, Search}
 
 -- a path of these parts
 abbrev pub joined : List (List ℕ) → List ℕ
@@ -46,6 +46,7 @@ pattern_parts Index = [] ∷ codes "indexes" ∷ codes "_" ∷ []
 pattern_parts Documents = [] ∷ codes "indexes" ∷ codes "_" ∷ codes "documents" ∷ []
 pattern_parts Document = [] ∷ codes "indexes" ∷ codes "_" ∷ codes "documents" ∷ codes "_" ∷ []
 pattern_parts DeleteBatch = [] ∷ codes "indexes" ∷ codes "_" ∷ codes "documents" ∷ codes "delete-batch" ∷ []
+pattern_parts Settings = [] ∷ codes "indexes" ∷ codes "_" ∷ codes "settings" ∷ []
 pattern_parts Search = [] ∷ codes "indexes" ∷ codes "_" ∷ codes "search" ∷ []
 
 -- the pattern that a text is
@@ -56,8 +57,9 @@ pattern_of text =
     if bytes_eq (codes "/indexes/_/documents/delete-batch") text then Some DeleteBatch else (
     if bytes_eq (codes "/indexes/_/documents") text then Some Documents else (
     if bytes_eq (codes "/indexes/_/search") text then Some Search else (
+    if bytes_eq (codes "/indexes/_/settings") text then Some Settings else (
     if bytes_eq (codes "/indexes/_") text then Some Index else (
-    if bytes_eq (codes "/indexes") text then Some Indexes else None))))))
+    if bytes_eq (codes "/indexes") text then Some Indexes else None)))))))
 
 -- a router finds these and no others
 pub record FindsPatterns (router : RowsOf (RouteOf Pattern)) : Type 0 where
@@ -71,4 +73,5 @@ named_place Index uid id = place.Index uid
 named_place Documents uid id = place.Documents uid
 named_place Document uid id = place.Document uid id
 named_place DeleteBatch uid id = place.DeleteBatch uid
+named_place Settings uid id = place.Settings uid
 named_place Search uid id = place.Search uid

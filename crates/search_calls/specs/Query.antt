@@ -9,7 +9,7 @@ use Rattle.form_urlencoded.specs.Form.{raw_pairs, decode, split}
 use Rattle.search_calls.specs.declared.refusal.Refusal.{Refusal}
 use Rattle.search_calls.specs.declared.refusal.Refusal.TheVariants.{Unknown}
 use Rattle.search_calls.specs.declared.routes.Route.{Route}
-use Rattle.search_calls.specs.declared.routes.Route.TheVariants.{Health, CreateIndex, ListIndexes, ShowIndex, DropIndex, AddDocuments, UpdateDocuments, ListDocuments, ClearDocuments, ShowDocument, RemoveDocument, RemoveDocuments, Search}
+use Rattle.search_calls.specs.declared.routes.Route.TheVariants.{Health, CreateIndex, ListIndexes, ShowIndex, DropIndex, AddDocuments, UpdateDocuments, ListDocuments, ClearDocuments, ShowDocument, RemoveDocument, RemoveDocuments, ShowSettings, PatchSettings, ResetSettings, Search}
 use Rattle.search_calls.specs.declared.query.Shape.{Shape}
 use Rattle.search_calls.specs.declared.query.Shape.TheVariants.{Count, Text, Texts}
 use Rattle.search_calls.specs.Trying.{◌>>◌}
@@ -74,6 +74,9 @@ names ClearDocuments = []
 names ShowDocument = (codes "fields", Texts) ∷ []
 names RemoveDocument = []
 names RemoveDocuments = []
+names ShowSettings = []
+names PatchSettings = []
+names ResetSettings = []
 names Search = []
 
 abbrev pub is_shaped : List ℕ → Option Shape → Bool

@@ -4,7 +4,7 @@ use Rattle.serde_json.specs.Data.{Data, string, object, member, no_members}
 use Rattle.serde_json.specs.Written.{compact_text}
 use Rattle.http_wire.specs.Reply.{Answer}
 use Rattle.search_calls.specs.declared.refusal.Refusal.{Refusal}
-use Rattle.search_calls.specs.declared.refusal.Refusal.TheVariants.{NoRoute, MethodNotAllowed, InvalidUid, Unknown, NotBuilt, NotJson, NotList, NotObject, NumberNotWhole, BadListedId, MissingUid, NoIndex, IndexExists, NoDocument, KeyDiffers, NoCandidate, SeveralCandidates, MissingId, BadId, ChangesSpent, IndexesSpent, IdsSpent, PathsSpent}
+use Rattle.search_calls.specs.declared.refusal.Refusal.TheVariants.{NoRoute, MethodNotAllowed, InvalidUid, Unknown, NotBuilt, NotJson, NotList, NotObject, NumberNotWhole, BadListedId, MissingUid, BadSettings, BadRankingRule, NoIndex, IndexExists, NoDocument, KeyDiffers, NoCandidate, SeveralCandidates, MissingId, BadId, ChangesSpent, IndexesSpent, IdsSpent, PathsSpent}
 
 pub record Told : Type 0 where
   pub status : ℕ
@@ -26,6 +26,8 @@ told_of (NotObject k) = told 400 (codes "malformed_payload") (codes "Document " 
 told_of (NumberNotWhole k path) = told 400 (codes "number_not_whole") (codes "Document " ++ (decimal k ++ (codes " has a number at `" ++ (path ++ codes "` that is not whole."))))
 told_of (BadListedId k) = told 400 (codes "invalid_document_id") (codes "Id " ++ decimal k ++ codes " is invalid.")
 told_of MissingUid = told 400 (codes "missing_index_uid") (codes "The uid is missing.")
+told_of (BadSettings name) = told 400 (codes "invalid_settings") (codes "Invalid `" ++ name ++ codes "`.")
+told_of (BadRankingRule text) = told 400 (codes "invalid_settings_ranking_rules") (codes "Invalid ranking rule `" ++ text ++ codes "`.")
 told_of (NoIndex uid) = told 404 (codes "index_not_found") (codes "No index `" ++ uid ++ codes "`.")
 told_of (IndexExists uid) = told 409 (codes "index_already_exists") (codes "Index `" ++ uid ++ codes "` exists.")
 told_of (NoDocument id) = told 404 (codes "document_not_found") (codes "No document `" ++ id ++ codes "`.")

@@ -7,7 +7,7 @@ use Rattle.form_urlencoded.specs.Form.{split}
 use Rattle.search_calls.specs.declared.refusal.Refusal.{Refusal}
 use Rattle.search_calls.specs.declared.refusal.Refusal.TheVariants.{NoRoute, MethodNotAllowed, InvalidUid}
 use Rattle.search_calls.specs.declared.routes.Route.{Route}
-use Rattle.search_calls.specs.declared.routes.Route.TheVariants.{Health, CreateIndex, ListIndexes, ShowIndex, DropIndex, AddDocuments, UpdateDocuments, ListDocuments, ClearDocuments, ShowDocument, RemoveDocument, RemoveDocuments, Search}
+use Rattle.search_calls.specs.declared.routes.Route.TheVariants.{Health, CreateIndex, ListIndexes, ShowIndex, DropIndex, AddDocuments, UpdateDocuments, ListDocuments, ClearDocuments, ShowDocument, RemoveDocument, RemoveDocuments, ShowSettings, PatchSettings, ResetSettings, Search}
 use Rattle.search_calls.specs.Trying.{or_refuse, ◌>>=◌}
 
 -- ---- the table
@@ -58,6 +58,9 @@ routes =
     ∷ row (codes "GET") (of_documents any_id) ShowDocument
     ∷ row (codes "DELETE") (of_documents any_id) RemoveDocument
     ∷ row (codes "POST") (of_documents (text (codes "delete-batch"))) RemoveDocuments
+    ∷ row (codes "GET") (of_index (codes "settings")) ShowSettings
+    ∷ row (codes "PATCH") (of_index (codes "settings")) PatchSettings
+    ∷ row (codes "DELETE") (of_index (codes "settings")) ResetSettings
     ∷ row (codes "POST") (of_index (codes "search")) Search
     ∷ []
 

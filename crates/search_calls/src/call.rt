@@ -2,10 +2,10 @@ ghost use Rattle.std.specs.Prelude.{◌≡◌, [], IfOk, map, Ok};
 ghost use Rattle.doc_values.specs.Changes.{kind_view};
 ghost use Rattle.http_wire.specs.Wire.{request_of};
 ghost use Rattle.search_calls.specs.Asked.{write};
-ghost use Rattle.search_calls.specs.Calls.{call_of, call_at, IsCall, IsUnquoted};
+ghost use Rattle.search_calls.specs.Calls.{call_of, call_at, IsCall, IsAccepted, IsUnquoted};
 ghost use Rattle.search_calls.specs.Gives.{Gives, Checks};
 ghost use Rattle.search_calls.specs.Held.{pair_of, call_data};
-ghost use Rattle.search_calls.specs.declared.routes.Route.TheVariants.{CreateIndex, ListIndexes, AddDocuments, UpdateDocuments, ListDocuments, ShowDocument, RemoveDocument, RemoveDocuments, Search};
+ghost use Rattle.search_calls.specs.declared.routes.Route.TheVariants.{CreateIndex, ListIndexes, AddDocuments, UpdateDocuments, ListDocuments, ShowDocument, RemoveDocument, RemoveDocuments, PatchSettings, Search};
 ghost use Rattle.search_calls.specs.Routes.{uid_fault};
 
 use crate::body::{NewIndex, read_documents, read_ids, read_index};
@@ -13,12 +13,13 @@ use crate::query::{Pair, count_in, fields_in, read_query, text_in};
 use crate::refusal::{Fault, Refusal, refusal_reply};
 use crate::routes::{Found, Route, find_route, is_uid, split_target};
 use crate::search::read_search;
+use crate::settings::read_patch;
 use doc_values::{Change, ChangeKind};
 use http_wire::{Reply, Wire};
 use search_base::{NoMemory, Word};
 use std::alloc::Global;
 
-/// Which hits a search asks for. Places are counted from 0.
+/// Which hits a search asks for, and what they show. Places are counted from 0. Contracts see it through `search_view`.
 #[derive(Debug, Drop)]
 pub struct SearchCall {
     /// The text that is searched for: empty where the request names none. It has no `"`.
@@ -27,6 +28,8 @@ pub struct SearchCall {
     pub offset: u64,
     /// The most hits: 20 where the request names no number.
     pub limit: u64,
+    /// The names of the top members that hits show. `*` names all, and stands here where the request names none.
+    pub retrieve: Vec<Word>,
 }
 
 /// A request that changes nothing. Contracts see it through `read_view`.
@@ -57,6 +60,10 @@ pub enum ReadCall {
         id: Word,
         fields: Vec<Word>,
     },
+    /// The settings of the index named `uid`.
+    Settings {
+        uid: Word,
+    },
     /// A search of the index named `uid`.
     Search {
         uid: Word,
@@ -84,10 +91,12 @@ pub(crate) enum Request {
 /// The call that a request is, or the reply to it where it is refused by what it says alone.
 ///
 /// Tried are its path, its method, the uid of the path, the query string in the order of its pairs, the body as JSON
-/// (RFC 8259) and the body's shape, and the first fault is the one that is told. Its error is want of memory.
+/// (RFC 8259) and the body's shape, and the first fault is the one that is told. What is searched for has no quotes, and
+/// a patch of settings no fault. Its error is want of memory.
 pub fn read_call(alloc: Global, wire: &Wire) -> Result<Call, NoMemory>
     ensures call { IfOk result (λ call. IsCall call (call_of (request_of wire.now))) }
     ensures unquoted { IfOk result IsUnquoted }
+    ensures accepted { IfOk result IsAccepted }
 {
     match ask(alloc, wire) {
         Ok(Request::Write(change)) => Ok(Call::Write(change)),
@@ -138,6 +147,11 @@ fn ask_at(alloc: Global, found: Found, pairs: &[Pair], body: &[u8]) -> Result<Re
         Route::ShowDocument => show_document(alloc, uid, id, pairs),
         Route::RemoveDocument => remove_document(alloc, uid, id),
         Route::RemoveDocuments => remove_documents(alloc, uid, body),
+        Route::ShowSettings => Ok(Request::Read(ReadCall::Settings {
+            uid: Word::new(alloc, uid)?,
+        })),
+        Route::PatchSettings => patch_settings(alloc, uid, body),
+        Route::ResetSettings => changed(alloc, uid, ChangeKind::Reset),
         Route::Search => search(alloc, uid, body),
     }
 }
@@ -220,6 +234,13 @@ fn remove_documents(alloc: Global, uid: &str, body: &[u8]) -> Result<Request, Fa
 {
     let ids = read_ids(alloc, body)?;
     changed(alloc, uid, ChangeKind::Remove { ids })
+}
+
+fn patch_settings(alloc: Global, uid: &str, body: &[u8]) -> Result<Request, Fault>
+    ensures { Gives call_data result (call_at PatchSettings uid.now [] [] body.now) }
+{
+    let members = read_patch(alloc, body)?;
+    changed(alloc, uid, ChangeKind::Patch { members })
 }
 
 fn search(alloc: Global, uid: &str, body: &[u8]) -> Result<Request, Fault>

@@ -23,6 +23,8 @@ pub(crate) enum Place<'a> {
     Document { uid: &'a str, id: &'a str },
     /// `/indexes/{uid}/documents/delete-batch`, for `POST` alone: it is an id for any other method
     DeleteBatch { uid: &'a str },
+    /// `/indexes/{uid}/settings`
+    Settings { uid: &'a str },
     /// `/indexes/{uid}/search`
     Search { uid: &'a str },
 }
@@ -118,6 +120,7 @@ impl<'a> Place<'a> {
             | Place::Documents { uid }
             | Place::Document { uid, .. }
             | Place::DeleteBatch { uid }
+            | Place::Settings { uid }
             | Place::Search { uid } => uid,
         }
     }

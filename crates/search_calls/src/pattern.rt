@@ -21,6 +21,8 @@ pub(crate) enum Pattern {
     Document,
     /// `/indexes/_/documents/delete-batch`
     DeleteBatch,
+    /// `/indexes/_/settings`
+    Settings,
     /// `/indexes/_/search`
     Search,
 }
@@ -56,6 +58,7 @@ fn pattern_router(alloc: Global) -> Result<Router<Pattern>, InsertError>
     router.insert("/indexes/_/documents", Pattern::Documents)?;
     router.insert("/indexes/_/documents/_", Pattern::Document)?;
     router.insert("/indexes/_/documents/delete-batch", Pattern::DeleteBatch)?;
+    router.insert("/indexes/_/settings", Pattern::Settings)?;
     router.insert("/indexes/_/search", Pattern::Search)?;
     Ok(router)
 }
@@ -75,6 +78,7 @@ impl Pattern {
             Pattern::Documents => Place::Documents { uid },
             Pattern::Document => Place::Document { uid, id },
             Pattern::DeleteBatch => Place::DeleteBatch { uid },
+            Pattern::Settings => Place::Settings { uid },
             Pattern::Search => Place::Search { uid },
         }
     }

@@ -22,7 +22,7 @@ pub enum Refusal {
     /// A name of the query string or a member of the body that the route does not have, or whose value has a wrong
     /// shape. The name `body` stands for a whole body that is to be an object.
     Unknown { name: Word },
-    /// A member of a search that is not built yet.
+    /// A member of a search or of a patch of settings that is not built yet, or not for such a value.
     NotBuilt { name: Word },
     /// The body is no JSON text.
     NotJson,
@@ -36,6 +36,10 @@ pub enum Refusal {
     BadListedId { place: u64 },
     /// The body of an index that is to be made has no `uid`.
     MissingUid,
+    /// This member of a patch of settings has a wrong shape, or passes a limit.
+    BadSettings { name: Word },
+    /// This text of a patch's ranking rules names no rule.
+    BadRankingRule { text: Word },
     /// The machine has no index of this uid.
     NoIndex { uid: Word },
     /// The machine has an index of this uid, and one is to be made.
@@ -130,6 +134,8 @@ fn code_of(refusal: &Refusal) -> &'static str
         Refusal::NumberNotWhole { .. } => "number_not_whole",
         Refusal::BadListedId { .. } | Refusal::BadId { .. } => "invalid_document_id",
         Refusal::MissingUid => "missing_index_uid",
+        Refusal::BadSettings { .. } => "invalid_settings",
+        Refusal::BadRankingRule { .. } => "invalid_settings_ranking_rules",
         Refusal::NoIndex { .. } => "index_not_found",
         Refusal::IndexExists { .. } => "index_already_exists",
         Refusal::NoDocument { .. } => "document_not_found",
@@ -170,6 +176,14 @@ fn message_of(alloc: Global, refusal: &Refusal) -> Result<String, AllocError>
         ),
         Refusal::BadListedId { place } => format!(in alloc; "Id {place} is invalid."),
         Refusal::MissingUid => String::from_str(alloc, "The uid is missing."),
+        Refusal::BadSettings { name } => format!(in alloc;
+            "Invalid `{name}`.",
+            name = name.as_str()
+        ),
+        Refusal::BadRankingRule { text } => format!(in alloc;
+            "Invalid ranking rule `{text}`.",
+            text = text.as_str()
+        ),
         Refusal::IndexExists { uid } => format!(in alloc;
             "Index `{uid}` exists.",
             uid = uid.as_str()

@@ -37,6 +37,12 @@ pub(crate) enum Route {
     RemoveDocument,
     /// `POST /indexes/{uid}/documents/delete-batch`
     RemoveDocuments,
+    /// `GET /indexes/{uid}/settings`
+    ShowSettings,
+    /// `PATCH /indexes/{uid}/settings`
+    PatchSettings,
+    /// `DELETE /indexes/{uid}/settings`
+    ResetSettings,
     /// `POST /indexes/{uid}/search`
     Search,
 }
@@ -110,6 +116,12 @@ fn route_at(method: &str, place: Place) -> Option<Route>
         },
         Place::DeleteBatch { .. } => match method {
             "POST" => Some(Route::RemoveDocuments),
+            _ => None,
+        },
+        Place::Settings { .. } => match method {
+            "GET" => Some(Route::ShowSettings),
+            "PATCH" => Some(Route::PatchSettings),
+            "DELETE" => Some(Route::ResetSettings),
             _ => None,
         },
         Place::Search { .. } => match method {

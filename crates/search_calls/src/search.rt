@@ -1,9 +1,11 @@
 ghost use Rattle.std.specs.Prelude.{◌≡◌, ◌==◌, IfOk, codes};
 ghost use Rattle.std.specs.List.{list_any};
 ghost use Rattle.serde_json.specs.Find.{get};
-ghost use Rattle.serde_json.specs.View.{view, members_view};
+ghost use Rattle.serde_json.specs.View.{view, items_view, members_view};
+ghost use Rattle.index_settings.specs.Values.{items_are_texts, item_texts, texts_in};
+ghost use Rattle.search_calls.specs.Asked.{search_view};
 ghost use Rattle.search_calls.specs.Gives.{Gives, Checks};
-ghost use Rattle.search_calls.specs.Bodies.{object_in, member_named, is_built as is_built_value, is_query_or_null as query_or_null, is_count_or_null as count_or_null, member_fault, members_fault, count_or, text_or_none, text_or_empty, search_from, search_of};
+ghost use Rattle.search_calls.specs.Bodies.{object_in, member_named, is_built as is_built_value, is_query_or_null as query_or_null, is_count_or_null as count_or_null, are_texts_or_null as texts_or_null, names_or_all, member_fault, members_fault, count_or, text_or_none, text_or_empty, search_from, search_of};
 
 use crate::body::read_json;
 use crate::call::SearchCall;
@@ -12,17 +14,19 @@ use search_base::{NoMemory, Word};
 use serde_json::{Map, Value};
 use std::alloc::Global;
 
-/// What a member of a search is: the text that is searched for, a whole number, or a member that is not built yet.
+/// What a member of a search is: the text that is searched for, a whole number, a list of names, or a member that is not
+/// built yet.
 #[derive(Clone, Copy, Debug, PartialEq, Eq)]
 pub(crate) enum Member {
     Query,
     Count,
+    Names,
     Later,
 }
 
 /// The search that a body asks for.
 pub(crate) fn read_search(alloc: Global, body: &[u8]) -> Result<SearchCall, Fault>
-    ensures { Gives (λ call. call) result (search_of body.now) }
+    ensures { Gives search_view result (search_of body.now) }
 {
     let value = read_object(alloc, body)?;
     search_call(alloc, &value)
@@ -39,7 +43,7 @@ fn read_object(alloc: Global, body: &[u8]) -> Result<Value, Fault>
 }
 
 fn search_call(alloc: Global, value: &Value) -> Result<SearchCall, Fault>
-    ensures { Gives (λ call. call) result (search_from (view value.now)) }
+    ensures { Gives search_view result (search_from (view value.now)) }
 {
     match value {
         Value::Object(members) => check_members(alloc, members)?,
@@ -54,6 +58,7 @@ fn search_call(alloc: Global, value: &Value) -> Result<SearchCall, Fault>
         q,
         offset: count_at(value, "offset", 0),
         limit: count_at(value, "limit", 20),
+        retrieve: names_at(alloc, value, "attributesToRetrieve")?,
     })
 }
 
@@ -67,6 +72,41 @@ fn count_at(value: &Value, name: &str, default: u64) -> u64
     ensures { result ≡ count_or default (get name.now (view value.now)) }
 {
     value.get(name).and_then(Value::as_u64).unwrap_or(default)
+}
+
+// The names of a list, or `*`, which stands for all, where none is given.
+fn names_at(alloc: Global, value: &Value, name: &str) -> Result<Vec<Word>, NoMemory>
+    ensures { IfOk result (λ names. names.items ≡ names_or_all (get name.now (view value.now))) }
+{
+    match value.get(name) {
+        Some(value) if !value.is_null() => names_in(alloc, value),
+        _ => {
+            let mut all = Vec::new(alloc);
+            all.push(Word::new(alloc, "*")?)?;
+            Ok(all)
+        }
+    }
+}
+
+fn names_in(alloc: Global, value: &Value) -> Result<Vec<Word>, NoMemory>
+    ensures { IfOk result (λ names. names.items ≡ texts_in (view value.now)) }
+{
+    match value {
+        Value::Array(items) => texts_of(alloc, items),
+        _ => Ok(Vec::new(alloc)),
+    }
+}
+
+fn texts_of(alloc: Global, items: &[Value]) -> Result<Vec<Word>, NoMemory>
+    ensures { IfOk result (λ texts. texts.items ≡ item_texts (items_view items.now)) }
+{
+    let mut texts = Vec::new(alloc);
+    for item in items {
+        if let Some(text) = item.as_str() {
+            texts.push(Word::new(alloc, text)?)?;
+        }
+    }
+    Ok(texts)
 }
 
 fn check_members(alloc: Global, members: &Map<String, Value>) -> Result<(), Fault>
@@ -108,7 +148,7 @@ fn member_of(name: &str) -> Option<Member>
         "filter" => Some(Member::Later),
         "facets" => Some(Member::Later),
         "sort" => Some(Member::Later),
-        "attributesToRetrieve" => Some(Member::Later),
+        "attributesToRetrieve" => Some(Member::Names),
         "matchingStrategy" => Some(Member::Later),
         "showCosts" => Some(Member::Later),
         "attributesToHighlight" => Some(Member::Later),
@@ -129,6 +169,7 @@ fn is_built(member: Member, value: &Value) -> bool
     match member {
         Member::Query => is_query_or_null(value),
         Member::Count => is_count_or_null(value),
+        Member::Names => are_texts_or_null(value),
         Member::Later => false,
     }
 }
@@ -154,4 +195,25 @@ fn is_count_or_null(value: &Value) -> bool
     ensures { result ≡ count_or_null (view value.now) }
 {
     value.is_null() || value.is_u64()
+}
+
+fn are_texts_or_null(value: &Value) -> bool
+    ensures { result ≡ texts_or_null (view value.now) }
+{
+    match value {
+        Value::Null => true,
+        Value::Array(items) => are_texts(items),
+        _ => false,
+    }
+}
+
+fn are_texts(items: &[Value]) -> bool
+    ensures { result ≡ items_are_texts (items_view items.now) }
+{
+    for item in items {
+        if !item.is_string() {
+            return false;
+        }
+    }
+    true
 }

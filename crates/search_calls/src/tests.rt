@@ -28,8 +28,12 @@ GET~/indexes/m/documents/a%20b?fields=id~~document
 DELETE~/indexes/m/documents/a.b~~remove
 GET~/indexes/m/documents/delete-batch~~document
 DELETE~/indexes/m/documents/delete-batch~~remove
+GET~/indexes/m/settings~~settings
+PATCH~/indexes/m/settings~{"stopWords":["a"],"synonyms":null}~patch
+DELETE~/indexes/m/settings~~reset
 POST~/indexes/m/documents/delete-batch~[]~remove
-POST~/indexes/m/search~~search"#;
+POST~/indexes/m/search~~search
+POST~/indexes/m/search~{"attributesToRetrieve":null}~search"#;
 
 // A method, a target, a body, and the status, the code and the message of its refusal.
 const NO_ROUTES: &str = r#"GET~/nothing~~404~not_found~No such route.
@@ -40,7 +44,8 @@ GET~/indexes/~~404~not_found~No such route.
 GET~/indexes//documents~~404~not_found~No such route.
 GET~/indexes/m/documents/~~404~not_found~No such route.
 GET~/indexes/m/documents/1/~~404~not_found~No such route.
-GET~/indexes/m/settings~~404~not_found~No such route.
+GET~/indexes//settings~~404~not_found~No such route.
+PATCH~/indexes/m/settings/stop-words~~404~not_found~No such route.
 PATCH~/indexes//search?x~~404~not_found~No such route.
 POST~/health~~405~method_not_allowed~Method not allowed.
 get~/health~~405~method_not_allowed~Method not allowed.
@@ -48,6 +53,7 @@ PUT~/indexes~~405~method_not_allowed~Method not allowed.
 PATCH~/indexes/m~~405~method_not_allowed~Method not allowed.
 PUT~/indexes/m/documents/delete-batch~~405~method_not_allowed~Method not allowed.
 POST~/indexes/m/documents/7~~405~method_not_allowed~Method not allowed.
+PUT~/indexes/m/settings~~405~method_not_allowed~Method not allowed.
 GET~/indexes/m/search~~405~method_not_allowed~Method not allowed.
 PATCH~/indexes/a.b/search?x~~405~method_not_allowed~Method not allowed."#;
 
@@ -81,9 +87,23 @@ POST~/indexes~[]~400~bad_request~Unknown or malformed `body`.
 POST~/indexes~{"zz":5}~400~bad_request~Unknown or malformed `zz`.
 POST~/indexes~{"primaryKey":"","uid":5}~400~bad_request~Unknown or malformed `primaryKey`."#;
 
+const BAD_SETTINGS: &str = r#"PATCH~/indexes/m/settings~~400~malformed_payload~The body is not JSON.
+PATCH~/indexes/m/settings?x~~400~bad_request~Unknown or malformed `x`.
+PATCH~/indexes/m/settings~[]~400~bad_request~Unknown or malformed `body`.
+PATCH~/indexes/m/settings~{"zz":1,"typoTolerance":{}}~400~bad_request~Unknown or malformed `typoTolerance`.
+PATCH~/indexes/m/settings~{"faceting":{"x":1}}~400~bad_request~Unknown or malformed `faceting.x`.
+PATCH~/indexes/m/settings~{"stopWords":["a",1],"zz":1}~400~invalid_settings~Invalid `stopWords`.
+PATCH~/indexes/m/settings~{"pagination":5}~400~invalid_settings~Invalid `pagination`.
+PATCH~/indexes/m/settings~{"pagination":{"maxTotalHits":1000001}}~400~invalid_settings~Invalid `pagination.maxTotalHits`.
+PATCH~/indexes/m/settings~{"rankingRules":["words",":asc"]}~400~invalid_settings_ranking_rules~Invalid ranking rule `:asc`.
+PATCH~/indexes/m/settings~{"distinctAttribute":5}~400~invalid_settings~Invalid `distinctAttribute`.
+PATCH~/indexes/m/settings~{"distinctAttribute":"year"}~501~not_built~Not built: `distinctAttribute`."#;
+
 const BAD_SEARCHES: &str = r#"POST~/indexes/m/search~{~400~malformed_payload~The body is not JSON.
 POST~/indexes/m/search~[]~400~bad_request~Unknown or malformed `body`.
 POST~/indexes/m/search~{"zz":1,"a":1}~400~bad_request~Unknown or malformed `a`.
+POST~/indexes/m/search~{"attributesToRetrieve":"id"}~501~not_built~Not built: `attributesToRetrieve`.
+POST~/indexes/m/search~{"attributesToRetrieve":["id",1]}~501~not_built~Not built: `attributesToRetrieve`.
 POST~/indexes/m/search~{"filter":null}~501~not_built~Not built: `filter`.
 POST~/indexes/m/search~{"q":5}~501~not_built~Not built: `q`.
 POST~/indexes/m/search~{"q":"a\u0022"}~501~not_built~Not built: `q`.
@@ -152,13 +172,15 @@ fn kind_of(call: &Call) -> &'static str {
             ChangeKind::Update { .. } => "update",
             ChangeKind::Remove { .. } => "remove",
             ChangeKind::Clear => "clear",
-            ChangeKind::Patch { .. } | ChangeKind::Reset => "settings",
+            ChangeKind::Patch { .. } => "patch",
+            ChangeKind::Reset => "reset",
         },
         Call::Read(ReadCall::Health) => "health",
         Call::Read(ReadCall::Indexes { .. }) => "indexes",
         Call::Read(ReadCall::Index { .. }) => "index",
         Call::Read(ReadCall::Documents { .. }) => "documents",
         Call::Read(ReadCall::Document { .. }) => "document",
+        Call::Read(ReadCall::Settings { .. }) => "settings",
         Call::Read(ReadCall::Search { .. }) => "search",
     }
 }
@@ -186,6 +208,11 @@ fn faults_of_query_strings(rt: HostRuntime) -> Result<(), Fail> {
 #[test]
 fn faults_of_bodies(rt: HostRuntime) -> Result<(), Fail> {
     check_table(&rt, rt.alloc(), BAD_BODIES)
+}
+
+#[test]
+fn faults_of_settings(rt: HostRuntime) -> Result<(), Fail> {
+    check_table(&rt, rt.alloc(), BAD_SETTINGS)
 }
 
 #[test]
@@ -227,11 +254,12 @@ fn what_calls_say(rt: HostRuntime) -> Result<(), Fail> {
         alloc,
         "POST",
         SEARCH,
-        "{\"q\":\"it's\",\"limit\":18446744073709551615}",
+        "{\"q\":\"it's\",\"limit\":18446744073709551615,\"attributesToRetrieve\":[\"a\",\"b\"]}",
     )? {
         Call::Read(ReadCall::Search { call, .. }) => {
             assert_eq!(rt; call.q.as_str(), "it's");
             assert_eq!(rt; (call.offset, call.limit), (0, 18446744073709551615));
+            assert!(rt; call.retrieve.iter().any(|name| name.as_str() == "b"));
         }
         _ => assert!(rt; false, "search"),
     }

@@ -7,10 +7,10 @@ use Rattle.http_wire.specs.Reply.{Answer}
 use Rattle.index_core.specs.Index.{Index, documents as documents_in, document_under}
 use Rattle.index_core.specs.Hits.{found}
 use Rattle.search_calls.specs.declared.refusal.Refusal.{Refusal}
-use Rattle.search_calls.specs.declared.refusal.Refusal.TheVariants.{NoRoute, MethodNotAllowed, InvalidUid, Unknown, NotBuilt, NotJson, NotList, NotObject, NumberNotWhole, BadListedId, MissingUid, NoIndex, IndexExists, NoDocument, KeyDiffers, NoCandidate, SeveralCandidates, MissingId, BadId, ChangesSpent, IndexesSpent, IdsSpent, PathsSpent}
+use Rattle.search_calls.specs.declared.refusal.Refusal.TheVariants.{NoRoute, MethodNotAllowed, InvalidUid, Unknown, NotBuilt, NotJson, NotList, NotObject, NumberNotWhole, BadListedId, MissingUid, BadSettings, BadRankingRule, NoIndex, IndexExists, NoDocument, KeyDiffers, NoCandidate, SeveralCandidates, MissingId, BadId, ChangesSpent, IndexesSpent, IdsSpent, PathsSpent}
 use Rattle.search_calls.specs.Refusals.{told_of}
 use Rattle.search_calls.specs.Trying.{◌>>=◌, or_refuse}
-use Rattle.search_calls.specs.Asked.{ReadData, health, indexes, index, documents, document, search, CallData, write, read}
+use Rattle.search_calls.specs.Asked.{ReadData, health, indexes, index, documents, document, settings, search, CallData, write, read}
 use Rattle.search_calls.specs.Calls.{call_of}
 use Rattle.search_routes.specs.Replies as replies
 use Rattle.search_routes.specs.State.{State, Indexes}
@@ -52,7 +52,8 @@ shown_answer es (documents uid offset limit fields) =
 shown_answer es (document uid id fields) =
     shown_of (index_at uid es) _ (λ i. or_refuse (NoDocument id) (document_under id i.store.rows) >>= λ d. Ok (replies.one_document fields d))
     (λ i. shown_document fields (document_under id i.store.rows) (NoDocument id))
-shown_answer es (search uid c) = shown_of (index_at uid es) _ (λ i. Ok (hits_answer c (found i.store (core_call c)))) (λ i. refl)
+shown_answer es (settings uid) = shown_of (index_at uid es) _ (λ i. Ok (replies.settings i.settings)) (λ i. refl)
+shown_answer es (search uid c) = shown_of (index_at uid es) _ (λ i. Ok (hits_answer c i.settings (found i (core_call c)))) (λ i. refl)
 
 good_answered : (s : State) (r : Result Answer Refusal) → IsShown r → IsGood s (r >>= λ a. Ok (told s a))
 good_answered s (Ok a) is = inr (is, refl)
@@ -81,6 +82,8 @@ refusing (NotObject k) = (λ e. absurd (omega (arith, e)), λ e. absurd (omega (
 refusing (NumberNotWhole k path) = (λ e. absurd (omega (arith, e)), λ e. absurd (omega (arith, e)))
 refusing (BadListedId k) = (λ e. absurd (omega (arith, e)), λ e. absurd (omega (arith, e)))
 refusing MissingUid = (λ e. absurd (omega (arith, e)), λ e. absurd (omega (arith, e)))
+refusing (BadSettings name) = (λ e. absurd (omega (arith, e)), λ e. absurd (omega (arith, e)))
+refusing (BadRankingRule text) = (λ e. absurd (omega (arith, e)), λ e. absurd (omega (arith, e)))
 refusing (NoIndex uid) = (λ e. absurd (omega (arith, e)), λ e. absurd (omega (arith, e)))
 refusing (IndexExists uid) = (λ e. absurd (omega (arith, e)), λ e. absurd (omega (arith, e)))
 refusing (NoDocument id) = (λ e. absurd (omega (arith, e)), λ e. absurd (omega (arith, e)))

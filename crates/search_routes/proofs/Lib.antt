@@ -4,3 +4,4 @@ pub mod RowLemmas
 pub mod MapLemmas
 pub mod Steps
 pub mod LawLemmas
+pub mod NeedLemmas

@@ -1,5 +1,5 @@
 -- From what a call did to the step that it made.
-use Rattle.std.proofs.Common.{◌≡◌, ℕ, ◌+◌, Bool, true, false, List, Some, None, Result, Ok, Err, refl, sym, ap, ap₂, ◌∙◌}
+use Rattle.std.proofs.Common.{◌≡◌, ℕ, ◌+◌, Bool, true, false, List, Option, Some, None, is_some, Result, Ok, Err, refl, sym, ap, ap₂, subst, ◌∙◌}
 use Rattle.std.specs.Ordering.{nat_cmp}
 use Rattle.std.specs.Cmp.Lexicographic.{slice_cmp, nat_list_cmp_total}
 use Rattle.std.specs.Map.{set_value, keys_of}
@@ -16,13 +16,21 @@ use Rattle.search_calls.specs.declared.refusal.Fault.{Fault}
 use Rattle.search_calls.specs.declared.refusal.Fault.TheVariants as fault
 use Rattle.search_calls.specs.declared.call.Call.{Call}
 use Rattle.search_calls.specs.declared.call.Call.TheVariants as call
-use Rattle.search_calls.specs.Asked.{ReadData, read}
+use Rattle.search_calls.specs.Asked.{SearchData, ReadData, read, search}
 use Rattle.search_calls.specs.Calls.{call_of, IsCall}
 use Rattle.search_calls.specs.Gives.{Fails}
-use Rattle.search_calls.specs.Trying.{◌>>=◌}
+use Rattle.search_calls.specs.declared.refusal.Refusal.TheVariants.{NoIndex, IndexExists}
+use Rattle.search_calls.specs.Trying.{◌>>=◌, ◌>>◌, refuse_if, or_refuse}
+use Rattle.http_wire.specs.Sent.{IsSentAs}
+use Rattle.serde_json.specs.Data.{Data}
+use Rattle.index_core.specs.Hits.{Found, found}
+use Rattle.index_core.specs.declared.call.SearchCall.{SearchCall as CoreCall}
+use Rattle.search_routes.specs.Shown.{all_shown, hits_shown, common_names}
+use Rattle.search_routes.specs.Replies as replies
 use Rattle.search_routes.specs.Replies.{accepted}
+use Rattle.search_routes.proofs.ShownLemmas.{hits_common}
 use Rattle.search_routes.specs.State.{State, Indexes}
-use Rattle.search_routes.specs.Machine.{Step, with_index, index_after, indexes_after, index_at, type_of, changed, filled, emptied, answer_to, outcome, told, is_full, unless_refused, step}
+use Rattle.search_routes.specs.Machine.{Step, with_index, index_after, indexes_after, index_at, type_of, limits, created, core_call, hits_answer, changed, filled, emptied, answer_to, outcome, told, is_full, unless_refused, step}
 use Rattle.search_routes.specs.Needs.{needed_fetches}
 use Rattle.search_routes.specs.Done.{Grows, Steps, Sends, Answers, Makes, Performs, held_need}
 use Rattle.search_routes.proofs.MapLemmas.{set_value-insert}
@@ -72,6 +80,37 @@ filled_new before es uid change full index after none full_is is_new is =
     let made : index_after before (is_full es) empty_index change ≡ Ok after =
     sym (ap₂ (λ v i. index_after before v i change) full_is is_new) ∙ is in
     rw (none, made) refl
+
+-- an index is made where none is
+pub created_new : (before : ℕ) (es : Indexes) (uid : List ℕ) (key : Option (List ℕ)) (full : Bool)
+    → is_some (index_at uid es) ≡ false → full ≡ is_full es → limits before full ≡ None
+    → created before es uid key ≡ Ok (with_index uid (record { key = key; store = empty_index.store; settings = empty_index.settings }) es)
+created_new before es uid key full none full_is room =
+    let made : Indexes = with_index uid (record { key = key; store = empty_index.store; settings = empty_index.settings }) es in
+    ap (λ b. refuse_if b (IndexExists uid) >> (limits before (is_full es) >> Ok made)) none
+    ∙ ap (λ o. o >> Ok made) (subst (λ v. limits before v ≡ None) full_is room)
+
+-- ---- a search
+
+-- the reply to a search is what it finds, by the names that both lists have
+pub search_sent : (es : Indexes) (uid : List ℕ) (call : SearchData) (i : Index) (core : CoreCall) (q : List ℕ) (names : List (List ℕ)) (hits : List Data) (total : ℕ) (reply : Reply)
+    → index_at uid es ≡ Some i → core ≡ core_call call → q ≡ core.q → names ≡ common_names i.settings.displayed_attributes call.retrieve
+    → hits ≡ (found i core).hits → total ≡ (found i core).total
+    → IsSentAs reply (replies.hits q core.offset core.limit total (all_shown names hits)) → Sends (answer_to es (search uid call)) (Ok reply)
+search_sent es uid call i core q names hits total reply at is asked named h t sent =
+    let f : Found = found i (core_call call) in
+    let h' : hits ≡ f.hits = subst (λ v. hits ≡ (found i v).hits) is h in
+    let t' : total ≡ f.total = subst (λ v. total ≡ (found i v).total) is t in
+    let shows : all_shown names hits ≡ hits_shown i.settings.displayed_attributes call.retrieve f.hits =
+    ap₂ all_shown named h' ∙ hits_common i.settings.displayed_attributes call.retrieve f.hits in
+    let one : IsSentAs reply (replies.hits call.q call.offset call.limit total (all_shown names hits)) =
+    subst (λ v. IsSentAs reply (replies.hits v call.offset call.limit total (all_shown names hits))) (asked ∙ ap (λ v. v.q) is)
+    (subst (λ v. IsSentAs reply (replies.hits q v.offset v.limit total (all_shown names hits))) is sent) in
+    let two : IsSentAs reply (replies.hits call.q call.offset call.limit f.total (all_shown names hits)) =
+    subst (λ v. IsSentAs reply (replies.hits call.q call.offset call.limit v (all_shown names hits))) t' one in
+    let three : IsSentAs reply (hits_answer call i.settings f) =
+    subst (λ v. IsSentAs reply (replies.hits call.q call.offset call.limit f.total v)) shows two in
+    (hits_answer call i.settings f, ap (λ o. or_refuse (NoIndex uid) o >>= λ i. Ok (hits_answer call i.settings (found i (core_call call)))) at, three)
 
 -- ---- steps
 

@@ -14,6 +14,7 @@ use Rattle.search_calls.specs.declared.call.Call.{Call}
 use Rattle.search_calls.specs.declared.call.Call.TheVariants as call
 use Rattle.search_calls.specs.Asked.{write, read, read_view}
 use Rattle.search_calls.specs.Gives.{Fails}
+use Rattle.search_calls.specs.Held.{settings_fault_of}
 use Rattle.search_calls.specs.Refusals.{refused}
 use Rattle.search_routes.specs.State.{State}
 use Rattle.search_routes.specs.Machine.{Step, performed, core_refusal}
@@ -68,9 +69,5 @@ fault_of key (core.MissingId k) = fault.Refused (core_refusal key (core.MissingI
 fault_of key (core.BadId k) = fault.Refused (core_refusal key (core.BadId k))
 fault_of key core.IdsSpent = fault.Refused (core_refusal key core.IdsSpent)
 fault_of key core.PathsSpent = fault.Refused (core_refusal key core.PathsSpent)
+fault_of key (core.Settings fault) = settings_fault_of fault
 fault_of key core.NoMemory = fault.NoMemory
-
--- it is this fault, or want of memory
-abbrev pub Turns : Fault → Fault → Type 0
-Turns why fault.NoMemory = Unit {0}
-Turns why (fault.Refused r) = why ≡ fault.Refused r

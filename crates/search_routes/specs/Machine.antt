@@ -6,6 +6,7 @@ use Rattle.std.specs.Map.{lookup, remove_entry}
 use Rattle.std.specs.Result.{result_unwrap_or}
 use Rattle.std.specs.BTreeMap.{is_at, insert_entry}
 use Rattle.serde_json.specs.Data.{Data}
+use Rattle.index_settings.specs.View.{SettingsView}
 use Rattle.doc_values.specs.Changes.{KindData, create, drop_index, replace, update, remove, clear, patch, reset}
 use Rattle.doc_values.specs.Ids.{key_of}
 use Rattle.http_wire.specs.Stream.{Request}
@@ -17,13 +18,14 @@ use Rattle.index_core.specs.declared.call.SearchCall.{SearchCall as CoreCall}
 use Rattle.index_core.specs.declared.fault.CoreFault.{CoreFault}
 use Rattle.index_core.specs.declared.fault.CoreFault.TheVariants as core
 use Rattle.search_calls.specs.declared.refusal.Refusal.{Refusal}
-use Rattle.search_calls.specs.declared.refusal.Refusal.TheVariants.{NotBuilt, NoIndex, IndexExists, NoDocument, KeyDiffers, NoCandidate, SeveralCandidates, MissingId, BadId, ChangesSpent, IndexesSpent, IdsSpent, PathsSpent}
-use Rattle.search_calls.specs.declared.call.SearchCall.{SearchCall}
+use Rattle.search_calls.specs.declared.refusal.Refusal.TheVariants.{NoIndex, IndexExists, NoDocument, KeyDiffers, NoCandidate, SeveralCandidates, MissingId, BadId, ChangesSpent, IndexesSpent, IdsSpent, PathsSpent}
 use Rattle.search_calls.specs.Trying.{◌>>=◌, ◌>>◌, first_of, refuse_if, or_refuse}
 use Rattle.search_calls.specs.Refusals.{refused}
-use Rattle.search_calls.specs.Asked.{ReadData, health, indexes, index, documents, document, search, CallData, write, read}
+use Rattle.search_calls.specs.Asked.{SearchData, ReadData, health, indexes, index, documents, document, settings, search, CallData, write, read}
+use Rattle.search_calls.specs.Bodies.{settings_refusal}
 use Rattle.search_calls.specs.Calls.{call_of}
 use Rattle.search_routes.specs.State.{State, Indexes}
+use Rattle.search_routes.specs.Shown.{hits_shown}
 use Rattle.search_routes.specs.Replies as replies
 
 -- ---- what the machine holds
@@ -82,6 +84,7 @@ core_refusal key (core.MissingId k) = MissingId k key
 core_refusal key (core.BadId k) = BadId k
 core_refusal key core.IdsSpent = IdsSpent
 core_refusal key core.PathsSpent = PathsSpent
+core_refusal key (core.Settings fault) = settings_refusal fault
 core_refusal key core.NoMemory = IdsSpent
 
 abbrev pub core_result : {A : Type 0} → List ℕ → Result A CoreFault → Result A Refusal
@@ -111,7 +114,7 @@ id_member_for own reset = []
 abbrev pub limits : ℕ → Bool → Option Refusal
 limits before full = first_of (refuse_if (nat_le most_changes before) ChangesSpent) (refuse_if full IndexesSpent)
 
--- An index after a change of its documents, where so many changes were accepted before, and the machine may be full.
+-- An index after a change of its documents or settings, where so many changes were accepted before, and the machine may be full.
 -- The key is tried, then the ids of the documents in their order, and then the limits: those of the machine, of
 -- internal ids and of paths.
 abbrev pub index_after : ℕ → Bool → Index → KindData → Result Index Refusal
@@ -129,7 +132,7 @@ abbrev pub created : ℕ → Indexes → List ℕ → Option (List ℕ) → Resu
 created before es uid key = do
   refuse_if (is_some (index_at uid es)) (IndexExists uid)
   limits before (is_full es)
-  Ok (with_index uid (record { key = key; store = empty_index.store }) es)
+  Ok (with_index uid (record { key = key; store = empty_index.store; settings = empty_index.settings }) es)
 
 -- an index goes
 abbrev pub dropped : ℕ → Indexes → List ℕ → Result Indexes Refusal
@@ -138,7 +141,7 @@ dropped before es uid = do
   limits before false
   Ok (without_index uid es)
 
--- documents come to an index, which is made where it is not there
+-- documents or settings come to an index, which is made where it is not there
 abbrev pub filled : ℕ → Indexes → List ℕ → KindData → Result Indexes Refusal
 filled before es uid change =
     let there = index_at uid es in
@@ -146,14 +149,14 @@ filled before es uid change =
       i ← index_after before (is_none there && is_full es) (unwrap_or there empty_index) change
       Ok (with_index uid i es)
 
--- documents go from an index
+-- documents go from an index, or its settings become the defaults
 abbrev pub emptied : ℕ → Indexes → List ℕ → KindData → Result Indexes Refusal
 emptied before es uid change = do
   old ← index_named uid es
   i ← index_after before false old change
   Ok (with_index uid i es)
 
--- the indexes after a change of the one named `uid`. (No route makes a change of settings yet.)
+-- the indexes after a change of the one named `uid`
 abbrev pub indexes_after : ℕ → Indexes → List ℕ → KindData → Result Indexes Refusal
 indexes_after before es uid (create key) = created before es uid key
 indexes_after before es uid drop_index = dropped before es uid
@@ -161,8 +164,8 @@ indexes_after before es uid (replace given ds) = filled before es uid (replace g
 indexes_after before es uid (update given ds) = filled before es uid (update given ds)
 indexes_after before es uid (remove ids) = emptied before es uid (remove ids)
 indexes_after before es uid clear = emptied before es uid clear
-indexes_after before es uid (patch members) = Err (NotBuilt (codes "settings"))
-indexes_after before es uid reset = Err (NotBuilt (codes "settings"))
+indexes_after before es uid (patch members) = filled before es uid (patch members)
+indexes_after before es uid reset = emptied before es uid reset
 
 -- what the reply to a change calls it
 abbrev pub type_of : KindData → List ℕ
@@ -190,11 +193,12 @@ slice offset limit xs = take limit (drop offset xs)
 abbrev pub index_rows : Indexes → List Data
 index_rows es = map (λ e. replies.index_data e.0 e.1.key) es
 
-abbrev pub core_call : SearchCall → CoreCall
+abbrev pub core_call : SearchData → CoreCall
 core_call call = record { q = call.q; offset = call.offset; limit = call.limit }
 
-abbrev pub hits_answer : SearchCall → Found → Answer
-hits_answer call f = replies.hits call.q call.offset call.limit f.total f.hits
+-- a hit shows the members that both the settings and the search name
+abbrev pub hits_answer : SearchData → SettingsView → Found → Answer
+hits_answer call s f = replies.hits call.q call.offset call.limit f.total (hits_shown s.displayed_attributes call.retrieve f.hits)
 
 -- one equation a route
 abbrev pub answer_to : Indexes → ReadData → Result Answer Refusal
@@ -210,9 +214,12 @@ answer_to es (document uid id fields) = do
   i ← index_named uid es
   d ← or_refuse (NoDocument id) (document_under id i.store.rows)
   Ok (replies.one_document fields d)
+answer_to es (settings uid) = do
+  i ← index_named uid es
+  Ok (replies.settings i.settings)
 answer_to es (search uid call) = do
   i ← index_named uid es
-  Ok (hits_answer call (found i.store (core_call call)))
+  Ok (hits_answer call i.settings (found i (core_call call)))
 
 abbrev pub outcome : State → CallData → Result Step Refusal
 outcome s (write change) = changed s change.uid change.kind

@@ -1,6 +1,7 @@
 -- How many stored documents a call needs to read.
-use Rattle.std.specs.Prelude.{ℕ, List, length, filter, Option, Some, None, unwrap_or, Result, Ok, Err}
+use Rattle.std.specs.Prelude.{ℕ, List, length, filter, Bool, ◌||◌, codes, Option, Some, None, is_some, unwrap_or, Result, Ok, Err, if◌then◌else◌}
 use Rattle.serde_json.specs.Data.{Data}
+use Rattle.serde_json.specs.Find.{get}
 use Rattle.doc_values.specs.Changes.{KindData, create, drop_index, replace, update, remove, clear, patch, reset}
 use Rattle.doc_store.specs.Store.{Store, externals}
 use Rattle.http_wire.specs.Stream.{Request}
@@ -8,10 +9,11 @@ use Rattle.index_core.specs.Index.{Index, empty_index, documents as documents_in
 use Rattle.index_core.specs.PlanView.{Work, PlanView}
 use Rattle.index_core.specs.PlanView as work
 use Rattle.index_core.specs.Plans.{planned, is_named}
+use Rattle.index_core.specs.Fetches.{needed}
 use Rattle.index_core.specs.Hits.{found}
 use Rattle.index_core.specs.declared.fault.CoreFault.{CoreFault}
 use Rattle.search_calls.specs.declared.refusal.Refusal.{Refusal}
-use Rattle.search_calls.specs.Asked.{ReadData, health, indexes, index, documents, document, search, CallData, write, read}
+use Rattle.search_calls.specs.Asked.{ReadData, health, indexes, index, documents, document, settings, search, CallData, write, read}
 use Rattle.search_calls.specs.Calls.{call_of}
 use Rattle.search_routes.specs.State.{State, Indexes}
 use Rattle.search_routes.specs.Machine.{index_at, slice, core_call}
@@ -22,24 +24,38 @@ use Rattle.search_routes.specs.Machine.{index_at, slice, core_call}
 abbrev pub named_there : List (List ℕ) → Store → ℕ
 named_there ids s = length (filter (is_named ids) s.rows)
 
--- the documents that are added, updated or removed and were there before
-abbrev pub work_need : Work → Store → ℕ
-work_need (work.replace rows) s = named_there (externals rows) s
-work_need (work.update rows) s = named_there (externals rows) s
-work_need (work.remove ids) s = named_there ids s
-work_need work.clear s = 0
+-- The documents that are added, updated or removed and were there before; and all, where other settings search other
+-- paths.
+abbrev pub work_need : Work → Index → ℕ
+work_need (work.replace rows) i = named_there (externals rows) i.store
+work_need (work.update rows) i = named_there (externals rows) i.store
+work_need (work.remove ids) i = named_there ids i.store
+work_need work.clear i = 0
+work_need (work.settle s) i = needed (work.settle s) i
 
 -- a change that is refused by its key or its ids needs none
-abbrev pub plan_need : Result PlanView CoreFault → Store → ℕ
-plan_need (Ok plan) s = work_need plan.work s
-plan_need (Err fault) s = 0
+abbrev pub plan_need : Result PlanView CoreFault → Index → ℕ
+plan_need (Ok plan) i = work_need plan.work i
+plan_need (Err fault) i = 0
 
 abbrev pub documents_need : Index → KindData → ℕ
-documents_need i change = plan_need (planned i change) i.store
+documents_need i change = plan_need (planned i change) i
 
 -- the same of the index that is there, if there is one
 abbrev pub need_in : Option Index → KindData → ℕ
 need_in there change = documents_need (unwrap_or there empty_index) change
+
+-- Whether a patch names a member by which documents are searched, filtered, sorted or ranked: such a patch may need to
+-- read each of them, and any other none.
+abbrev pub needs_documents : Data → Bool
+needs_documents members =
+    is_some (get (codes "searchableAttributes") members) || is_some (get (codes "filterableAttributes") members)
+    || is_some (get (codes "sortableAttributes") members) || is_some (get (codes "rankingRules") members)
+
+-- the documents of the index that is there, if there is one
+abbrev pub stored_in : Option Index → ℕ
+stored_in None = 0
+stored_in (Some i) = length i.store.rows
 
 abbrev pub change_need : Indexes → List ℕ → KindData → ℕ
 change_need es uid (create key) = 0
@@ -48,8 +64,8 @@ change_need es uid (replace given ds) = need_in (index_at uid es) (replace given
 change_need es uid (update given ds) = need_in (index_at uid es) (update given ds)
 change_need es uid (remove ids) = need_in (index_at uid es) (remove ids)
 change_need es uid clear = need_in (index_at uid es) clear
-change_need es uid (patch members) = 0
-change_need es uid reset = 0
+change_need es uid (patch members) = if needs_documents members then stored_in (index_at uid es) else 0
+change_need es uid reset = stored_in (index_at uid es)
 
 -- ---- reads
 
@@ -69,7 +85,8 @@ read_need es (indexes offset limit) = 0
 read_need es (index uid) = 0
 read_need es (documents uid offset limit fields) = there_need (index_at uid es) (λ i. length (slice offset limit (documents_in i)))
 read_need es (document uid id fields) = there_need (index_at uid es) (λ i. one_if_some (document_under id i.store.rows))
-read_need es (search uid call) = there_need (index_at uid es) (λ i. length (found i.store (core_call call)).hits)
+read_need es (settings uid) = 0
+read_need es (search uid call) = there_need (index_at uid es) (λ i. length (found i (core_call call)).hits)
 
 -- ---- calls and requests
 

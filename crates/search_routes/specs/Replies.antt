@@ -4,6 +4,8 @@ use Rattle.serde_json.specs.Data.{Data, null, number, unsigned, string, array, o
 use Rattle.serde_json.specs.View.{items_of}
 use Rattle.serde_json.specs.Written.{compact_text}
 use Rattle.http_wire.specs.Reply.{Answer}
+use Rattle.index_settings.specs.View.{SettingsView}
+use Rattle.index_settings.specs.Json.{settings_data}
 use Rattle.search_routes.specs.Shown.{shown, all_shown}
 
 abbrev pub answer : ℕ → Data → Answer
@@ -43,6 +45,10 @@ index_data uid key = object (member (codes "primaryKey") (text_or_null key) (mem
 
 abbrev pub one_index : List ℕ → Option (List ℕ) → Answer
 one_index uid key = answer 200 (index_data uid key)
+
+-- the settings of an index, all ten members
+abbrev pub settings : SettingsView → Answer
+settings s = answer 200 (settings_data s)
 
 -- ---- lists
 

@@ -7,8 +7,8 @@ ghost use Rattle.doc_values.specs.Ids.{key_of};
 ghost use Rattle.index_core.specs.Index.{empty_index};
 ghost use Rattle.index_core.specs.Plans.{planned, applied};
 ghost use Rattle.index_core.specs.Fetches.{needed};
-ghost use Rattle.search_calls.specs.Gives.{Gives, Checks};
-ghost use Rattle.search_routes.specs.Done.{Grows, Turns, fault_of};
+ghost use Rattle.search_calls.specs.Gives.{Gives, Checks, Turns};
+ghost use Rattle.search_routes.specs.Done.{Grows, fault_of};
 ghost use Rattle.search_routes.specs.Machine.{id_member as id_member_of, id_member_for as id_member_of_change, core_result, limits, index_at, index_after, indexes_after, filled, emptied, type_of as type_in, most_changes};
 ghost use Rattle.search_routes.specs.Needs.{change_need, documents_need, need_in};
 ghost use Rattle.search_routes.specs.Replies.{accepted};
@@ -18,7 +18,7 @@ use doc_values::{Change, ChangeKind, Document, KeyFault, infer_key};
 use http_wire::Reply;
 use index_core::{CoreFault, IndexCore, Plan};
 use search_base::{NoMemory, Steps, Word};
-use search_calls::{Fault, Refusal};
+use search_calls::{Fault, Refusal, settings_fault};
 use std::alloc::Global;
 use std::collections::BTreeMap;
 
@@ -30,6 +30,7 @@ const MOST_CHANGES: u64 = 1_000_000_000;
 const MOST_INDEXES: usize = 1_000;
 
 /// Makes a change after so many accepted ones, and gives its reply. On an error the indexes are as they were.
+#[tactic(auto, using(crate::proofs::NeedLemmas::patch_needs, crate::proofs::NeedLemmas::reset_needs))]
 pub(crate) fn change_indexes<F>(
     alloc: Global,
     indexes: &mut Indexes,
@@ -59,9 +60,11 @@ pub(crate) fn change_indexes<F>(
             empty(alloc, indexes, before, uid, change, fetches)
         }
         ChangeKind::Clear => empty(alloc, indexes, before, uid, ChangeKind::Clear, fetches),
-        ChangeKind::Patch { .. } | ChangeKind::Reset => Err(Fault::from(Refusal::NotBuilt {
-            name: Word::new(alloc, "settings")?,
-        })),
+        ChangeKind::Patch { members } => {
+            let patch = ChangeKind::Patch { members };
+            fill(alloc, indexes, before, uid, patch, fetches)
+        }
+        ChangeKind::Reset => empty(alloc, indexes, before, uid, ChangeKind::Reset, fetches),
     }
 }
 
@@ -108,7 +111,7 @@ fn new_index<F>(
     key: Option<Word>,
     fetches: &mut Steps<F>,
 ) -> Result<IndexCore, NoMemory>
-    ensures index { IfOk result (λ index. index ≡ record { key = key; store = empty_index.store }) }
+    ensures index { IfOk result (λ index. index ≡ record { key = key; store = empty_index.store; settings = empty_index.settings }) }
     ensures fetched { fetches.new ≤ fetches.old }
 {
     let mut index = IndexCore::new(alloc)?;
@@ -271,7 +274,7 @@ fn plan_of(alloc: Global, index: &IndexCore, key: &Word, change: ChangeKind) -> 
 {
     match index.plan(alloc, change) {
         Ok(plan) => Ok(plan),
-        Err(fault) => Err(fault_in(key, fault)),
+        Err(fault) => Err(fault_in(alloc, key, fault)),
     }
 }
 
@@ -284,11 +287,11 @@ fn apply<F>(
 ) -> Result<(), Fault>
     ensures applied { Gives (λ _. index.new) result (core_result key.now (applied plan index.old)) }
     ensures stays { OnErr result (index.new ≡ index.old) }
-    ensures fetched { fetches.new ≤ fetches.old + needed plan.work index.old.store }
+    ensures fetched { fetches.new ≤ fetches.old + needed plan.work index.old }
 {
     match index.apply(alloc, plan, fetches) {
         Ok(()) => Ok(()),
-        Err(fault) => Err(fault_in(key, fault)),
+        Err(fault) => Err(fault_in(alloc, key, fault)),
     }
 }
 
@@ -306,7 +309,7 @@ fn check_limits(before: u64, is_full: bool) -> Result<(), Fault>
 }
 
 // Why a change is not made, by the fault of its index, where documents have their ids under this key.
-fn fault_in(key: &Word, fault: CoreFault) -> Fault
+fn fault_in(alloc: Global, key: &Word, fault: CoreFault) -> Fault
     ensures { Turns (fault_of key.now fault) result }
 {
     match fault {
@@ -317,6 +320,7 @@ fn fault_in(key: &Word, fault: CoreFault) -> Fault
         CoreFault::BadId { document } => Fault::from(Refusal::BadId { document }),
         CoreFault::IdsSpent => Fault::from(Refusal::IdsSpent),
         CoreFault::PathsSpent => Fault::from(Refusal::PathsSpent),
+        CoreFault::Settings(fault) => settings_fault(alloc, fault),
         CoreFault::NoMemory => Fault::NoMemory,
     }
 }

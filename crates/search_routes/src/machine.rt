@@ -18,7 +18,7 @@ use std::marker::Model;
 /// The indexes of a server, each by its uid, and the count of accepted changes.
 #[derive(Drop)]
 pub struct Machine {
-    changes: u64,
+    pub(crate) changes: u64,
     indexes: Indexes,
 }
 

@@ -1,11 +1,11 @@
 // Documents in the bodies of replies: their kept texts are joined, and read back only where some members are left out.
-ghost use Rattle.std.specs.Prelude.{◌≡◌, ◌++◌, ◌∷◌, IfOk, OnOk, map, string_bytes, false};
+ghost use Rattle.std.specs.Prelude.{◌≡◌, ◌++◌, ◌∷◌, IfOk, OnOk, map, filter, string_bytes, false};
 ghost use Rattle.json.specs.Print.{quoted};
 ghost use Rattle.serde_json.specs.Data.{Members, member, array, object};
 ghost use Rattle.serde_json.specs.View.{view, items_of, members_view};
 ghost use Rattle.serde_json.specs.Written.{compact_text, comma_if, has_float, members_text, members_have_float};
 ghost use Rattle.doc_values.specs.Walk.{members_in};
-ghost use Rattle.search_routes.specs.Shown.{is_among as is_among_names, named, all_named, shown, all_shown};
+ghost use Rattle.search_routes.specs.Shown.{is_among as is_among_names, named, all_named, shown, all_shown, common_names as common_names_of};
 ghost use Rattle.search_routes.specs.Replies.{listing_data, hits_data};
 
 use doc_values::DocumentText;
@@ -32,20 +32,21 @@ pub(crate) fn listing_text(
     Ok(text)
 }
 
-/// The body of a search's reply.
+/// The body of a search's reply, with its hits by the members that `names` has.
 pub(crate) fn hits_text(
     alloc: Global,
     q: &str,
     offset: u64,
     limit: u64,
+    names: &[Word],
     total: u64,
     documents: &[&DocumentText],
 ) -> Result<String, NoMemory>
     ensures { IfOk result (λ text. string_bytes text
-        ≡ compact_text (hits_data q.now offset limit total (map (λ d. d.now) documents.now))) }
+        ≡ compact_text (hits_data q.now offset limit total (all_shown names.now (map (λ d. d.now) documents.now)))) }
 {
     let mut text = format!(in alloc; "{{\"estimatedTotalHits\":{total},\"hits\":")?;
-    put_whole(&mut text, documents)?;
+    put_documents(alloc, &mut text, names, documents)?;
     let query = quoted_text(alloc, q)?;
     let rest = format!(in alloc; ",\"limit\":{limit},\"offset\":{offset},\"query\":{query}}}")?;
     text.push_str(&rest)?;
@@ -139,6 +140,46 @@ pub(crate) fn shown_text(
         put_named(alloc, &mut text, fields, document)?;
     }
     Ok(text)
+}
+
+/// The names that both lists have, where `*` in a list stands for all names.
+pub(crate) fn common_names(
+    alloc: Global,
+    displayed: &[Word],
+    retrieve: &[Word],
+) -> Result<Vec<Word>, NoMemory>
+    ensures { IfOk result (λ names. names.items ≡ common_names_of displayed.now retrieve.now) }
+{
+    if is_among(displayed, "*") {
+        return copied(alloc, retrieve);
+    }
+    if is_among(retrieve, "*") {
+        return copied(alloc, displayed);
+    }
+    names_among(alloc, displayed, retrieve)
+}
+
+fn copied(alloc: Global, names: &[Word]) -> Result<Vec<Word>, NoMemory>
+    ensures { IfOk result (λ copy. copy.items ≡ names.now) }
+{
+    let mut copy = Vec::new(alloc);
+    for name in names {
+        copy.push(name.clone()?)?;
+    }
+    Ok(copy)
+}
+
+// Those of the names that are among the others.
+fn names_among(alloc: Global, names: &[Word], others: &[Word]) -> Result<Vec<Word>, NoMemory>
+    ensures { IfOk result (λ kept. kept.items ≡ filter (is_among_names others.now) names.now) }
+{
+    let mut kept = Vec::new(alloc);
+    for name in names {
+        if is_among(others, name.as_str()) {
+            kept.push(name.clone()?)?;
+        }
+    }
+    Ok(kept)
 }
 
 fn is_among(names: &[Word], name: &str) -> bool

@@ -1,14 +1,16 @@
 // The calls that change nothing, one function a route.
 ghost use Rattle.std.specs.Prelude.{◌≡◌, ◌+◌, ◌≤◌};
-ghost use Rattle.search_calls.specs.Asked.{read_view};
+ghost use Rattle.search_calls.specs.Asked.{read_view, search_view};
 ghost use Rattle.search_calls.specs.Asked as asked;
 ghost use Rattle.search_routes.specs.Done.{Sends};
 ghost use Rattle.search_routes.specs.Machine.{answer_to, core_call as core_call_of};
 ghost use Rattle.search_routes.specs.Needs.{read_need};
 
 use crate::changes::Indexes;
+use crate::printing::common_names;
 use crate::replies::{
     document_reply, documents_reply, health_reply, hits_reply, index_reply, indexes_reply,
+    settings_reply,
 };
 use http_wire::Reply;
 use index_core::SearchCall as CoreCall;
@@ -39,6 +41,7 @@ pub(crate) fn read_indexes<F>(
         ReadCall::Document { uid, id, fields } => {
             show_document(alloc, indexes, uid, id, &fields, fetches)
         }
+        ReadCall::Settings { uid } => show_settings(alloc, indexes, uid),
         ReadCall::Search { uid, call } => search(alloc, indexes, uid, call, fetches),
     }
 }
@@ -98,6 +101,15 @@ fn show_document<F>(
     }
 }
 
+fn show_settings(alloc: Global, indexes: &Indexes, uid: Word) -> Result<Reply, Fault>
+    ensures { Sends (answer_to indexes.now.entries (asked.settings uid)) result }
+{
+    let Some(index) = indexes.get(&uid) else {
+        return Err(Fault::from(Refusal::NoIndex { uid }));
+    };
+    Ok(settings_reply(alloc, index.settings())?)
+}
+
 fn search<F>(
     alloc: Global,
     indexes: &Indexes,
@@ -105,12 +117,14 @@ fn search<F>(
     call: SearchCall,
     fetches: &mut Steps<F>,
 ) -> Result<Reply, Fault>
-    ensures answer { Sends (answer_to indexes.now.entries (asked.search uid call)) result }
-    ensures fetched { fetches.new ≤ fetches.old + read_need indexes.now.entries (asked.search uid call) }
+    ensures answer { Sends (answer_to indexes.now.entries (asked.search uid (search_view call))) result }
+    ensures fetched { fetches.new ≤ fetches.old + read_need indexes.now.entries (asked.search uid (search_view call)) }
 {
     let Some(index) = indexes.get(&uid) else {
         return Err(Fault::from(Refusal::NoIndex { uid }));
     };
+    let displayed = index.settings().displayed_attributes();
+    let names = common_names(alloc, displayed, &call.retrieve)?;
     let call = core_call(call);
     let found = index.search(alloc, &call, fetches)?;
     Ok(hits_reply(
@@ -118,14 +132,20 @@ fn search<F>(
         call.q.as_str(),
         call.offset,
         call.limit,
+        &names,
         found.total,
         &found.hits,
     )?)
 }
 
 fn core_call(call: SearchCall) -> CoreCall
-    ensures { result ≡ core_call_of call }
+    ensures { result ≡ core_call_of (search_view call) }
 {
-    let SearchCall { q, offset, limit } = call;
+    let SearchCall {
+        q,
+        offset,
+        limit,
+        retrieve: _,
+    } = call;
     CoreCall { q, offset, limit }
 }

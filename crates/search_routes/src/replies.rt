@@ -5,7 +5,8 @@ ghost use Rattle.serde_json.specs.Data.{Data, array};
 ghost use Rattle.serde_json.specs.View.{view, items_of, items_view};
 ghost use Rattle.serde_json.specs.Written.{has_float, items_have_float};
 ghost use Rattle.http_wire.specs.Sent.{IsSentAs};
-ghost use Rattle.search_routes.specs.Replies.{accepted, change_data, health, health_data, index_data, one_index, one_document, list_data, listing, documents_listing, hits};
+ghost use Rattle.search_routes.specs.Replies.{accepted, change_data, health, health_data, index_data, one_index, one_document, list_data, listing, documents_listing, settings as shown_settings, hits};
+ghost use Rattle.search_routes.specs.Shown.{all_shown};
 ghost use Rattle.search_routes.specs.Machine.{slice, index_rows};
 
 use crate::changes::Indexes;
@@ -13,6 +14,7 @@ use crate::printing::{hits_text, listing_text, shown_text};
 use doc_values::DocumentText;
 use http::StatusCode;
 use http_wire::{Reply, make_reply};
+use index_settings::{Settings, to_json};
 use search_base::{NoMemory, Word};
 use serde_json::{Value, json};
 use std::alloc::{AllocError, Global};
@@ -69,6 +71,15 @@ pub(crate) fn index_value(alloc: Global, uid: &str, key: Option<&Word>) -> Resul
         Some(key) => json!(in alloc; {"primaryKey": key.as_str(), "uid": uid}),
         None => json!(in alloc; {"primaryKey": null, "uid": uid}),
     }
+}
+
+/// The reply that shows the settings of an index.
+pub(crate) fn settings_reply(alloc: Global, settings: &Settings) -> Result<Reply, NoMemory>
+    ensures { IfOk result (λ reply. IsSentAs reply (shown_settings settings.now)) }
+{
+    let value = to_json(alloc, settings)?;
+    let body = value.to_vec(alloc)?;
+    make_reply(alloc, StatusCode::OK, body)
 }
 
 /// The reply that shows the indexes from the place `offset` on, at most `limit` of them, in the order of their uids.
@@ -187,18 +198,19 @@ pub(crate) fn document_reply(
     make_reply(alloc, StatusCode::OK, body.into_bytes())
 }
 
-/// The reply to a search for this text, with its hits out of `total`.
+/// The reply to a search for this text, with its hits out of `total`, each by the members that `names` has.
 pub(crate) fn hits_reply(
     alloc: Global,
     q: &str,
     offset: u64,
     limit: u64,
+    names: &[Word],
     total: u64,
     documents: &[&DocumentText],
 ) -> Result<Reply, NoMemory>
     ensures { IfOk result (λ reply. IsSentAs reply
-        (hits q.now offset limit total (map (λ d. d.now) documents.now))) }
+        (hits q.now offset limit total (all_shown names.now (map (λ d. d.now) documents.now)))) }
 {
-    let body = hits_text(alloc, q, offset, limit, total, documents)?;
+    let body = hits_text(alloc, q, offset, limit, names, total, documents)?;
     make_reply(alloc, StatusCode::OK, body.into_bytes())
 }

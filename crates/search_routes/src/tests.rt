@@ -59,6 +59,66 @@ POST~/indexes/m/documents~[{"id":6},{"id":5,"year":1.0}]~400~number_not_whole~Do
 GET~/indexes/z~~404~index_not_found~No index `z`.
 GET~/indexes/m/documents~~200~{"limit":20,"offset":0,"results":[{"id":1}],"total":1}"#;
 
+const SETTINGS: &str =
+    r#"POST~/indexes/m/documents~[{"id":1,"title":"The Dark Knight","year":2008,"genres":["Action","Drama"]},{"id":2,"title":"Dark Knight Rises","year":2012,"genres":["Action"]}]~202~{"indexUid":"m","status":"succeeded","taskUid":0,"type":"documentAdditionOrUpdate"}
+GET~/indexes/m/settings~~200~{"displayedAttributes":["*"],"distinctAttribute":null,"faceting":{"maxValuesPerFacet":100},"filterableAttributes":[],"pagination":{"maxTotalHits":1000},"rankingRules":["words","typo","proximity","attribute","sort","exactness"],"searchableAttributes":["*"],"sortableAttributes":[],"stopWords":[],"synonyms":{}}
+PATCH~/indexes/m/settings~{"searchableAttributes":["title"]}~202~{"indexUid":"m","status":"succeeded","taskUid":1,"type":"settingsUpdate"}
+POST~/indexes/m/search~{"q":"action"}~200~{"estimatedTotalHits":0,"hits":[],"limit":20,"offset":0,"query":"action"}
+PATCH~/indexes/m/settings~{"displayedAttributes":["id"]}~202~{"indexUid":"m","status":"succeeded","taskUid":2,"type":"settingsUpdate"}
+POST~/indexes/m/search~{"limit":1}~200~{"estimatedTotalHits":2,"hits":[{"id":1}],"limit":1,"offset":0,"query":""}
+PATCH~/indexes/m/settings~{"distinctAttribute":"year"}~501~not_built~Not built: `distinctAttribute`.
+POST~/indexes/m/search~{"limit":1,"attributesToRetrieve":["id","title"]}~200~{"estimatedTotalHits":2,"hits":[{"id":1}],"limit":1,"offset":0,"query":""}
+POST~/indexes/m/search~{"limit":1,"attributesToRetrieve":["title"]}~200~{"estimatedTotalHits":2,"hits":[{}],"limit":1,"offset":0,"query":""}
+GET~/indexes/m/documents/1?fields=title~~200~{"title":"The Dark Knight"}
+GET~/indexes/m/settings~~200~{"displayedAttributes":["id"],"distinctAttribute":null,"faceting":{"maxValuesPerFacet":100},"filterableAttributes":[],"pagination":{"maxTotalHits":1000},"rankingRules":["words","typo","proximity","attribute","sort","exactness"],"searchableAttributes":["title"],"sortableAttributes":[],"stopWords":[],"synonyms":{}}
+PATCH~/indexes/m/settings~{"displayedAttributes":["year","id","title"],"pagination":{"maxTotalHits":1}}~202~{"indexUid":"m","status":"succeeded","taskUid":3,"type":"settingsUpdate"}
+POST~/indexes/m/search~{"attributesToRetrieve":["title","year"]}~200~{"estimatedTotalHits":1,"hits":[{"title":"The Dark Knight","year":2008}],"limit":20,"offset":0,"query":""}
+POST~/indexes/m/search~{"offset":1}~200~{"estimatedTotalHits":1,"hits":[],"limit":20,"offset":1,"query":""}
+PATCH~/indexes/m/settings~{"displayedAttributes":null,"stopWords":["the"]}~202~{"indexUid":"m","status":"succeeded","taskUid":4,"type":"settingsUpdate"}
+POST~/indexes/m/search~{"q":"the knight","attributesToRetrieve":["year","x"]}~200~{"estimatedTotalHits":1,"hits":[{"year":2008}],"limit":20,"offset":0,"query":"the knight"}
+POST~/indexes/m/search~{"q":"the","attributesToRetrieve":["x","*"]}~200~{"estimatedTotalHits":1,"hits":[{"genres":["Action","Drama"],"id":1,"title":"The Dark Knight","year":2008}],"limit":20,"offset":0,"query":"the"}
+PATCH~/indexes/m/settings~{"stopWords":["the dark",""]}~202~{"indexUid":"m","status":"succeeded","taskUid":5,"type":"settingsUpdate"}
+POST~/indexes/m/search~{"q":"the knight","attributesToRetrieve":["id"]}~200~{"estimatedTotalHits":1,"hits":[{"id":1}],"limit":20,"offset":0,"query":"the knight"}
+DELETE~/indexes/m/settings~~202~{"indexUid":"m","status":"succeeded","taskUid":6,"type":"settingsUpdate"}
+POST~/indexes/m/search~{"q":"action","attributesToRetrieve":[]}~200~{"estimatedTotalHits":2,"hits":[{},{}],"limit":20,"offset":0,"query":"action"}
+GET~/indexes/m/settings~~200~{"displayedAttributes":["*"],"distinctAttribute":null,"faceting":{"maxValuesPerFacet":100},"filterableAttributes":[],"pagination":{"maxTotalHits":1000},"rankingRules":["words","typo","proximity","attribute","sort","exactness"],"searchableAttributes":["*"],"sortableAttributes":[],"stopWords":[],"synonyms":{}}"#;
+
+const MADE_BY_A_PATCH: &str = r#"GET~/indexes/s/settings~~404~index_not_found~No index `s`.
+DELETE~/indexes/s/settings~~404~index_not_found~No index `s`.
+PATCH~/indexes/s/settings~{"synonyms":{"b":["c"],"a":[]}}~202~{"indexUid":"s","status":"succeeded","taskUid":0,"type":"settingsUpdate"}
+GET~/indexes/s~~200~{"primaryKey":null,"uid":"s"}
+PATCH~/indexes/s/settings~{"faceting":{"maxValuesPerFacet":1000000},"rankingRules":["year:desc"],"sortableAttributes":["year"]}~202~{"indexUid":"s","status":"succeeded","taskUid":1,"type":"settingsUpdate"}
+GET~/indexes/s/settings~~200~{"displayedAttributes":["*"],"distinctAttribute":null,"faceting":{"maxValuesPerFacet":1000000},"filterableAttributes":[],"pagination":{"maxTotalHits":1000},"rankingRules":["year:desc"],"searchableAttributes":["*"],"sortableAttributes":["year"],"stopWords":[],"synonyms":{"a":[],"b":["c"]}}
+POST~/indexes/s/documents~{"id":1,"title":"x"}~202~{"indexUid":"s","status":"succeeded","taskUid":2,"type":"documentAdditionOrUpdate"}
+GET~/indexes/s~~200~{"primaryKey":"id","uid":"s"}
+DELETE~/indexes/s/documents~~202~{"indexUid":"s","status":"succeeded","taskUid":3,"type":"documentDeletion"}
+GET~/indexes/s/settings~~200~{"displayedAttributes":["*"],"distinctAttribute":null,"faceting":{"maxValuesPerFacet":1000000},"filterableAttributes":[],"pagination":{"maxTotalHits":1000},"rankingRules":["year:desc"],"searchableAttributes":["*"],"sortableAttributes":["year"],"stopWords":[],"synonyms":{"a":[],"b":["c"]}}
+DELETE~/indexes/s/settings~~202~{"indexUid":"s","status":"succeeded","taskUid":4,"type":"settingsUpdate"}
+GET~/indexes/s/settings~~200~{"displayedAttributes":["*"],"distinctAttribute":null,"faceting":{"maxValuesPerFacet":100},"filterableAttributes":[],"pagination":{"maxTotalHits":1000},"rankingRules":["words","typo","proximity","attribute","sort","exactness"],"searchableAttributes":["*"],"sortableAttributes":[],"stopWords":[],"synonyms":{}}"#;
+
+const BAD_SETTINGS: &str =
+    r#"POST~/indexes/m/documents~[{"id":1,"title":"The Dark"}]~202~{"indexUid":"m","status":"succeeded","taskUid":0,"type":"documentAdditionOrUpdate"}
+PATCH~/indexes/m/settings~[]~400~bad_request~Unknown or malformed `body`.
+PATCH~/indexes/m/settings~{"zz":1}~400~bad_request~Unknown or malformed `zz`.
+PATCH~/indexes/m/settings~{"displayedAttributes":[],"stopWords":"the"}~400~invalid_settings~Invalid `stopWords`.
+PATCH~/indexes/m/settings~{"pagination":{"maxTotalHits":1.0}}~400~invalid_settings~Invalid `pagination.maxTotalHits`.
+PATCH~/indexes/m/settings~{"rankingRules":["words","year"]}~400~invalid_settings_ranking_rules~Invalid ranking rule `year`.
+PATCH~/indexes/z/settings~{"displayedAttributes":[],"distinctAttribute":"year"}~501~not_built~Not built: `distinctAttribute`.
+GET~/indexes/z/settings~~404~index_not_found~No index `z`.
+DELETE~/indexes/z/settings~~404~index_not_found~No index `z`.
+POST~/indexes/m/search~{"attributesToRetrieve":"id"}~501~not_built~Not built: `attributesToRetrieve`.
+POST~/indexes/m/search~~200~{"estimatedTotalHits":1,"hits":[{"id":1,"title":"The Dark"}],"limit":20,"offset":0,"query":""}"#;
+
+const NUMBERS_AND_PATHS: &str =
+    r#"POST~/indexes/n/documents~{"id":-9223372036854775808,"n":18446744073709551615}~202~{"indexUid":"n","status":"succeeded","taskUid":0,"type":"documentAdditionOrUpdate"}
+GET~/indexes/n/documents/-9223372036854775808~~200~{"id":-9223372036854775808,"n":18446744073709551615}
+POST~/indexes/n/documents~[{"id":1},{"id":2,"n":[18446744073709551616]}]~400~number_not_whole~Document 2 has a number at `n` that is not whole.
+PUT~/indexes/n/documents~{"id":1,"n":-9223372036854775809}~400~number_not_whole~Document 1 has a number at `n` that is not whole.
+POST~/indexes/n/documents~{"id":"p","a":[{"b":"left"},{"b":["right"]}],"a.b":"top"}~202~{"indexUid":"n","status":"succeeded","taskUid":1,"type":"documentAdditionOrUpdate"}
+POST~/indexes/n/search~{"q":"left right top"}~200~{"estimatedTotalHits":1,"hits":[{"a":[{"b":"left"},{"b":["right"]}],"a.b":"top","id":"p"}],"limit":20,"offset":0,"query":"left right top"}
+PATCH~/indexes/n/settings~{"searchableAttributes":["a"]}~202~{"indexUid":"n","status":"succeeded","taskUid":2,"type":"settingsUpdate"}
+POST~/indexes/n/search~{"q":"top","attributesToRetrieve":["a.b"]}~200~{"estimatedTotalHits":1,"hits":[{"a.b":"top"}],"limit":20,"offset":0,"query":"top"}"#;
+
 // The status and the body of the reply to a request.
 fn reply_to(
     alloc: Global,
@@ -182,6 +242,71 @@ fn each_refusal_alone_and_before_a_later_one(rt: HostRuntime) -> Result<(), Fail
     )?;
     check_table(&rt, alloc, &mut machine, REFUSALS)?;
     assert_eq!(rt; machine.changes(), 1);
+    Ok(())
+}
+
+#[test]
+fn settings_that_are_patched_and_reset(rt: HostRuntime) -> Result<(), Fail> {
+    let mut machine = Machine::new(rt.alloc())?;
+    check_table(&rt, rt.alloc(), &mut machine, SETTINGS)
+}
+
+#[test]
+fn an_index_made_by_a_patch(rt: HostRuntime) -> Result<(), Fail> {
+    let mut machine = Machine::new(rt.alloc())?;
+    check_table(&rt, rt.alloc(), &mut machine, MADE_BY_A_PATCH)
+}
+
+#[test]
+fn settings_that_are_refused(rt: HostRuntime) -> Result<(), Fail> {
+    let mut machine = Machine::new(rt.alloc())?;
+    check_table(&rt, rt.alloc(), &mut machine, BAD_SETTINGS)?;
+    assert_eq!(rt; machine.changes(), 1);
+    Ok(())
+}
+
+#[test]
+fn numbers_at_their_limits_and_one_path_from_several_places(rt: HostRuntime) -> Result<(), Fail> {
+    let mut machine = Machine::new(rt.alloc())?;
+    check_table(&rt, rt.alloc(), &mut machine, NUMBERS_AND_PATHS)
+}
+
+#[test]
+fn the_last_change_that_is_accepted(rt: HostRuntime) -> Result<(), Fail> {
+    let alloc = rt.alloc();
+    let mut machine = Machine::new(alloc)?;
+    machine.changes = 999_999_999;
+    let m = "/indexes/m/documents";
+    accepts(&rt, alloc, &mut machine, "POST", m, "{\"id\":1}")?;
+    let spent = refusal(alloc, "400", "changes_spent", "No more changes.")?;
+    refuses(&rt, alloc, &mut machine, "POST", m, "[]", &spent)?;
+    refuses(
+        &rt,
+        alloc,
+        &mut machine,
+        "PATCH",
+        "/indexes/m/settings",
+        "{}",
+        &spent,
+    )?;
+    refuses(
+        &rt,
+        alloc,
+        &mut machine,
+        "PATCH",
+        "/indexes/z/settings",
+        "{}",
+        &spent,
+    )?;
+    refuses(&rt, alloc, &mut machine, "DELETE", "/indexes/m", "", &spent)?;
+    let missing = refusal(
+        alloc,
+        "400",
+        "missing_document_id",
+        "Document 1 has no `id`.",
+    )?;
+    refuses(&rt, alloc, &mut machine, "POST", m, "{}", &missing)?;
+    assert_eq!(rt; machine.changes(), 1_000_000_000);
     Ok(())
 }
 

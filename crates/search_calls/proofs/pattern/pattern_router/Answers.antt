@@ -5,7 +5,7 @@ use Rattle.matchit.specs.Rows.{RowsOf}
 use Rattle.matchit.specs.Router.{RouteOf}
 use Rattle.matchit.specs.Order.{lookup}
 use Rattle.search_calls.specs.declared.pattern.Pattern.{Pattern}
-use Rattle.search_calls.specs.declared.pattern.Pattern.TheVariants.{Health, Indexes, Index, Documents, Document, DeleteBatch, Search}
+use Rattle.search_calls.specs.declared.pattern.Pattern.TheVariants.{Health, Indexes, Index, Documents, Document, DeleteBatch, Settings, Search}
 use Rattle.search_calls.specs.Masked.{FindsPatterns, pattern_of}
 use Rattle.search_calls.proofs.Literals.{AreLiteral, first_literal, literal_from_test}
 use Rattle.search_calls.proofs.pattern.pattern_router.Goals as goal
@@ -23,6 +23,7 @@ rows =
     ∷ route (codes "/indexes/_/documents/delete-batch") DeleteBatch
     ∷ route (codes "/indexes/_/documents") Documents
     ∷ route (codes "/indexes/_/search") Search
+    ∷ route (codes "/indexes/_/settings") Settings
     ∷ route (codes "/indexes/_") Index
     ∷ route (codes "/indexes") Indexes
     ∷ []
@@ -42,6 +43,6 @@ literal = literal_from_test rows refl
 pub returns : goal.returns
 unfolding matchit_on_literals rows
 returns c =
-    let same : c.insert-7.new.self ≡ rows =
-    rw (c.in_ok-insert-7.ensures.1, c.in_ok-insert-6.ensures.1, c.in_ok-insert-5.ensures.1, c.in_ok-insert-4.ensures.1, c.in_ok-insert-3.ensures.1, c.in_ok-insert-2.ensures.1, c.in_ok-insert.ensures.1, c.new-router.ensures) in
+    let same : c.insert-8.new.self ≡ rows =
+    rw (c.in_ok-insert-8.ensures.1, c.in_ok-insert-7.ensures.1, c.in_ok-insert-6.ensures.1, c.in_ok-insert-5.ensures.1, c.in_ok-insert-4.ensures.1, c.in_ok-insert-3.ensures.1, c.in_ok-insert-2.ensures.1, c.in_ok-insert.ensures.1, c.new-router.ensures) in
     subst FindsPatterns (sym same) (record { each = λ text. ap (λ v. option_map (λ r. r.value) v) (first_literal rows text literal) ∙ finds text })
