@@ -6,3 +6,5 @@ pub mod LookupLemmas
 pub mod RangeLemmas
 pub mod FreshLemmas
 pub mod EventLemmas
+pub mod ChangeLemmas
+pub mod SameLemmas

@@ -142,7 +142,7 @@ module _ {K : Type 0} (cmp : K → K → Ordering) (o : IsTotalOrder cmp) where
   is_equal Greater h = absurd (cc)
 
   -- the keys after one that is tied with k
-  rest_absent : (k : K) (e : K × SetView) (es : List (K × SetView)) → IsStrictlySortedBy cmp (keys_of (e ∷ es)) → is_eq (cmp k e.0) ≡ true → IsAbsent k es
+  pub rest_absent : {X : Type 0} (k : K) (e : K × X) (es : List (K × X)) → IsStrictlySortedBy cmp (keys_of (e ∷ es)) → is_eq (cmp k e.0) ≡ true → IsAbsent k es
   rest_absent k e es up h = absent_below k es (below_tied k e.0 es (is_equal _ h) (below_rest e es up))
 
   pub table-take : (k : K) (id : ℕ) (s w : SetView) (es : List (K × SetView)) → IsStrictlySortedBy cmp (keys_of es)
