@@ -1,7 +1,6 @@
 -- How tables of sets change.
 pub mod TableLemmas
 pub mod RoomLemmas
-pub mod CountLemmas
 pub mod LookupLemmas
 pub mod RangeLemmas
 pub mod FreshLemmas

@@ -21,7 +21,8 @@ use Rattle.postings.specs.declared.delta.KeyChange.{KeyChange}
 use Rattle.postings.specs.Table.{Table, table_of, some_ids, shown, put_in, take_out}
 use Rattle.postings.specs.Changes.{takes, puts, count_of, ids_of, DeltaView, changed, IsSameChange}
 use Rattle.postings.specs.KeyChanges.{list_at, gone_at, come_at, ids_in, rows_by, rows_of_changes, without_each, with_each, changed_ids}
-use Rattle.postings.proofs.TableLemmas.{IsAbsent, IsBelow, lookup-absent, absent_below, rest_absent, lookup-table}
+use Rattle.postings.proofs.TableLemmas.{IsAbsent, IsBelow, lookup-absent, rest_absent, lookup-table}
+use Rattle.postings.proofs.RoomLemmas.{spare_of}
 use Rattle.postings.proofs.LookupLemmas.{Rises, at, at-put_in, at-take_out, rises-put_in, rises-take_out, rises_table}
 use Rattle.postings.proofs.FreshLemmas.{unwrapped, never_empty, rises_puts, rises_takes}
 
@@ -200,3 +201,17 @@ all-changed es m n up mp np h d same =
     ∙ ap₂ (λ a b. ins a (outs b (at key_cmp key_total q (table_of m)))) (same.come q ∙ ids-rows (λ c. c.come.items) q es up) (same.gone q ∙ ids-rows (λ c. c.gone.items) q es up)
     ∙ ap (λ v. ins (come_at q es) (outs (gone_at q es) v)) (table-at q m mp)
     ∙ ap (ins (come_at q es)) (outs-some (gone_at q es) (ids_in q m)) ∙ ins-some (come_at q es) (without_each (gone_at q es) (ids_in q m))))
+
+-- what a set is that is made where there is none
+pub made_ids : (o : Option SetView) (s : SetView) → s.ids ≡ [] → (unwrap_or o s).ids ≡ unwrap_or (option_map (λ v. v.ids) o) []
+made_ids None s h = h
+made_ids (Some v) s h = refl
+
+pub made_spare : (o : Option SetView) (s : SetView) → spare_of o ≤ (unwrap_or o s).spare
+made_spare None s = omega arith
+made_spare (Some v) s = omega arith
+
+-- maps with the same ids at each key
+pub table-alike : (m n : List (Key × SetView)) → IsStrictlySortedBy key_cmp (keys_of m) → IsStrictlySortedBy key_cmp (keys_of n) → ((q : Key) → ids_in q n ≡ ids_in q m) → table_of n ≡ table_of m
+table-alike m n mp np h = extensional (table_of n) (table_of m) (rises_table key_cmp key_total n np) (rises_table key_cmp key_total m mp)
+    (λ q. table-at q n np ∙ ap some_ids (h q) ∙ sym (table-at q m mp))

@@ -1,15 +1,15 @@
-ghost use Rattle.std.specs.Prelude.{◌≡◌, ℕ, ◌+◌, ◌≤◌, false, [], length, OnOk, Some, if◌then◌else◌};
+ghost use Rattle.std.specs.Prelude.{◌≡◌, ◌≤◌, false, [], length, OnOk, Some, if◌then◌else◌};
 ghost use Rattle.std.specs.Option.{option_map};
 ghost use Rattle.std.specs.BTreeMap.{get};
 ghost use Rattle.std.specs.Bool.{OnTrue};
 ghost use Rattle.std.specs.Ordering.{is_eq};
 ghost use Rattle.index_key.specs.declared.Key.{Key as KeyData};
 ghost use Rattle.index_key.specs.KeyOrder.{key_cmp};
-ghost use Rattle.postings.specs.Table.{table_of, put_in, room_at};
-ghost use Rattle.postings.specs.Changes.{puts, changed, DeltaView, IsSameChange};
+ghost use Rattle.postings.specs.Table.{table_of, room_at};
+ghost use Rattle.postings.specs.Changes.{changed, DeltaView, IsSameChange};
 ghost use Rattle.postings.specs.KeyChanges.{come_at, ids_in, changed_ids, rows_of_changes};
 
-use crate::delta::{KeyChange, KeyChanges, KeyRow};
+use crate::delta::{KeyChange, KeyChanges};
 use crate::key_changes::copy_key;
 use doc_sets::DocSet;
 use index_key::Key;
@@ -19,20 +19,6 @@ use std::collections::BTreeMap;
 
 // Sets by key. A key whose set is empty only holds room.
 pub(crate) type Map = BTreeMap<Key, DocSet>;
-
-// Puts a row in where there is room.
-fn put_row(map: &mut Map, row: &KeyRow)
-    requires { 1 ≤ room_at key_cmp row.now.key map.old.entries }
-    ensures table { table_of map.new.entries ≡ put_in key_cmp row.now.key row.now.id.0 (table_of map.old.entries) }
-    ensures room { (k : KeyData) → room_at key_cmp k map.old.entries ≤ room_at key_cmp k map.new.entries + (if is_eq (key_cmp k row.now.key) then 1 else 0) }
-{
-    match map.get_mut(&row.key) {
-        Some(set) => {
-            let _new = set.insert_reserved(row.id);
-        }
-        None => unreachable!(),
-    }
-}
 
 // Whether the key has an empty set.
 fn is_spent(map: &Map, key: &Key) -> bool
@@ -59,27 +45,8 @@ fn reserve_key(alloc: Global, map: &mut Map, key: Key, extra: usize) -> Result<(
     ensures room { (k : KeyData) → room_at key_cmp k map.old.entries ≤ room_at key_cmp k map.new.entries }
     ensures made { OnOk result (extra ≤ room_at key_cmp key map.new.entries) }
 {
-    match map.get_mut(&key) {
-        Some(set) => {
-            set.reserve(extra)?;
-            return Ok(());
-        }
-        None => {}
-    }
-    let mut set = DocSet::new(alloc);
+    let set = map.entry(key)?.or_insert(DocSet::new(alloc));
     set.reserve(extra)?;
-    map.insert(key, set)?;
-    Ok(())
-}
-
-// Puts rows in, and takes the memory for it.
-pub(crate) fn add_rows(alloc: Global, map: &mut Map, rows: &[KeyRow]) -> Result<(), NoMemory>
-    ensures { OnOk result (table_of map.new.entries ≡ puts rows.now (table_of map.old.entries)) }
-{
-    for row in rows {
-        reserve_key(alloc, map, copy_key(&row.key)?, 1)?;
-        put_row(map, row);
-    }
     Ok(())
 }
 

@@ -7,7 +7,7 @@ ghost use Rattle.postings.specs.Fresh.{KeepsFresh};
 
 use crate::delta::{Delta, KeyRow, Prepared};
 use crate::key_changes::group_rows;
-use crate::key_map::{Map, add_rows, apply_changes, drop_empties, reserve_changes};
+use crate::key_map::{Map, apply_changes, drop_empties, reserve_changes};
 use crate::key_range::KeyRange;
 use doc_sets::DocSet;
 use index_key::Key;
@@ -45,8 +45,11 @@ impl Postings {
     pub fn build(alloc: Global, rows: &[KeyRow]) -> Result<Postings, NoMemory>
         ensures { IfOk result (λ postings. table postings ≡ puts rows.now []) }
     {
+        let changes = group_rows(alloc, &[], rows)?;
+        let _keys = changes.len();
         let mut map: Map = BTreeMap::new(alloc);
-        add_rows(alloc, &mut map, rows)?;
+        reserve_changes(alloc, &mut map, &changes)?;
+        apply_changes(&mut map, &changes);
         Ok(Postings { map })
     }
 
@@ -99,7 +102,7 @@ impl Postings {
     }
 
     /// Makes a change that was prepared on these postings as they are. It takes no memory and cannot
-    /// be refused. Whatever change is the same at each key, the sets are as it makes them.
+    /// be refused. The sets are then as any change makes them that is the same at each key.
     pub fn commit(&mut self, prepared: Prepared)
         requires { HasRoom self.old prepared.come }
         ensures table { (d : DeltaView) → IsSameChange d prepared → table self.new ≡ changed d (table self.old) }
