@@ -26,11 +26,11 @@ pub record Standing (t : Table Key) (m : Key → ℕ → Bool) : Type 0 where
 pub same_members : (t : Table Key) (m n : Key → ℕ → Bool) → ((q : Key) (i : ℕ) → m q i ≡ n q i) → Standing t m → Standing t n
 same_members t m n e h = record { sets = h.sets; known = h.known; up = h.up; members = λ q i. h.members q i ∙ e q i }
 
-unwrapped : (xs : List ℕ) → unwrap_or (some_ids xs) [] ≡ xs
+pub unwrapped : (xs : List ℕ) → unwrap_or (some_ids xs) [] ≡ xs
 unwrapped [] = refl
 unwrapped (x ∷ xs) = refl
 
-never_empty : (d : ℕ) (xs : List ℕ) → Some (with_id d xs) ≡ some_ids (with_id d xs)
+pub never_empty : (d : ℕ) (xs : List ℕ) → Some (with_id d xs) ≡ some_ids (with_id d xs)
 never_empty d [] = refl
 never_empty d (x ∷ xs) = cond_both (ltb d x) _ _ (λ v. Some v ≡ some_ids v) (λ _. refl)
     (λ _. cond_both (eqb d x) _ _ (λ v. Some v ≡ some_ids v) (λ _. refl) (λ _. refl))

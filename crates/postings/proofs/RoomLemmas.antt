@@ -1,5 +1,5 @@
 -- What an edit of a map's entries does to the room at each key.
-use Rattle.std.proofs.Common.{◌≡◌, ℕ, ◌+◌, ◌≤◌, Bool, true, false, cond, List, [], ◌∷◌, Option, None, Some, refl, sym, ap, ap₂, ◌∙◌, if◌then◌else◌, arith, inl, inr, ◌⊎◌}
+use Rattle.std.proofs.Common.{◌≡◌, ℕ, ◌+◌, ◌≤◌, Bool, true, false, cond, List, [], ◌∷◌, Option, Some, refl, sym, ap, ap₂, ◌∙◌, if◌then◌else◌, arith}
 use Rattle.std.specs.Option.{option_map, unwrap_or}
 use Rattle.std.specs.declared.cmp.Ordering.{Ordering}
 use Rattle.std.specs.declared.cmp.Ordering.TheVariants.{Less, Equal, Greater}
@@ -56,42 +56,3 @@ module _ {K : Type 0} (cmp : K → K → Ordering) (o : IsTotalOrder cmp) where
       same : (b : Bool) → ◌≡◌ {A = ℕ} (cond {A = ℕ} b 0 0) 0
       same true = refl
       same false = refl
-
-  -- one more at the key k
-  pub counted : (k q : K) (n : ℕ) (m m' : List (K × ℕ)) → n ≡ unwrap_or (lookup (is_at (cmp k)) m) 0 → lookup (is_at (cmp q)) m' ≡ cond (is_at (cmp k) q) (Some (n + 1)) (lookup (is_at (cmp q)) m)
-      → unwrap_or (lookup (is_at (cmp q)) m') 0 ≡ unwrap_or (lookup (is_at (cmp q)) m) 0 + (if is_eq (cmp q k) then 1 else 0)
-  counted k q n m m' e h = by (is_eq (cmp k q)) refl
-    where
-      by : (b : Bool) → b ≡ is_eq (cmp k q) → unwrap_or (lookup (is_at (cmp q)) m') 0 ≡ unwrap_or (lookup (is_at (cmp q)) m) 0 + (if is_eq (cmp q k) then 1 else 0)
-      by true s =
-          let before : unwrap_or (lookup (is_at (cmp q)) m) 0 ≡ n = ap (λ a. unwrap_or a 0) (lookup-tied k q m (is_equal _ (sym s))) ∙ sym e in
-          let after : unwrap_or (lookup (is_at (cmp q)) m') 0 ≡ n + 1 = ap (λ a. unwrap_or a 0) (h ∙ cond-true _ _ _ (sym s)) in
-          let more : ◌≡◌ {A = ℕ} (cond {A = ℕ} (is_eq (cmp q k)) 1 0) 1 = cond-true _ _ _ ((eq_by_cmp_equiv o).symm q k ∙ sym s) in
-          omega (arith, before, after, more)
-      by false s =
-          let after : unwrap_or (lookup (is_at (cmp q)) m') 0 ≡ unwrap_or (lookup (is_at (cmp q)) m) 0 = ap (λ a. unwrap_or a 0) (h ∙ cond-false _ _ _ (sym s)) in
-          let more : ◌≡◌ {A = ℕ} (cond {A = ℕ} (is_eq (cmp q k)) 1 0) 0 = cond-false _ _ _ ((eq_by_cmp_equiv o).symm q k ∙ sym s) in
-          omega (arith, after, more)
-
-  -- a key's count is met, or is still to come
-  abbrev pub Met : List (K × ℕ) → List (K × ℕ) → List (K × SetView) → Type 0
-  Met all left m = (k : K) → (unwrap_or (lookup (is_at (cmp k)) all) 0 ≤ room_at cmp k m) ⊎ (lookup (is_at (cmp k)) left ≡ lookup (is_at (cmp k)) all)
-
-  pub met-next : (key : K) (n : ℕ) (all left : List (K × ℕ)) (m m' : List (K × SetView)) → Met all ((key, n) ∷ left) m → ((q : K) → room_at cmp q m ≤ room_at cmp q m') → n ≤ room_at cmp key m' → Met all left m'
-  met-next key n all left m m' h up made k = by (is_eq (cmp k key)) refl (h k)
-    where
-      by : (b : Bool) → b ≡ is_eq (cmp k key) → ((unwrap_or (lookup (is_at (cmp k)) all) 0 ≤ room_at cmp k m) ⊎ (lookup (is_at (cmp k)) ((key, n) ∷ left) ≡ lookup (is_at (cmp k)) all))
-          → (unwrap_or (lookup (is_at (cmp k)) all) 0 ≤ room_at cmp k m') ⊎ (lookup (is_at (cmp k)) left ≡ lookup (is_at (cmp k)) all)
-      by b s (inl le) = inl (omega (arith, le, up k))
-      by true s (inr e) =
-          let count : unwrap_or (lookup (is_at (cmp k)) all) 0 ≡ n = ap (λ a. unwrap_or a 0) (sym e ∙ cond-true _ _ _ (sym s)) in
-          let room : room_at cmp key m' ≡ room_at cmp k m' = ap spare_of (lookup-tied k key m' (is_equal _ (sym s))) in
-          inl (omega (arith, count, room, made))
-      by false s (inr e) = inr (sym (cond-false _ _ _ (sym s)) ∙ e)
-
-  pub met-end : (all : List (K × ℕ)) (m : List (K × SetView)) → Met all [] m → (k : K) → unwrap_or (lookup (is_at (cmp k)) all) 0 ≤ room_at cmp k m
-  met-end all m h k = by (h k)
-    where
-      by : (unwrap_or (lookup (is_at (cmp k)) all) 0 ≤ room_at cmp k m) ⊎ (None ≡ lookup (is_at (cmp k)) all) → unwrap_or (lookup (is_at (cmp k)) all) 0 ≤ room_at cmp k m
-      by (inl le) = le
-      by (inr e) = let none : unwrap_or (lookup (is_at (cmp k)) all) 0 ≡ 0 = ap (λ a. unwrap_or a 0) (sym e) in omega (arith, none)

@@ -1,6 +1,7 @@
 -- A change of a table: rows that go, and then rows that come.
-use Rattle.std.specs.Prelude.{ℕ, ◌≤◌, ◌+◌, ◌==◌, Bool, false, ◌&&◌, ◌||◌, List, [], ◌∷◌, if◌then◌else◌}
+use Rattle.std.specs.Prelude.{ℕ, ◌≡◌, ◌≤◌, ◌+◌, ◌==◌, Bool, false, ◌&&◌, ◌||◌, List, [], ◌∷◌, if◌then◌else◌}
 use Rattle.std.specs.Ordering.{is_eq}
+use Rattle.search_base.specs.declared.document.DocId.{DocId}
 use Rattle.index_key.specs.declared.Key.{Key}
 use Rattle.index_key.specs.KeyOrder.{key_cmp}
 use Rattle.postings.specs.declared.delta.KeyRow.{KeyRow}
@@ -27,6 +28,11 @@ abbrev pub has_row : Key → ℕ → List KeyRow → Bool
 has_row k id [] = false
 has_row k id (r ∷ rs) = (is_eq (key_cmp k r.key) && (r.id.0 == id)) || has_row k id rs
 
+-- the documents of the rows that have the key, in the order of the rows
+abbrev pub ids_of : Key → List KeyRow → List DocId
+ids_of k [] = []
+ids_of k (r ∷ rs) = if is_eq (key_cmp k r.key) then r.id ∷ ids_of k rs else ids_of k rs
+
 -- the rows fit without memory
 pub record HasRoom (p : PostingsView) (rows : List KeyRow) : Type 0 where
   pub each : (k : Key) → count_of k rows ≤ room_for k p
@@ -39,3 +45,8 @@ pub record DeltaView : Type 0 where
 -- the table after the change
 abbrev pub changed : DeltaView → Table Key → Table Key
 changed d t = puts d.come (takes d.gone t)
+
+-- at each key the same documents go and come, in the same order
+pub record IsSameChange (d e : DeltaView) : Type 0 where
+  pub gone : (k : Key) → ids_of k d.gone ≡ ids_of k e.gone
+  pub come : (k : Key) → ids_of k d.come ≡ ids_of k e.come

@@ -2,5 +2,6 @@
 pub mod Table
 pub mod PostingsView
 pub mod Changes
+pub mod KeyChanges
 pub mod RangeRows
 pub mod Fresh

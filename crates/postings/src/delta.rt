@@ -1,5 +1,6 @@
 use index_key::Key;
 use search_base::DocId;
+use std::collections::BTreeMap;
 use std::marker::Model;
 
 /// That a document has a key.
@@ -25,17 +26,27 @@ impl Model for Delta {
     ghost view = { λ d. record { gone = d.gone.items; come = d.come.items } };
 }
 
+// The documents that a key loses, and then those that it gains.
+#[derive(Debug, Drop)]
+pub(crate) struct KeyChange {
+    pub(crate) gone: Vec<DocId>,
+    pub(crate) come: Vec<DocId>,
+}
+
+// Changes by key.
+pub(crate) type KeyChanges = BTreeMap<Key, KeyChange>;
+
 /// A change whose memory was taken.
 #[derive(Debug, Drop)]
 pub struct Prepared {
-    pub(crate) gone: Vec<KeyRow>,
-    pub(crate) come: Vec<KeyRow>,
+    pub(crate) changes: KeyChanges,
 }
 
 impl Model for Prepared {
     ghost use Rattle.postings.specs.Changes.{DeltaView};
+    ghost use Rattle.postings.specs.KeyChanges.{rows_of_changes};
 
     ghost Value = { DeltaView };
 
-    ghost view = { λ d. record { gone = d.gone.items; come = d.come.items } };
+    ghost view = { λ d. rows_of_changes d.changes.entries };
 }

@@ -1,14 +1,16 @@
-ghost use Rattle.std.specs.Prelude.{◌≡◌, ℕ, ◌+◌, ◌≤◌, [], IfOk, OnOk, Some, if◌then◌else◌};
-ghost use Rattle.std.specs.Option.{option_map, unwrap_or};
+ghost use Rattle.std.specs.Prelude.{◌≡◌, ◌≤◌, false, [], length, OnOk, Some, if◌then◌else◌};
+ghost use Rattle.std.specs.Option.{option_map};
 ghost use Rattle.std.specs.BTreeMap.{get};
 ghost use Rattle.std.specs.Bool.{OnTrue};
 ghost use Rattle.std.specs.Ordering.{is_eq};
 ghost use Rattle.index_key.specs.declared.Key.{Key as KeyData};
 ghost use Rattle.index_key.specs.KeyOrder.{key_cmp};
-ghost use Rattle.postings.specs.Table.{table_of, put_in, take_out, room_at};
-ghost use Rattle.postings.specs.Changes.{takes, puts, count_of};
+ghost use Rattle.postings.specs.Table.{table_of, room_at};
+ghost use Rattle.postings.specs.Changes.{changed, DeltaView, IsSameChange};
+ghost use Rattle.postings.specs.KeyChanges.{come_at, ids_in, changed_ids, rows_of_changes};
 
-use crate::delta::KeyRow;
+use crate::delta::{KeyChange, KeyChanges};
+use crate::key_changes::copy_key;
 use doc_sets::DocSet;
 use index_key::Key;
 use search_base::NoMemory;
@@ -17,33 +19,6 @@ use std::collections::BTreeMap;
 
 // Sets by key. A key whose set is empty only holds room.
 pub(crate) type Map = BTreeMap<Key, DocSet>;
-
-// Takes a row out. An empty set may stay.
-fn take_row(map: &mut Map, row: &KeyRow)
-    ensures table { table_of map.new.entries ≡ take_out key_cmp row.now.key row.now.id.0 (table_of map.old.entries) }
-    ensures room { (k : KeyData) → room_at key_cmp k map.old.entries ≤ room_at key_cmp k map.new.entries }
-{
-    match map.get_mut(&row.key) {
-        Some(set) => {
-            let _was = set.remove(row.id);
-        }
-        None => {}
-    }
-}
-
-// Puts a row in where there is room.
-fn put_row(map: &mut Map, row: &KeyRow)
-    requires { 1 ≤ room_at key_cmp row.now.key map.old.entries }
-    ensures table { table_of map.new.entries ≡ put_in key_cmp row.now.key row.now.id.0 (table_of map.old.entries) }
-    ensures room { (k : KeyData) → room_at key_cmp k map.old.entries ≤ room_at key_cmp k map.new.entries + (if is_eq (key_cmp k row.now.key) then 1 else 0) }
-{
-    match map.get_mut(&row.key) {
-        Some(set) => {
-            let _new = set.insert_reserved(row.id);
-        }
-        None => unreachable!(),
-    }
-}
 
 // Whether the key has an empty set.
 fn is_spent(map: &Map, key: &Key) -> bool
@@ -70,110 +45,103 @@ fn reserve_key(alloc: Global, map: &mut Map, key: Key, extra: usize) -> Result<(
     ensures room { (k : KeyData) → room_at key_cmp k map.old.entries ≤ room_at key_cmp k map.new.entries }
     ensures made { OnOk result (extra ≤ room_at key_cmp key map.new.entries) }
 {
-    match map.get_mut(&key) {
-        Some(set) => {
-            set.reserve(extra)?;
-            return Ok(());
-        }
-        None => {}
-    }
-    let mut set = DocSet::new(alloc);
+    let set = map.entry(key)?.or_insert(DocSet::new(alloc));
     set.reserve(extra)?;
-    map.insert(key, set)?;
     Ok(())
 }
 
-// Puts rows in, and takes the memory for it.
-pub(crate) fn add_rows(alloc: Global, map: &mut Map, rows: &[KeyRow]) -> Result<(), NoMemory>
-    ensures { OnOk result (table_of map.new.entries ≡ puts rows.now (table_of map.old.entries)) }
+// Makes a change of one set, which has room for what comes.
+fn change_set(set: &mut DocSet, change: &KeyChange)
+    requires { length change.now.come.items ≤ set.old.spare }
+    ensures { set.new.ids ≡ changed_ids change.now set.old.ids }
 {
-    for row in rows {
-        reserve_key(alloc, map, copy_key(&row.key)?, 1)?;
-        put_row(map, row);
+    for id in &change.gone {
+        let _was = set.remove(*id);
     }
-    Ok(())
+    for id in &change.come {
+        let _new = set.insert_reserved(*id);
+    }
 }
 
-// Takes rows out. Empty sets may stay, and no room is lost.
-pub(crate) fn take_rows(map: &mut Map, rows: &[KeyRow])
-    ensures table { table_of map.new.entries ≡ takes rows.now (table_of map.old.entries) }
+// Makes the change of a key where there is room for it, and says whether its set is there and empty
+// after that.
+fn change_key(map: &mut Map, key: &Key, change: &KeyChange) -> bool
+    requires { length change.now.come.items ≤ room_at key_cmp key.now map.old.entries }
+    ensures sets { (k : KeyData) → ids_in k map.new.entries ≡ (if is_eq (key_cmp k key.now) then changed_ids change.now (ids_in k map.old.entries) else ids_in k map.old.entries) }
+    ensures room { (k : KeyData) → is_eq (key_cmp k key.now) ≡ false → room_at key_cmp k map.new.entries ≡ room_at key_cmp k map.old.entries }
+    ensures spent { OnTrue result (ids_in key.now map.new.entries ≡ []) }
+{
+    match map.get_mut(key) {
+        Some(set) => {
+            change_set(set, change);
+            set.is_empty()
+        }
+        None => false,
+    }
+}
+
+// Makes the change of a key where there is room for it, and keeps no empty set.
+fn apply_change(map: &mut Map, key: &Key, change: &KeyChange)
+    requires { length change.now.come.items ≤ room_at key_cmp key.now map.old.entries }
+    ensures sets { (k : KeyData) → ids_in k map.new.entries ≡ (if is_eq (key_cmp k key.now) then changed_ids change.now (ids_in k map.old.entries) else ids_in k map.old.entries) }
+    ensures room { (k : KeyData) → is_eq (key_cmp k key.now) ≡ false → room_at key_cmp k map.new.entries ≡ room_at key_cmp k map.old.entries }
+{
+    if change_key(map, key, change) {
+        let _set = map.remove(key);
+    }
+}
+
+// Makes the changes where there is room for them. Each key is looked up once, and once more where
+// its set became empty.
+pub(crate) fn apply_changes(map: &mut Map, changes: &KeyChanges)
+    requires { (k : KeyData) → length (come_at k changes.now.entries) ≤ room_at key_cmp k map.old.entries }
+    ensures { (d : DeltaView) → IsSameChange d (rows_of_changes changes.now.entries) → table_of map.new.entries ≡ changed d (table_of map.old.entries) }
+{
+    let _before = map.len();
+    let _keys = changes.len();
+    for (key, change) in changes.iter() {
+        apply_change(map, key, change);
+    }
+    let _after = map.len();
+}
+
+// Makes room for the change of a key.
+fn reserve_change(
+    alloc: Global,
+    map: &mut Map,
+    key: &Key,
+    change: &KeyChange,
+) -> Result<(), NoMemory>
+    ensures table { table_of map.new.entries ≡ table_of map.old.entries }
     ensures room { (k : KeyData) → room_at key_cmp k map.old.entries ≤ room_at key_cmp k map.new.entries }
+    ensures made { OnOk result (length change.now.come.items ≤ room_at key_cmp key.now map.new.entries) }
 {
-    for row in rows {
-        take_row(map, row);
+    if change.come.is_empty() {
+        return Ok(());
     }
+    reserve_key(alloc, map, copy_key(key)?, change.come.len())
 }
 
-// Puts rows in where there is room for them.
-pub(crate) fn put_rows(map: &mut Map, rows: &[KeyRow])
-    requires { (k : KeyData) → count_of k rows.now ≤ room_at key_cmp k map.old.entries }
-    ensures { table_of map.new.entries ≡ puts rows.now (table_of map.old.entries) }
+// Makes room for the changes, key by key.
+pub(crate) fn reserve_changes(
+    alloc: Global,
+    map: &mut Map,
+    changes: &KeyChanges,
+) -> Result<(), NoMemory>
+    ensures table { table_of map.new.entries ≡ table_of map.old.entries }
+    ensures room { OnOk result ((k : KeyData) → length (come_at k changes.now.entries) ≤ room_at key_cmp k map.new.entries) }
 {
-    for row in rows {
-        put_row(map, row);
+    for (key, change) in changes.iter() {
+        reserve_change(alloc, map, key, change)?;
     }
+    Ok(())
 }
 
 // Takes out the sets of these keys that are empty.
-pub(crate) fn drop_empties(map: &mut Map, rows: &[KeyRow])
+pub(crate) fn drop_empties(map: &mut Map, changes: &KeyChanges)
     ensures { table_of map.new.entries ≡ table_of map.old.entries }
 {
-    for row in rows {
-        drop_empty(map, &row.key);
+    for (key, _change) in changes.iter() {
+        drop_empty(map, key);
     }
-}
-
-// Copies of the rows, which share their words.
-pub(crate) fn copy_rows(alloc: Global, rows: &[KeyRow]) -> Result<Vec<KeyRow>, NoMemory>
-    ensures { IfOk result (λ copy. copy.items ≡ rows.now) }
-{
-    let mut copy = Vec::with_capacity(alloc, rows.len())?;
-    for row in rows {
-        copy.push(KeyRow {
-            key: row.key.clone()?,
-            id: row.id,
-        })?;
-    }
-    Ok(copy)
-}
-
-// Makes room for the rows, key by key.
-pub(crate) fn reserve_rows(alloc: Global, map: &mut Map, rows: &[KeyRow]) -> Result<(), NoMemory>
-    ensures table { table_of map.new.entries ≡ table_of map.old.entries }
-    ensures room { OnOk result ((k : KeyData) → count_of k rows.now ≤ room_at key_cmp k map.new.entries) }
-{
-    let counts = count_rows(alloc, rows)?;
-    for (key, count) in counts.iter() {
-        reserve_key(alloc, map, copy_key(key)?, *count)?;
-    }
-    Ok(())
-}
-
-// How many rows there are at each key.
-fn count_rows(alloc: Global, rows: &[KeyRow]) -> Result<BTreeMap<Key, usize>, NoMemory>
-    ensures { IfOk result (λ counts. (k : KeyData) → unwrap_or (get key_cmp counts k) 0 ≡ count_of k rows.now) }
-{
-    let mut counts = BTreeMap::new(alloc);
-    for row in rows {
-        let count = count_at(&counts, &row.key);
-        counts.insert(copy_key(&row.key)?, count + 1)?;
-    }
-    Ok(counts)
-}
-
-// The count at a key.
-fn count_at(counts: &BTreeMap<Key, usize>, key: &Key) -> usize
-    ensures { result ≡ unwrap_or (get key_cmp counts.now key.now) 0 }
-{
-    match counts.get(key) {
-        Some(count) => *count,
-        None => 0,
-    }
-}
-
-// A copy of a key, which shares its words.
-fn copy_key(key: &Key) -> Result<Key, NoMemory>
-    ensures { IfOk result (λ copy. copy ≡ key.now) }
-{
-    Ok(key.clone()?)
 }

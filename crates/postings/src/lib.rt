@@ -8,6 +8,7 @@
 #![tactic(auto)]
 
 mod delta;
+mod key_changes;
 mod key_map;
 mod key_range;
 mod law;

@@ -2,11 +2,12 @@ ghost use Rattle.std.specs.Prelude.{◌≡◌, [], IfOk, OnOk};
 ghost use Rattle.std.specs.Option.{option_map};
 ghost use Rattle.postings.specs.PostingsView.{table, ids_at, rows_between};
 ghost use Rattle.postings.specs.RangeRows.{rows_left};
-ghost use Rattle.postings.specs.Changes.{puts, changed, HasRoom};
+ghost use Rattle.postings.specs.Changes.{puts, changed, DeltaView, IsSameChange, HasRoom};
 ghost use Rattle.postings.specs.Fresh.{KeepsFresh};
 
 use crate::delta::{Delta, KeyRow, Prepared};
-use crate::key_map::{Map, add_rows, copy_rows, drop_empties, put_rows, reserve_rows, take_rows};
+use crate::key_changes::group_rows;
+use crate::key_map::{Map, apply_changes, drop_empties, reserve_changes};
 use crate::key_range::KeyRange;
 use doc_sets::DocSet;
 use index_key::Key;
@@ -44,8 +45,11 @@ impl Postings {
     pub fn build(alloc: Global, rows: &[KeyRow]) -> Result<Postings, NoMemory>
         ensures { IfOk result (λ postings. table postings ≡ puts rows.now []) }
     {
+        let changes = group_rows(alloc, &[], rows)?;
+        let _keys = changes.len();
         let mut map: Map = BTreeMap::new(alloc);
-        add_rows(alloc, &mut map, rows)?;
+        reserve_changes(alloc, &mut map, &changes)?;
+        apply_changes(&mut map, &changes);
         Ok(Postings { map })
     }
 
@@ -79,34 +83,34 @@ impl Postings {
     }
 
     /// Takes all memory that the change needs, in proportion to the change, and leaves every answer
-    /// as it was, also where there is no memory.
+    /// as it was, also where there is no memory. At each key the same documents go and come as in
+    /// the change.
     pub fn prepare(&mut self, alloc: Global, delta: &Delta) -> Result<Prepared, NoMemory>
         ensures table { table self.new ≡ table self.old }
-        ensures made { IfOk result (λ prepared. prepared ≡ delta.now) }
+        ensures made { IfOk result (λ prepared. IsSameChange delta.now prepared) }
         ensures room { IfOk result (λ prepared. HasRoom self.new prepared.come) }
     {
-        let gone = copy_rows(alloc, &delta.gone)?;
-        let come = copy_rows(alloc, &delta.come)?;
-        match reserve_rows(alloc, &mut self.map, &come) {
-            Ok(()) => Ok(Prepared { gone, come }),
+        let changes = group_rows(alloc, &delta.gone, &delta.come)?;
+        let _keys = changes.len();
+        match reserve_changes(alloc, &mut self.map, &changes) {
+            Ok(()) => Ok(Prepared { changes }),
             Err(refused) => {
-                drop_empties(&mut self.map, &come);
+                drop_empties(&mut self.map, &changes);
                 Err(refused)
             }
         }
     }
 
     /// Makes a change that was prepared on these postings as they are. It takes no memory and cannot
-    /// be refused.
+    /// be refused. The sets are then as any change makes them that is the same at each key.
     pub fn commit(&mut self, prepared: Prepared)
         requires { HasRoom self.old prepared.come }
-        ensures table { table self.new ≡ changed prepared (table self.old) }
-        ensures fresh { KeepsFresh prepared (table self.old) (table self.new) }
+        ensures table { (d : DeltaView) → IsSameChange d prepared → table self.new ≡ changed d (table self.old) }
+        ensures fresh { (d : DeltaView) → IsSameChange d prepared → KeepsFresh d (table self.old) (table self.new) }
     {
         let _keys = self.map.len();
-        take_rows(&mut self.map, &prepared.gone);
-        put_rows(&mut self.map, &prepared.come);
-        drop_empties(&mut self.map, &prepared.gone);
+        let _changes = prepared.changes.len();
+        apply_changes(&mut self.map, &prepared.changes);
     }
 
     /// Gives back the room of a prepared change that is not to be made, and leaves every answer as
@@ -114,6 +118,6 @@ impl Postings {
     pub fn release(&mut self, prepared: Prepared)
         ensures { table self.new ≡ table self.old }
     {
-        drop_empties(&mut self.map, &prepared.come);
+        drop_empties(&mut self.map, &prepared.changes);
     }
 }
