@@ -1,11 +1,12 @@
 #!/usr/bin/env python3
 """Loads documents through `rank_server pipe` and prints ratios.
 
-    bench/load.py [BIN] [--rounds N]
+    bench/load.py [BIN] [--rounds N] [--no-words]
 
 Small documents (about 80 bytes) in bodies of 1,000: 1,000, 10,000 and 100,000 of them; then one body of nearly 16 MiB
 of catalogue-like documents (about 1 KiB), and one of nearly 16 MiB of small ones. For each it prints documents a second, the time a document against that of the
-first load, and the peak memory against the bytes of JSON sent. The best of the rounds counts. Nothing tests these numbers.
+first load, and the peak memory against the bytes of JSON sent. With `--no-words` the index searches no path, so that it keeps the documents
+alone. The best of the rounds counts. Nothing tests these numbers.
 """
 import argparse
 import os
@@ -60,14 +61,19 @@ def large_body(make):
     return len(rows), ("[" + ",".join(rows) + "]").encode()
 
 
-def run(binary, sent):
+def no_words():
+    body = b'{"searchableAttributes":[]}'
+    return b"PATCH /indexes/shop/settings HTTP/1.1\r\ncontent-length: %d\r\n\r\n" % len(body) + body
+
+
+def run(binary, requests):
     """(seconds, peak bytes) until the last of the replies has come."""
     server = subprocess.Popen([binary, "pipe"], stdin=subprocess.PIPE, stdout=subprocess.PIPE)
     begun = time.monotonic()
-    writer = threading.Thread(target=server.stdin.write, args=(b"".join(request(body) for body in sent),))
+    writer = threading.Thread(target=server.stdin.write, args=(b"".join(requests),))
     writer.start()
     replies = b""
-    while replies.count(b"HTTP/1.1 ") < len(sent) or not replies.endswith(b"}"):
+    while replies.count(b"HTTP/1.1 ") < len(requests) or not replies.endswith(b"}"):
         piece = os.read(server.stdout.fileno(), 1 << 16)
         if not piece:
             sys.exit("load.py: the server ended early")
@@ -78,14 +84,15 @@ def run(binary, sent):
     with open(f"/proc/{server.pid}/status") as status:
         peak = next(int(line.split()[1]) * 1024 for line in status if line.startswith("VmHWM"))
     server.stdin.close()
-    if server.wait() != 0 or replies.count(b"HTTP/1.1 202 ") != len(sent):
+    if server.wait() != 0 or replies.count(b"HTTP/1.1 202 ") != len(requests):
         sys.exit("load.py: a request was not accepted")
     return seconds, peak
 
 
-def measure(binary, rounds, name, count, sent):
+def measure(binary, rounds, name, count, sent, first):
     size = sum(len(body) for body in sent)
-    best = min(run(binary, sent) for _ in range(rounds))
+    requests = first + [request(body) for body in sent]
+    best = min(run(binary, requests) for _ in range(rounds))
     return name, count, size, best[0], best[1]
 
 
@@ -93,12 +100,14 @@ def main():
     parser = argparse.ArgumentParser()
     parser.add_argument("binary", nargs="?", default=BINARY)
     parser.add_argument("--rounds", type=int, default=3)
+    parser.add_argument("--no-words", action="store_true")
     asked = parser.parse_args()
-    loads = [measure(asked.binary, asked.rounds, f"{count} small", count, list(bodies(count, 1000)))
+    first = [no_words()] if asked.no_words else []
+    loads = [measure(asked.binary, asked.rounds, f"{count} small", count, list(bodies(count, 1000)), first)
              for count in (1000, 10000, 100000)]
     for name, make in (("16 MiB, 1 KiB each", catalogue), ("16 MiB, small", small)):
         count, body = large_body(make)
-        loads.append(measure(asked.binary, asked.rounds, name, count, [body]))
+        loads.append(measure(asked.binary, asked.rounds, name, count, [body], first))
     base = loads[0][3] / loads[0][1]
     print(f"{'load':>18} {'documents':>10} {'MB':>7} {'docs/s':>9} {'MB/s':>7} {'time/doc':>9} {'peak/JSON':>10}")
     for name, count, size, seconds, peak in loads:
