@@ -1,4 +1,4 @@
-use crate::document::Document;
+use crate::stored::DocumentText;
 use search_base::Word;
 use serde_json::Value;
 
@@ -14,12 +14,12 @@ pub enum ChangeKind {
     /// Stores documents whole, in order; `key` is the primary key that the request names.
     Replace {
         key: Option<Word>,
-        documents: Vec<Document>,
+        documents: Vec<DocumentText>,
     },
     /// Stores documents, in order, over those of the same id: top members that a new one does not name stay.
     Update {
         key: Option<Word>,
-        documents: Vec<Document>,
+        documents: Vec<DocumentText>,
     },
     /// Takes the documents of these external ids away.
     Remove {

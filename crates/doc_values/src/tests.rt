@@ -194,9 +194,8 @@ fn update_and_kept_text(rt: HostRuntime) {
 fn change_of_an_index(rt: HostRuntime) {
     let alloc = rt.alloc();
     let mut documents = Vec::new(alloc);
-    documents
-        .push(document(&rt, alloc, "{}").clone().expect(&rt, "memory"))
-        .expect(&rt, "memory");
+    let text = DocumentText::of(alloc, &document(&rt, alloc, "{}")).expect(&rt, "memory");
+    documents.push(text).expect(&rt, "memory");
     let change = Change {
         uid: Word::new(alloc, "movies").expect(&rt, "memory"),
         kind: ChangeKind::Update {
