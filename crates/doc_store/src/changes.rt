@@ -10,7 +10,6 @@ use crate::places::Places;
 use crate::registry::Registry;
 use crate::rows::{MAX_IDS, StoreRow};
 use crate::slots::Slots;
-use crate::texts::TextRow;
 use search_base::{DocId, NoMemory, Word};
 use std::alloc::Global;
 use std::mem;
@@ -35,7 +34,7 @@ pub(crate) fn reserve(
 }
 
 /// Stores documents one after the other, for which there is room. It takes no memory.
-pub(crate) fn put_rows(ids: &mut Places, slots: &mut Slots, rows: Vec<TextRow>)
+pub(crate) fn put_rows(ids: &mut Places, slots: &mut Slots, rows: Vec<StoreRow>)
     requires index { IsIndex ids.old (rows_of slots.old.items) }
     requires kept { AreKept (externals rows.items) ids.old }
     requires room { vec_len slots.old + length rows.items ≤ vec_capacity slots.old }
@@ -49,7 +48,7 @@ pub(crate) fn put_rows(ids: &mut Places, slots: &mut Slots, rows: Vec<TextRow>)
 }
 
 /// Stores one document.
-fn put_row(ids: &mut Places, slots: &mut Slots, row: TextRow)
+fn put_row(ids: &mut Places, slots: &mut Slots, row: StoreRow)
     requires index { IsIndex ids.old (rows_of slots.old.items) }
     requires kept { is_kept row.external ids.old ≡ true }
     requires room { vec_len slots.old < vec_capacity slots.old }
@@ -60,11 +59,11 @@ fn put_row(ids: &mut Places, slots: &mut Slots, row: TextRow)
     ensures kept { (q : List ℕ) → is_kept q ids.new ≡ is_kept q ids.old }
     ensures capacity { vec_capacity slots.new ≡ vec_capacity slots.old }
 {
-    if let Some(id) = ids.find(row.external()) {
+    if let Some(id) = ids.find(row.external.as_str()) {
         slots[id as usize] = Some(row);
         return;
     }
-    ids.give(row.external(), slots.len() as u32);
+    ids.give(row.external.as_str(), slots.len() as u32);
     slots.push_reserved(Some(row));
 }
 
@@ -83,7 +82,7 @@ pub(crate) fn take_row(ids: &mut Places, slots: &mut Slots, id: DocId) -> bool
     }
     match mem::replace(&mut slots[at], None) {
         Some(row) => {
-            ids.take_out(row.external());
+            ids.take_out(row.external.as_str());
             true
         }
         None => false,

@@ -22,7 +22,6 @@ mod slots;
 mod store;
 #[cfg(test)]
 mod tests;
-mod texts;
 mod walked;
 
 pub use laws::{documents_keep_their_ids, stores_stay_sound};

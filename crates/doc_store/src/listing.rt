@@ -3,8 +3,7 @@ ghost use Rattle.doc_store.specs.Slots.{rows_from, rows_of};
 ghost use Rattle.doc_store.specs.Counts.{ids_of, AreCounted, slots_in, listed};
 
 use crate::counts::BLOCK;
-use crate::rows::MAX_IDS;
-use crate::texts::TextRow;
+use crate::rows::{MAX_IDS, StoreRow};
 use search_base::{DocId, NoMemory};
 use std::alloc::Global;
 
@@ -12,7 +11,7 @@ use std::alloc::Global;
 /// of these are passed over by their counts.
 pub(crate) fn listed_ids(
     alloc: Global,
-    slots: &[Option<TextRow>],
+    slots: &[Option<StoreRow>],
     counts: &[u32],
     offset: u64,
     limit: u64,
@@ -35,7 +34,7 @@ pub(crate) fn listed_ids(
     Ok(window.ids)
 }
 
-fn block_of(slots: &[Option<TextRow>], block: usize) -> &[Option<TextRow>]
+fn block_of(slots: &[Option<StoreRow>], block: usize) -> &[Option<StoreRow>]
     requires { block ≤ MAX_IDS }
     ensures { result.now ≡ slots_in block slots.now }
 {
@@ -62,7 +61,7 @@ impl Window {
     // Passes over a block with so many documents, or goes through its slots.
     fn add_block(
         &mut self,
-        slots: &[Option<TextRow>],
+        slots: &[Option<StoreRow>],
         first: usize,
         count: u32,
     ) -> Result<(), NoMemory>
@@ -79,7 +78,7 @@ impl Window {
         self.add_slots(slots, first)
     }
 
-    fn add_slots(&mut self, slots: &[Option<TextRow>], first: usize) -> Result<(), NoMemory>
+    fn add_slots(&mut self, slots: &[Option<StoreRow>], first: usize) -> Result<(), NoMemory>
         requires within { length slots.now + first ≤ MAX_IDS }
         ensures { OnOk result ((rest : List ℕ) → listed self.new.limit self.new.skip (map (λ id. id.0) self.new.ids.items) rest
             ≡ listed self.old.limit self.old.skip (map (λ id. id.0) self.old.ids.items) (ids_of (rows_from first slots.now) ++ rest)) }
@@ -93,7 +92,7 @@ impl Window {
         Ok(())
     }
 
-    fn add_slot(&mut self, slot: &Option<TextRow>, id: DocId) -> Result<(), NoMemory>
+    fn add_slot(&mut self, slot: &Option<StoreRow>, id: DocId) -> Result<(), NoMemory>
         ensures { OnOk result ((rest : List ℕ) → listed self.new.limit self.new.skip (map (λ id. id.0) self.new.ids.items) rest
             ≡ listed self.old.limit self.old.skip (map (λ id. id.0) self.old.ids.items) (ids_of (rows_from id.0 (slot.now ∷ [])) ++ rest)) }
     {

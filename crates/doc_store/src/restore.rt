@@ -4,9 +4,8 @@ ghost use Rattle.doc_store.specs.Restored.{restored_row};
 ghost use Rattle.doc_store.specs.Slots.{rows_of, IsIndex};
 
 use crate::places::Places;
-use crate::rows::StoredRow;
+use crate::rows::{StoreRow, StoredRow};
 use crate::slots::Slots;
-use crate::texts::TextRow;
 use search_base::NoMemory;
 use std::alloc::Global;
 
@@ -35,7 +34,7 @@ pub(crate) fn put_back(
         add_empty(slots, id.0)?;
         ids.reserve(alloc, external.as_str())?;
         ids.give(external.as_str(), id.0);
-        slots.push(Some(TextRow::of(alloc, external, &document)?))?;
+        slots.push(Some(StoreRow { external, document }))?;
     }
     add_empty(slots, next_id)
 }

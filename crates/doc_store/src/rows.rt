@@ -1,7 +1,7 @@
 ghost use Rattle.std.specs.Prelude.{◌≡◌};
 ghost use Rattle.doc_store.specs.declared.rows.StoreFault.TheVariants.{NoMemory as Memory};
 
-use doc_values::Document;
+use doc_values::DocumentText;
 use search_base::{DocId, NoMemory, Word};
 use std::alloc::{AllocError, AllocFailed};
 
@@ -11,11 +11,11 @@ pub const MAX_IDS: u32 = 1_000_000;
 /// How many paths an index can have.
 pub const MAX_PATHS: usize = 1_000;
 
-/// A document that comes, with its external id.
+/// A document under its external id, as it comes and as the store keeps it.
 #[derive(Drop)]
 pub struct StoreRow {
     pub external: Word,
-    pub document: Document,
+    pub document: DocumentText,
 }
 
 /// A document with its external and its internal id.
@@ -23,7 +23,7 @@ pub struct StoreRow {
 pub struct StoredRow {
     pub id: DocId,
     pub external: Word,
-    pub document: Document,
+    pub document: DocumentText,
 }
 
 /// Why documents cannot be stored.

@@ -3,19 +3,19 @@ ghost use Rattle.std.specs.Option.{option_map};
 ghost use Rattle.doc_store.specs.Store.{row_at};
 ghost use Rattle.doc_store.specs.Slots.{rows_of};
 
-use crate::texts::TextRow;
+use crate::rows::StoreRow;
 use doc_values::DocumentText;
 use search_base::DocId;
 
 /// The documents by their internal ids, and None where a document is gone.
-pub(crate) type Slots = Vec<Option<TextRow>>;
+pub(crate) type Slots = Vec<Option<StoreRow>>;
 
 /// The document with an internal id.
-pub(crate) fn document_at(slots: &[Option<TextRow>], id: DocId) -> Option<&DocumentText>
+pub(crate) fn document_at(slots: &[Option<StoreRow>], id: DocId) -> Option<&DocumentText>
     ensures { option_map (λ document. document.now) result ≡ option_map (λ row. row.document) (row_at id.0 (rows_of slots.now)) }
 {
     match slots.get(id.0 as usize) {
-        Some(Some(row)) => Some(row.document()),
+        Some(Some(row)) => Some(&row.document),
         Some(None) => None,
         None => None,
     }

@@ -15,7 +15,6 @@ use crate::registry::Registry;
 use crate::restore::put_back;
 use crate::rows::{StoreFault, StoreRow, StoredRow};
 use crate::slots::{Slots, document_at};
-use crate::texts::{TextRow, text_rows};
 use crate::walked::new_paths;
 use doc_values::DocumentText;
 use search_base::{DocId, NoMemory, Steps, Word};
@@ -70,7 +69,7 @@ impl Model for Admission {
 /// Documents to store, for which all memory is there. A plan is for the store as it was when the plan was made.
 #[derive(Drop)]
 pub struct StorePlan {
-    rows: Vec<TextRow>,
+    rows: Vec<StoreRow>,
     ids: Vec<DocId>,
     added: Vec<Word>,
 }
@@ -222,7 +221,6 @@ impl DocStore {
         let come = rows.as_slice();
         reserve(alloc, &mut self.ids, &mut self.slots, come)?;
         self.paths.reserve(alloc, added.as_slice())?;
-        let rows = text_rows(alloc, rows)?;
         Ok(StorePlan { rows, ids, added })
     }
 

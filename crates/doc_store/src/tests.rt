@@ -1,5 +1,5 @@
 use crate::{DocStore, StoreFault, StoreRow};
-use doc_values::documents_of;
+use doc_values::{DocumentText, documents_of};
 use search_base::{DocId, Steps, Word};
 use serde_json::Value;
 use std::alloc::Global;
@@ -11,9 +11,11 @@ fn rows(rt: &impl Abort, alloc: Global, externals: &[&str], body: &str) -> Vec<S
     let documents = documents_of(alloc, value).expect(rt, "documents");
     let mut rows = Vec::new(alloc);
     for (document, external) in documents.into_iter().zip(externals.iter()) {
-        let external = Word::new(alloc, external).expect(rt, "memory");
-        rows.push(StoreRow { external, document })
-            .expect(rt, "memory");
+        let row = StoreRow {
+            external: Word::new(alloc, external).expect(rt, "memory"),
+            document: DocumentText::of(alloc, &document).expect(rt, "memory"),
+        };
+        rows.push(row).expect(rt, "memory");
     }
     rows
 }

@@ -9,7 +9,8 @@ use doc_values::paths;
 use search_base::Word;
 use std::alloc::Global;
 
-/// The paths that a registry gains by documents that come, in the order in which it gains them.
+/// The paths that a registry gains by documents that come, in the order in which it gains them. Each document is read
+/// back from its text and let go again before the next.
 pub(crate) fn new_paths(
     alloc: Global,
     registry: &Registry,
@@ -22,7 +23,7 @@ pub(crate) fn new_paths(
 {
     let mut fresh = Registry::new(alloc);
     for row in rows {
-        let walk = paths(alloc, &row.document)?;
+        let walk = paths(alloc, &row.document.document(alloc)?)?;
         note_paths(alloc, registry, &mut fresh, walk)?;
     }
     Ok(fresh.into_paths())

@@ -1,5 +1,6 @@
-use Rattle.std.proofs.Common.{◌++◌, ◌+◌, drop}
+use Rattle.std.proofs.Common.{◌++◌, ◌+◌, ◌∙◌, ap, drop}
 use Rattle.std.proofs.lemmas.Result.{err_from_is_err_and}
+use Rattle.doc_values.specs.Walk.{paths_of}
 use Rattle.doc_store.specs.declared.rows.TheConstants.{MAX_PATHS}
 use Rattle.doc_store.proofs.ReserveLemmas.{drop-item}
 use Rattle.doc_store.proofs.PathLemmas.{spent-row}
@@ -15,5 +16,5 @@ returns-in_err-note_paths-clause-spent c =
     let h = c.in_err-note_paths.ensures.spent other in (
       h.0,
       spent-row MAX_PATHS c.row-item.result (drop i rows) (drop (i + 1) rows) rows c.in_ok-walk.walk.items (known ++ c.loop-row.fresh.paths) known
-          (drop-item rows i c.row-item.result c.loop-row-test.true c.row-item.is) c.in_ok-walk.ensures c.loop-row.invariant.1 h.1,
+          (drop-item rows i c.row-item.result c.loop-row-test.true c.row-item.is) (c.in_ok-walk.ensures ∙ ap paths_of c.in_ok-document.ensures) c.loop-row.invariant.1 h.1,
     ))

@@ -17,12 +17,12 @@ returns-clause-plan c =
     let admission : AdmissionView = record { ids = map (λ id. id.0) c.admission.inside.ids.items; added = c.admission.inside.added.items } in
     let old : StoreView = record { content = s; row_room = 0; ids = []; path_room = 0; path_places = [] } in
     let new : StoreView = record { content = content_of paths.paths slots.items; row_room = vec_capacity slots - vec_len slots; ids = c.reserve.new.ids; path_room = paths.room; path_places = paths.places } in
-    let plan : PlanView = record { rows = c.in_ok-rows.rows.items; ids = map (λ id. id.0) c.admission.inside.ids.items; added = c.admission.inside.added.items } in
+    let plan : PlanView = record { rows = rows; ids = map (λ id. id.0) c.admission.inside.ids.items; added = c.admission.inside.added.items } in
     let room : length come ≤ vec_capacity slots - vec_len slots = omega (arith, c.in_ok-reserve.ensures.room) in
     let admitted : IsAdmitted s come admission =
     subst (λ rs. IsAdmitted s rs admission) (sym c.as_slice-come.ensures.value)
     (subst (λ (v : StoreView). IsAdmitted v.content rows admission) (sym c.self.view_is) (subst (IsAdmitted c.args.self.now.content rows) (sym c.admission.view_is) c.requires)) in
-    plan-made old new plan admission come (c.as_slice-come.ensures.value ∙ sym c.in_ok-rows.ensures)
+    plan-made old new plan admission come c.as_slice-come.ensures.value
     (ap (λ ps. content_of ps slots.items) c.reserve-2.ensures.paths ∙ ap (content_of c.self.inside.paths.paths) c.reserve.ensures.slots)
     admitted refl refl
     room c.in_ok-reserve.ensures.kept
