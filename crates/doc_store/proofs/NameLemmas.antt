@@ -1,31 +1,30 @@
--- What an edit of a map does to the names that its entries stand for.
+-- What an edit of a map does to the names that are its entries.
 use Rattle.std.proofs.Common.{◌≡◌, ℕ, Bool, true, false, cond, List, [], ◌∷◌, Option, None, Some, refl, sym, ap, ◌∙◌, rules}
-use Rattle.std.specs.Prelude.{bytes_eq, String}
+use Rattle.std.specs.Prelude.{bytes_eq}
 use Rattle.std.specs.Option.{is_some, option_flatten}
 use Rattle.std.specs.Map.{lookup}
-use Rattle.std.specs.BTreeMap.{BTreeMap, is_at, get_by_text, UpdatesBy}
+use Rattle.std.specs.BTreeMap.{BTreeMap, is_at, get, UpdatesBy}
 use Rattle.std.specs.Ordering.{nat_cmp, is_eq}
 use Rattle.std.specs.Cmp.Lexicographic.{slice_cmp}
-use Rattle.std.specs.String.{string_bytes, string_cmp}
 use Rattle.std.proofs.lemmas.Bool.{cond-true, cond-false, cond_both}
 use Rattle.std.proofs.lemmas.Slice.Eq.{bytes_eq-Decides}
-use Rattle.std.proofs.lemmas.Map.Text.{is_eq-slice_cmp, btree_map_updates_text}
-use Rattle.doc_store.specs.Names.{Names, number_at, is_kept, names_of}
+use Rattle.std.proofs.lemmas.Map.Text.{is_eq-slice_cmp}
+use Rattle.doc_store.specs.Names.{Names, number_at, is_kept}
 
--- a name is looked up among the names as its text is in the map
-pub lookup-names : {A : Type 0} (q : List ℕ) (entries : List (String A × Option ℕ)) → lookup (bytes_eq q) (names_of entries) ≡ lookup (is_at (λ k. slice_cmp nat_cmp q (string_bytes k))) entries
+-- a name is looked up by its bytes as it is by their order
+pub lookup-names : (q : List ℕ) (names : Names) → lookup (bytes_eq q) names ≡ lookup (is_at (slice_cmp nat_cmp q)) names
 lookup-names q [] = refl
 lookup-names q (e ∷ es) =
-    ap (λ b. cond b (Some e.1) (lookup (bytes_eq q) (names_of es))) (sym (is_eq-slice_cmp q (string_bytes e.0)))
-    ∙ ap (λ v. cond (is_eq (slice_cmp nat_cmp q (string_bytes e.0))) (Some e.1) v) (lookup-names q es)
+    ap (λ b. cond b (Some e.1) (lookup (bytes_eq q) es)) (sym (is_eq-slice_cmp q e.0)) ∙ ap (λ v. cond (is_eq (slice_cmp nat_cmp q e.0)) (Some e.1) v) (lookup-names q es)
 
--- a change at the text of a name
-pub lookup-updated : {A : Type 0} (name : List ℕ) (m n : BTreeMap (String A) (Option ℕ)) (w : Option (Option ℕ)) → UpdatesBy string_cmp (λ k. slice_cmp nat_cmp name (string_bytes k)) m n w
-    → (q : List ℕ) → lookup (bytes_eq q) (names_of n.entries) ≡ cond (bytes_eq name q) w (lookup (bytes_eq q) (names_of m.entries))
-lookup-updated name m n w h q = lookup-names q n.entries ∙ btree_map_updates_text name m n w h q ∙ ap (cond (bytes_eq name q) w) (sym (lookup-names q m.entries))
+-- a change at a name
+pub lookup-updated : (name : List ℕ) (m n : BTreeMap (List ℕ) (Option ℕ)) (w : Option (Option ℕ)) → UpdatesBy (slice_cmp nat_cmp) (slice_cmp nat_cmp name) m n w
+    → (q : List ℕ) → lookup (bytes_eq q) n.entries ≡ cond (bytes_eq name q) w (lookup (bytes_eq q) m.entries)
+lookup-updated name m n w h q =
+    lookup-names q n.entries ∙ h.0 q ∙ ap (λ b. cond b w (lookup (is_at (slice_cmp nat_cmp q)) m.entries)) (is_eq-slice_cmp name q) ∙ ap (cond (bytes_eq name q) w) (sym (lookup-names q m.entries))
 
 -- a name that has a value in the map
-pub lookup-found : {A : Type 0} (name : List ℕ) (m : BTreeMap (String A) (Option ℕ)) (v : Option (Option ℕ)) → v ≡ get_by_text m name → lookup (bytes_eq name) (names_of m.entries) ≡ v
+pub lookup-found : (name : List ℕ) (m : BTreeMap (List ℕ) (Option ℕ)) (v : Option (Option ℕ)) → v ≡ get (slice_cmp nat_cmp) m name → lookup (bytes_eq name) m.entries ≡ v
 lookup-found name m v h = lookup-names name m.entries ∙ sym h
 
 pub bytes_same : (xs ys : List ℕ) → xs ≡ ys → bytes_eq xs ys ≡ true

@@ -11,12 +11,10 @@ use crate::registry::Registry;
 use crate::rows::{MAX_IDS, StoreRow};
 use crate::slots::Slots;
 use search_base::{DocId, NoMemory, Word};
-use std::alloc::Global;
 use std::mem;
 
 /// Takes the memory for documents that are to be put, and puts none.
 pub(crate) fn reserve(
-    alloc: Global,
     ids: &mut Places,
     slots: &mut Slots,
     rows: &[StoreRow],
@@ -28,7 +26,7 @@ pub(crate) fn reserve(
 {
     slots.reserve(rows.len())?;
     for row in rows {
-        ids.reserve(alloc, row.external.as_str())?;
+        ids.reserve(&row.external)?;
     }
     Ok(())
 }
@@ -59,11 +57,11 @@ fn put_row(ids: &mut Places, slots: &mut Slots, row: StoreRow)
     ensures kept { (q : List ℕ) → is_kept q ids.new ≡ is_kept q ids.old }
     ensures capacity { vec_capacity slots.new ≡ vec_capacity slots.old }
 {
-    if let Some(id) = ids.find(row.external.as_str()) {
+    if let Some(id) = ids.find(&row.external) {
         slots[id as usize] = Some(row);
         return;
     }
-    ids.give(row.external.as_str(), slots.len() as u32);
+    ids.give(&row.external, slots.len() as u32);
     slots.push_reserved(Some(row));
 }
 
@@ -82,7 +80,7 @@ pub(crate) fn take_row(ids: &mut Places, slots: &mut Slots, id: DocId) -> bool
     }
     match mem::replace(&mut slots[at], None) {
         Some(row) => {
-            ids.take_out(row.external.as_str());
+            ids.take_out(&row.external);
             true
         }
         None => false,

@@ -7,7 +7,7 @@ ghost use Rattle.doc_store.specs.Slots.{IsIndex};
 
 use crate::places::Places;
 use crate::rows::{MAX_IDS, StoreFault, StoreRow};
-use search_base::DocId;
+use search_base::{DocId, Word};
 use std::alloc::Global;
 
 /// The internal ids of documents that come one after the other. `next` is the next one that is free.
@@ -26,7 +26,7 @@ pub(crate) fn give_ids(
     let mut free = next;
     let mut given = Vec::with_capacity(alloc, rows.len())?;
     for row in rows {
-        let id = give_id(alloc, ids, &mut fresh, &mut free, row.external.as_str())?;
+        let id = give_id(ids, &mut fresh, &mut free, &row.external)?;
         given.push(DocId(id))?;
     }
     Ok(given)
@@ -34,11 +34,10 @@ pub(crate) fn give_ids(
 
 /// The internal id of one document that comes. `fresh` are those that this change has given already.
 fn give_id(
-    alloc: Global,
     ids: &Places,
     fresh: &mut Places,
     free: &mut u32,
-    external: &str,
+    external: &Word,
 ) -> Result<u32, StoreFault>
     requires { free.old ≤ MAX_IDS }
     ensures id { IfOk result (λ id. id ≡ unwrap_or (known_id ids.now fresh.old external.now) free.old) }
@@ -54,13 +53,13 @@ fn give_id(
     if id == MAX_IDS {
         return Err(StoreFault::IdsSpent);
     }
-    fresh.reserve(alloc, external)?;
+    fresh.reserve(external)?;
     fresh.give(external, id);
     *free = id + 1;
     Ok(id)
 }
 
-fn known(ids: &Places, fresh: &Places, external: &str) -> Option<u32>
+fn known(ids: &Places, fresh: &Places, external: &Word) -> Option<u32>
     ensures { result ≡ known_id ids.now fresh.now external.now }
 {
     match ids.find(external) {

@@ -1,23 +1,24 @@
 ghost use Rattle.std.specs.Prelude.{◌≡◌, ℕ, List, [], Bool, true, None, OnOk, bytes_eq, if◌then◌else◌};
 ghost use Rattle.doc_store.specs.Names.{number_at, is_kept};
 
-use search_base::NoMemory;
+use search_base::{NoMemory, Word};
 use std::alloc::Global;
 use std::collections::BTreeMap;
 use std::marker::Model;
 
-/// Names with a number each. A name can wait for its number, so that giving it takes no memory.
+/// Names with a number each. A name can wait for its number, so that giving it takes no memory. A name that is kept shares
+/// the text of the word that it came as.
 #[derive(Drop)]
 pub(crate) struct Places {
-    map: BTreeMap<String, Option<u32>>,
+    map: BTreeMap<Word, Option<u32>>,
 }
 
 impl Model for Places {
-    ghost use Rattle.doc_store.specs.Names.{Names, names_of};
+    ghost use Rattle.doc_store.specs.Names.{Names};
 
     ghost Value = { Names };
 
-    ghost view = { λ p. names_of p.map.entries };
+    ghost view = { λ p. p.map.entries };
 }
 
 impl Places {
@@ -30,7 +31,7 @@ impl Places {
     }
 
     /// The number of a name. It takes no memory.
-    pub(crate) fn find(&self, name: &str) -> Option<u32>
+    pub(crate) fn find(&self, name: &Word) -> Option<u32>
         ensures { result ≡ number_at name.now self.now }
     {
         match self.map.get(name) {
@@ -40,7 +41,7 @@ impl Places {
     }
 
     /// Makes a place for a name, which then waits for its number, and changes no number.
-    pub(crate) fn reserve(&mut self, alloc: Global, name: &str) -> Result<(), NoMemory>
+    pub(crate) fn reserve(&mut self, name: &Word) -> Result<(), NoMemory>
         ensures numbers { (q : List ℕ) → number_at q self.new ≡ number_at q self.old }
         ensures kept { (q : List ℕ) → is_kept q self.old ≡ true → is_kept q self.new ≡ true }
         ensures made { OnOk result (is_kept name.now self.new ≡ true) }
@@ -48,12 +49,12 @@ impl Places {
         if self.map.contains_key(name) {
             return Ok(());
         }
-        self.map.insert(String::from_str(alloc, name)?, None)?;
+        self.map.insert(name.clone()?, None)?;
         Ok(())
     }
 
     /// Gives a name that is there its number. It takes no memory.
-    pub(crate) fn give(&mut self, name: &str, number: u32)
+    pub(crate) fn give(&mut self, name: &Word, number: u32)
         requires { is_kept name.now self.old ≡ true }
         ensures numbers { (q : List ℕ) → number_at q self.new ≡ (if bytes_eq name.now q then Some number else number_at q self.old) }
         ensures kept { (q : List ℕ) → is_kept q self.new ≡ is_kept q self.old }
@@ -65,7 +66,7 @@ impl Places {
     }
 
     /// Takes a name out. It takes no memory.
-    pub(crate) fn take_out(&mut self, name: &str)
+    pub(crate) fn take_out(&mut self, name: &Word)
         ensures { (q : List ℕ) → number_at q self.new ≡ (if bytes_eq name.now q then None else number_at q self.old) }
     {
         let _number = self.map.remove(name);

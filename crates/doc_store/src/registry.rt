@@ -43,7 +43,7 @@ impl Registry {
     {
         let mut registry = Registry::new(alloc);
         for path in paths {
-            registry.add(alloc, path)?;
+            registry.add(path)?;
         }
         Ok(registry)
     }
@@ -61,29 +61,29 @@ impl Registry {
     }
 
     /// The place of a path. It takes no memory.
-    pub(crate) fn find(&self, path: &str) -> Option<u32>
+    pub(crate) fn find(&self, path: &Word) -> Option<u32>
         ensures { result ≡ last_place path.now self.now.paths }
     {
         self.places.find(path)
     }
 
     /// Takes the memory for paths that are to be pushed, and adds none.
-    pub(crate) fn reserve(&mut self, alloc: Global, new: &[Word]) -> Result<(), NoMemory>
+    pub(crate) fn reserve(&mut self, new: &[Word]) -> Result<(), NoMemory>
         ensures paths { self.new.paths ≡ self.old.paths }
         ensures room { OnOk result (length new.now ≤ self.new.room) }
         ensures kept { OnOk result (AreKept new.now self.new.places) }
     {
         self.paths.reserve(new.len())?;
-        reserve_names(alloc, &mut self.places, new)
+        reserve_names(&mut self.places, new)
     }
 
     /// Adds a path behind the others.
-    pub(crate) fn add(&mut self, alloc: Global, path: Word) -> Result<(), NoMemory>
+    pub(crate) fn add(&mut self, path: Word) -> Result<(), NoMemory>
         requires { length self.old.paths < 2 ^ 32 }
         ensures { OnOk result (self.new.paths ≡ self.old.paths ++ path ∷ []) }
     {
         self.paths.reserve(1)?;
-        self.places.reserve(alloc, path.as_str())?;
+        self.places.reserve(&path)?;
         self.push(path);
         Ok(())
     }
@@ -104,17 +104,17 @@ impl Registry {
         ensures room { self.old.room ≤ self.new.room + 1 }
         ensures kept { (q : List ℕ) → is_kept q self.new.places ≡ is_kept q self.old.places }
     {
-        self.places.give(path.as_str(), self.paths.len() as u32);
+        self.places.give(&path, self.paths.len() as u32);
         self.paths.push_reserved(path);
     }
 }
 
-fn reserve_names(alloc: Global, places: &mut Places, names: &[Word]) -> Result<(), NoMemory>
+fn reserve_names(places: &mut Places, names: &[Word]) -> Result<(), NoMemory>
     ensures numbers { (q : List ℕ) → number_at q places.new ≡ number_at q places.old }
     ensures kept { OnOk result (AreKept names.now places.new) }
 {
     for name in names {
-        places.reserve(alloc, name.as_str())?;
+        places.reserve(name)?;
     }
     Ok(())
 }

@@ -7,11 +7,9 @@ use crate::places::Places;
 use crate::rows::{StoreRow, StoredRow};
 use crate::slots::Slots;
 use search_base::NoMemory;
-use std::alloc::Global;
 
 /// Puts documents into empty slots by their internal ids, and makes slots up to the next internal id.
 pub(crate) fn put_back(
-    alloc: Global,
     ids: &mut Places,
     slots: &mut Slots,
     next_id: u32,
@@ -32,8 +30,8 @@ pub(crate) fn put_back(
             document,
         } = stored;
         add_empty(slots, id.0)?;
-        ids.reserve(alloc, external.as_str())?;
-        ids.give(external.as_str(), id.0);
+        ids.reserve(&external)?;
+        ids.give(&external, id.0);
         slots.push(Some(StoreRow { external, document }))?;
     }
     add_empty(slots, next_id)

@@ -114,7 +114,7 @@ impl DocStore {
         let counts = counts_of(alloc, documents.as_slice())?;
         let mut ids = Places::new(alloc);
         let mut slots = Vec::with_capacity(alloc, next_id as usize)?;
-        put_back(alloc, &mut ids, &mut slots, next_id, documents)?;
+        put_back(&mut ids, &mut slots, next_id, documents)?;
         Ok(DocStore {
             ids,
             slots,
@@ -125,7 +125,7 @@ impl DocStore {
     }
 
     /// The internal id of the document with an external id. It takes no memory.
-    pub fn id_of(&self, external: &str) -> Option<DocId>
+    pub fn id_of(&self, external: &Word) -> Option<DocId>
         ensures { option_map (λ id. id.0) result ≡ id_of external.now self.now.content.rows }
     {
         match self.ids.find(external) {
@@ -208,7 +208,6 @@ impl DocStore {
     /// what the store holds. A refusal changes nothing either.
     pub fn prepare(
         &mut self,
-        alloc: Global,
         rows: Vec<StoreRow>,
         admission: Admission,
     ) -> Result<StorePlan, NoMemory>
@@ -219,8 +218,8 @@ impl DocStore {
     {
         let Admission { ids, added } = admission;
         let come = rows.as_slice();
-        reserve(alloc, &mut self.ids, &mut self.slots, come)?;
-        self.paths.reserve(alloc, added.as_slice())?;
+        reserve(&mut self.ids, &mut self.slots, come)?;
+        self.paths.reserve(added.as_slice())?;
         Ok(StorePlan { rows, ids, added })
     }
 

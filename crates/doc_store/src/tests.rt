@@ -30,10 +30,15 @@ fn store_all(
     let admission = store.admit(alloc, come.as_slice()).expect(rt, "admitted");
     let ids = Vec::from_slice(alloc, admission.ids()).expect(rt, "memory");
     let added = admission.added().len();
-    let plan = store.prepare(alloc, come, admission).expect(rt, "a plan");
+    let plan = store.prepare(come, admission).expect(rt, "a plan");
     assert_eq!(rt; (plan.ids().len(), plan.added().len()), (ids.len(), added));
     store.commit(plan);
     (ids, added)
+}
+
+fn id_of(rt: &impl Abort, alloc: Global, store: &DocStore, external: &str) -> Option<DocId> {
+    let external = Word::new(alloc, external).expect(rt, "memory");
+    store.id_of(&external)
 }
 
 #[test]
@@ -49,7 +54,10 @@ fn documents_come_and_go(rt: HostRuntime) {
     let (ids, added) = store_all(&rt, alloc, &mut store, come);
     assert_eq!(rt; (ids.len(), added), (2, 2));
     assert_eq!(rt;
-        (store.id_of("a"), store.id_of("b")),
+        (
+            id_of(&rt, alloc, &store, "a"),
+            id_of(&rt, alloc, &store, "b")
+        ),
         (Some(DocId(1)), None)
     );
     assert_eq!(rt;
@@ -59,7 +67,7 @@ fn documents_come_and_go(rt: HostRuntime) {
     assert!(rt; store.remove(DocId(0)));
     assert!(rt; !store.remove(DocId(0)));
     assert_eq!(rt;
-        (store.id_of("7"), store.next_id(), store.len()),
+        (id_of(&rt, alloc, &store, "7"), store.next_id(), store.len()),
         (None, 2, 1)
     );
 }

@@ -24,51 +24,41 @@ pub(crate) fn new_paths(
     let mut fresh = Registry::new(alloc);
     for row in rows {
         let walk = paths(alloc, &row.document.document(alloc)?)?;
-        note_paths(alloc, registry, &mut fresh, walk)?;
+        note_paths(registry, &mut fresh, walk)?;
     }
     Ok(fresh.into_paths())
 }
 
-fn note_paths(
-    alloc: Global,
-    registry: &Registry,
-    fresh: &mut Registry,
-    walk: Vec<Word>,
-) -> Result<(), StoreFault>
+fn note_paths(registry: &Registry, fresh: &mut Registry, walk: Vec<Word>) -> Result<(), StoreFault>
     requires { length registry.now.paths + length fresh.old.paths ≤ MAX_PATHS }
     ensures noted { OnOk result (registry.now.paths ++ fresh.new.paths ≡ registered walk.items (registry.now.paths ++ fresh.old.paths)) }
     ensures within { OnOk result (length registry.now.paths + length fresh.new.paths ≤ MAX_PATHS) }
     ensures spent { IfErr result (λ fault. fault ≢ Memory → (fault ≡ PathsSpent) × (MAX_PATHS < length (registered walk.items (registry.now.paths ++ fresh.old.paths)))) }
 {
     for path in walk {
-        note_path(alloc, registry, fresh, path)?;
+        note_path(registry, fresh, path)?;
     }
     Ok(())
 }
 
 /// Adds a path to the fresh ones where it is neither registered nor among them.
-fn note_path(
-    alloc: Global,
-    registry: &Registry,
-    fresh: &mut Registry,
-    path: Word,
-) -> Result<(), StoreFault>
+fn note_path(registry: &Registry, fresh: &mut Registry, path: Word) -> Result<(), StoreFault>
     requires { length registry.now.paths + length fresh.old.paths ≤ MAX_PATHS }
     ensures noted { OnOk result (registry.now.paths ++ fresh.new.paths ≡ with_path path (registry.now.paths ++ fresh.old.paths)) }
     ensures within { OnOk result (length registry.now.paths + length fresh.new.paths ≤ MAX_PATHS) }
     ensures spent { IfErr result (λ fault. fault ≢ Memory → (fault ≡ PathsSpent) × (MAX_PATHS < length (with_path path (registry.now.paths ++ fresh.old.paths)))) }
 {
-    if is_known(registry, fresh, path.as_str()) {
+    if is_known(registry, fresh, &path) {
         return Ok(());
     }
     if registry.len() + fresh.len() == MAX_PATHS {
         return Err(StoreFault::PathsSpent);
     }
-    fresh.add(alloc, path)?;
+    fresh.add(path)?;
     Ok(())
 }
 
-fn is_known(registry: &Registry, fresh: &Registry, path: &str) -> bool
+fn is_known(registry: &Registry, fresh: &Registry, path: &Word) -> bool
     ensures { result ≡ has_path path.now (registry.now.paths ++ fresh.now.paths) }
 {
     registry.find(path).is_some() || fresh.find(path).is_some()

@@ -31,7 +31,7 @@ returns-in-Some-clause-index c =
     let here = slot-got slots c.args.id.0 c.index_mut.result.now (Some c.in-Some.row) within c.index_mut.ensures.value (sym c.in-Some.ensures.value) in
     subst (λ v. IsIndex c.take_out.new.self (rows_of (set slots c.args.id.0 v))) (sym c.replace.ensures.after)
     (index-emptied slots c.args.id.0 c.in-Some.row c.args.ids.now c.take_out.new.self c.requires.index c.requires.apart here
-    (λ q. c.take_out.ensures q ∙ ap (λ e. cond (bytes_eq e q) None (number_at q c.args.ids.now)) c.as_str.ensures))
+    c.take_out.ensures)
 
 pub returns-in-Some-clause-found : goal.returns-in-Some-clause-found
 returns-in-Some-clause-found c =

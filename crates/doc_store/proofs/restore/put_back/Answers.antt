@@ -13,5 +13,5 @@ loop-stored-preserved c =
       restoring_one (into_iter_items c.into_iter-stored-iterator.result) d (into_iter_items c.loop-stored.stored-iterator) (into_iter_items c.next.new.self)
           c.loop-stored.slots.items c.add_empty.new.slots.items c.push.new.self.items c.loop-stored.ids c.give.new.self c.args.next_id (record { external = d.external; document = d.document })
           c.in-Some.ensures.steps.0 c.loop-stored.invariant.2 c.add_empty.ensures.rows c.in_ok-add_empty.ensures.next_id refl refl c.in_ok-push.ensures.items
-          (λ q. c.give.ensures.numbers q ∙ ap (λ e. cond (bytes_eq e q) (Some d.id.0) (number_at q c.reserve.new.self)) c.as_str-in-loop-stored.ensures ∙ ap (cond (bytes_eq d.external q) (Some d.id.0)) (c.reserve.ensures.numbers q)),
+          (λ q. c.give.ensures.numbers q ∙ ap (cond (bytes_eq d.external q) (Some d.id.0)) (c.reserve.ensures.numbers q)),
     )
