@@ -16,6 +16,7 @@ use Rattle.doc_store.specs.declared.rows.StoreRow.{StoreRow}
 use Rattle.doc_store.specs.Store.{Row, Store, id_of, id_given, ids_given, stored, all_stored, without, removed}
 use Rattle.doc_store.specs.Sound.{Increase}
 use Rattle.doc_store.proofs.SoundLemmas.{IsWhole, whole-stored, sound-removed, increase-low}
+use Rattle.doc_store.proofs.StoreLemmas.{store_same}
 use Rattle.index_core.specs.declared.kept.KeptRows.{KeptRows}
 use Rattle.index_core.specs.Kept.{kept_at}
 use Rattle.index_core.specs.Slots.{kept_from, AreInSlots, HaveSlots, slots_after, costs_in, rows_at, anew}
@@ -26,7 +27,6 @@ use Rattle.index_core.specs.Putting.{put_kept, HasPlace, rows_come}
 use Rattle.index_core.proofs.Collecting.{Collecting, collecting-match, collecting-none}
 use Rattle.index_core.proofs.Finding.{IsThere}
 use Rattle.index_core.proofs.Putting.{kept_in}
-use Rattle.index_core.proofs.Removing.{store-same}
 
 rise-lower : (low high : ℕ) (kept : List KeptRows) → low ≤ high → RiseFrom high kept → RiseFrom low kept
 rise-lower low high [] le h = tt
@@ -172,7 +172,7 @@ pub clearing-one : (s now next : Store) (id more : ℕ) → next ≡ removed id 
 clearing-one s now next id more goes less is h = subst (Clearing s next) (sym is) (subst (λ t. Clearing s t (suc id)) (sym goes) (record { paths = h.paths; next_id = h.next_id; rest = first-gone id now.rows now.next_id less h.rest }))
 
 pub clearing-end : (s now : Store) (id : ℕ) → now.next_id ≤ id → Clearing s now id → now ≡ cleared s
-clearing-end s now id past h = store-same now (cleared s) h.paths h.next_id (none-left id now.rows now.next_id past h.rest)
+clearing-end s now id past h = store_same now (cleared s) h.paths h.next_id (none-left id now.rows now.next_id past h.rest)
 
 -- ---- slots from a place on
 

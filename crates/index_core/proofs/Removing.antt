@@ -5,6 +5,7 @@ use Rattle.std.proofs.lemmas.Bool.{cond-true, cond-false, eq-eqb, ne_eqb}
 use Rattle.doc_store.specs.Store.{Row, Store, id_of, without}
 use Rattle.doc_store.specs.Sound.{Increase, AreApart, IsSound}
 use Rattle.doc_store.proofs.SoundLemmas.{sound-removed}
+use Rattle.doc_store.proofs.StoreLemmas.{store_same}
 use Rattle.doc_store.proofs.NameLemmas.{same_bytes, bytes_eq-turned}
 use Rattle.index_core.specs.Plans.{is_named, all_removed}
 use Rattle.index_core.specs.Removing.{removed_at, removed_under}
@@ -89,9 +90,6 @@ named-more id ids r = by (bytes_eq r.external id)
     by true = refl
     by false = refl
 
-pub store-same : (s t : Store) → s.paths ≡ t.paths → s.next_id ≡ t.next_id → s.rows ≡ t.rows → s ≡ t
-store-same s t p n r = ap (λ v. record { paths = v; next_id = s.next_id; rows = s.rows }) p ∙ ap (λ v. record { paths = t.paths; next_id = v; rows = s.rows }) n ∙ ap (λ v. record { paths = t.paths; next_id = t.next_id; rows = v }) r
-
 -- the documents of the ids so far are gone
 pub record Removes (ids left : List (List ℕ)) (s now : Store) : Type 0 where
   pub told : all_removed left now ≡ all_removed ids s
@@ -101,7 +99,7 @@ pub removes-one : (ids left : List (List ℕ)) (id : List ℕ) (rest : List (Lis
 removes-one ids left id rest s now next is goes h = subst (Removes ids rest s) (sym goes) (record {
   told =
       let others_rest = removed-rest id now in
-      store-same (all_removed rest (removed_under id now)) (all_removed (id ∷ rest) now) others_rest.0 others_rest.1
+      store_same (all_removed rest (removed_under id now)) (all_removed (id ∷ rest) now) others_rest.0 others_rest.1
       (ap (filter (λ r. not (is_named rest r))) (removed-rows id now h.sound) ∙ filter-twice (λ r. not (is_named rest r)) (λ r. not (bytes_eq r.external id)) (λ r. not (is_named (id ∷ rest) r)) (named-more id rest) now.rows)
       ∙ ap (λ v. all_removed v now) (sym is) ∙ h.told;
   sound = removed-sound id now h.sound;
@@ -112,4 +110,4 @@ filter-all p h [] = refl
 filter-all p h (r ∷ rows) = cond-true _ _ _ (h r) ∙ ap (λ v. r ∷ v) (filter-all p h rows)
 
 pub removes-end : (ids left : List (List ℕ)) (s now : Store) → left ≡ [] → Removes ids left s now → now ≡ all_removed ids s
-removes-end ids left s now none h = store-same now (all_removed [] now) refl refl (sym (filter-all (λ r. not (is_named [] r)) (λ r. refl) now.rows)) ∙ ap (λ v. all_removed v now) (sym none) ∙ h.told
+removes-end ids left s now none h = store_same now (all_removed [] now) refl refl (sym (filter-all (λ r. not (is_named [] r)) (λ r. refl) now.rows)) ∙ ap (λ v. all_removed v now) (sym none) ∙ h.told

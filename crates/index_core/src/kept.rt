@@ -46,9 +46,10 @@ pub(crate) fn rows_of_new(
     let mut shared = SharedWords::new(alloc);
     let mut come = Vec::with_capacity(alloc, documents.len())?;
     for (document, id) in documents.iter().zip(ids) {
+        let read = document.document.document(alloc)?;
         come.push(KeptRows {
             id: *id,
-            rows: rows(alloc, &document.document, paths, ranks, &mut shared)?,
+            rows: rows(alloc, &read, paths, ranks, &mut shared)?,
         })?;
     }
     Ok(come)

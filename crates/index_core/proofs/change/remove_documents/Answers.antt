@@ -1,6 +1,5 @@
 use Rattle.std.proofs.Common.{◌≡◌, ◌+◌, ◌∷◌, drop, sym, ap, ◌∙◌, arith}
 use Rattle.std.proofs.lemmas.List.{drop_more, drop_all}
-use Rattle.index_core.specs.Removing.{removed_under}
 use Rattle.index_core.proofs.Removing.{removes-one, removes-end}
 use Rattle.index_core.proofs.change.remove_documents.Goals as goal
 
@@ -15,7 +14,7 @@ loop-id-preserved c =
     let here : drop i ids ≡ id ∷ drop (i + 1) ids = drop_more ids i id (omega arith) ∙ ap (λ x. x ∷ drop (i + 1) ids) (sym c.id-item.is) in
     record {
       goes = removes-one ids (drop i ids) id (drop (i + 1) ids) c.args.store.now.content c.loop-id.store.content c.remove_document.new.store.content here
-          (c.remove_document.ensures.removed ∙ ap (λ e. removed_under e c.loop-id.store.content) c.as_str.ensures) c.loop-id.invariant.goes;
+          c.remove_document.ensures.removed c.loop-id.invariant.goes;
       slots = c.remove_document.ensures.slots;
       kept = λ settings h. c.remove_document.ensures.kept settings (c.loop-id.invariant.kept settings h);
     }
