@@ -17,7 +17,7 @@ if_text text d = if bytes_eq (compact_text d) text then Some d else None
 abbrev pub at_value : List ℕ → Option Data → Option Data
 at_value text value = option_and_then (λ d. option_and_then (if_text text) (accepted (document_of d))) value
 
--- the document whose kept text this is: the compact text of a document and no other
+-- the document whose canonical text this is: the compact text of a document and no other
 abbrev pub document_at : List ℕ → Option Data
 document_at text = if is_utf8 text then at_value text (read text) else None
 

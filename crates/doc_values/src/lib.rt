@@ -18,7 +18,6 @@ mod rows;
 mod stored;
 #[cfg(test)]
 mod tests;
-mod text;
 mod walk;
 
 pub use bodies::{BodyFault, documents_of};
@@ -30,5 +29,4 @@ pub use laws::rows_say_the_walk;
 pub use merge::merged;
 pub use rows::{Flat, FlatRow, flatten};
 pub use stored::DocumentText;
-pub use text::{document_at, document_text};
 pub use walk::paths;

@@ -1,8 +1,9 @@
-ghost use Rattle.std.specs.Prelude.{◌≡◌, IfOk};
+ghost use Rattle.std.specs.Prelude.{◌≡◌, Some, IfOk};
 ghost use Rattle.serde_json.specs.Written.{compact_text};
+ghost use Rattle.doc_values.specs.Stored.{document_at};
 ghost use Rattle.doc_values.specs.Whole.{IsDocument};
 
-use crate::document::Document;
+use crate::document::{Document, DocumentFault};
 use search_base::NoMemory;
 use serde_json::Value;
 use std::alloc::Global;
@@ -40,9 +41,36 @@ impl DocumentText {
         Ok(DocumentText { text })
     }
 
-    /// The canonical text. Takes no memory.
+    /// The document whose canonical text these bytes are. None where they are the canonical text of no document, also
+    /// where they are another JSON text of one.
+    pub fn at(alloc: Global, text: &[u8]) -> Result<Option<DocumentText>, NoMemory>
+        ensures { IfOk result (λ kept. kept ≡ document_at text.now) }
+    {
+        let value = match Value::from_slice(alloc, text) {
+            Ok(value) => value,
+            Err(e) => return if e.is_memory() {
+                Err(NoMemory)
+            } else {
+                Ok(None)
+            },
+        };
+        let document = match Document::from_json(alloc, value) {
+            Ok(document) => document,
+            Err(DocumentFault::NoMemory) => return Err(NoMemory),
+            Err(_) => return Ok(None),
+        };
+        let own = DocumentText::of(alloc, &document)?;
+        if own.text().as_bytes() == text {
+            Ok(Some(own))
+        } else {
+            Ok(None)
+        }
+    }
+
+    /// The canonical text, which gives the document back. Takes no memory.
     pub fn text(&self) -> &str
         ensures text { result.now ≡ compact_text self.now }
+        ensures back { document_at result.now ≡ Some self.now }
         ensures is_document { IsDocument self.now }
     {
         self.text.as_str()

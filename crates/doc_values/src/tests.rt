@@ -1,7 +1,6 @@
 use crate::{
     BodyFault, Change, ChangeKind, Document, DocumentFault, DocumentText, Flat, FlatRow, IdFault,
-    KeyFault, document_at, document_text, documents_of, external_id, flatten, id_of, infer_key,
-    merged, paths,
+    KeyFault, documents_of, external_id, flatten, id_of, infer_key, merged, paths,
 };
 use search_base::{MarkKind, Word};
 use serde_json::Value;
@@ -170,22 +169,16 @@ fn update_and_kept_text(rt: HostRuntime) {
     let old = document(&rt, alloc, "{ \"id\": 1, \"a\": {\"x\": 1}, \"b\": 2 }");
     let new = document(&rt, alloc, "{\"c\":3,\"a\":{\"y\":null}}");
     let both = merged(alloc, &old, &new).expect(&rt, "memory");
-    let text = document_text(alloc, &both).expect(&rt, "memory");
     let want = "{\"a\":{\"y\":null},\"b\":2,\"c\":3,\"id\":1}".as_bytes();
-    assert!(rt; text.as_slice() == want);
-    let back = document_at(alloc, text.as_slice()).expect(&rt, "memory");
-    assert!(rt; back.is_some());
     let kept = DocumentText::of(alloc, &both).expect(&rt, "memory");
     assert!(rt; kept.text().as_bytes() == want);
-    let again = kept.document(alloc).expect(&rt, "memory");
-    assert!(rt;
-        document_text(alloc, &again)
-            .expect(&rt, "memory")
-            .as_slice()
-            == want
-    );
+    let back = kept.document(alloc).expect(&rt, "memory");
+    let again = DocumentText::of(alloc, &back).expect(&rt, "memory");
+    assert!(rt; again.text() == kept.text());
+    let found = DocumentText::at(alloc, want).expect(&rt, "memory");
+    assert!(rt; found.is_some());
     for other in ["{\"b\":1,\"a\":2}", "{ }", "[]", "{\"a\":1.5}", "{"] {
-        let none = document_at(alloc, other.as_bytes()).expect(&rt, "memory");
+        let none = DocumentText::at(alloc, other.as_bytes()).expect(&rt, "memory");
         assert!(rt; none.is_none(), "at {other}");
     }
 }

@@ -10,7 +10,6 @@ ghost use Rattle.index_image.specs.State.{IsState};
 
 use crate::rows::{ImageDocument, ImageIndex, ImageRows};
 use crate::writing::{put_length, put_optional, put_word};
-use doc_values::document_text;
 use index_settings::{Settings, to_json};
 use search_base::{NoMemory, Word};
 use std::alloc::Global;
@@ -65,7 +64,7 @@ fn put_index(alloc: Global, out: &mut Vec<u8>, index: &ImageIndex) -> Result<(),
     put_number(out, index.next_id)?;
     put_paths(out, &index.paths)?;
     put_settings(alloc, out, &index.settings)?;
-    put_documents(alloc, out, &index.documents)?;
+    put_documents(out, &index.documents)?;
     Ok(())
 }
 
@@ -97,39 +96,30 @@ fn put_settings(alloc: Global, out: &mut Vec<u8>, settings: &Settings) -> Result
     Ok(())
 }
 
-fn put_documents(
-    alloc: Global,
-    out: &mut Vec<u8>,
-    documents: &[ImageDocument],
-) -> Result<(), NoMemory>
+fn put_documents(out: &mut Vec<u8>, documents: &[ImageDocument]) -> Result<(), NoMemory>
     ensures bytes { OnOk result (out.new.items ≡ out.old.items ++ list_bytes bytes_of_document documents.now) }
     ensures kept { OnOk result (AllByRecursion IsKept documents.now) }
 {
     put_length(out, documents.len())?;
-    put_each_document(alloc, out, documents)
+    put_each_document(out, documents)
 }
 
-fn put_each_document(
-    alloc: Global,
-    out: &mut Vec<u8>,
-    documents: &[ImageDocument],
-) -> Result<(), NoMemory>
+fn put_each_document(out: &mut Vec<u8>, documents: &[ImageDocument]) -> Result<(), NoMemory>
     ensures bytes { OnOk result (out.new.items ≡ out.old.items ++ flat_map bytes_of_document documents.now) }
     ensures kept { OnOk result (AllByRecursion IsKept documents.now) }
 {
     for document in documents {
-        put_document(alloc, out, document)?;
+        put_document(out, document)?;
     }
     Ok(())
 }
 
-fn put_document(alloc: Global, out: &mut Vec<u8>, document: &ImageDocument) -> Result<(), NoMemory>
+fn put_document(out: &mut Vec<u8>, document: &ImageDocument) -> Result<(), NoMemory>
     ensures bytes { OnOk result (out.new.items ≡ out.old.items ++ bytes_of_document document.now) }
     ensures kept { OnOk result (IsKept document.now) }
 {
-    let text = document_text(alloc, &document.document)?;
     put_number(out, document.id.0)?;
-    put_long(out, &text)?;
+    put_long(out, document.document.text().as_bytes())?;
     Ok(())
 }
 

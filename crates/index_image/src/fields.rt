@@ -5,7 +5,7 @@ ghost use Rattle.index_image.specs.Fields.{byte_at, number_at, piece_at, utf8_of
 ghost use Rattle.index_image.specs.Image.{up_to_at};
 
 use crate::fault::ReadFault;
-use doc_values::{Document, document_at};
+use doc_values::DocumentText;
 use search_base::{NoMemory, Word};
 use std::alloc::Global;
 use std::str;
@@ -134,7 +134,10 @@ pub(crate) fn optional(alloc: Global, bytes: &[u8]) -> Result<(Option<Word>, &[u
 
 /// The documents that are counted, and the bytes behind them.
 #[tactic(auto, unfolding(crate::specs::Fields::counted_at))]
-pub(crate) fn documents(alloc: Global, bytes: &[u8]) -> Result<(Vec<Document>, &[u8]), ReadFault>
+pub(crate) fn documents(
+    alloc: Global,
+    bytes: &[u8],
+) -> Result<(Vec<DocumentText>, &[u8]), ReadFault>
     ensures { Gives (λ x. (x.0.items, x.1.now)) result (counted_at bytes.now) }
 {
     let (count, rest) = u32_at(bytes)?;
@@ -145,7 +148,7 @@ fn some_documents(
     alloc: Global,
     count: u32,
     bytes: &[u8],
-) -> Result<(Vec<Document>, &[u8]), ReadFault>
+) -> Result<(Vec<DocumentText>, &[u8]), ReadFault>
     ensures { Gives (λ x. (x.0.items, x.1.now)) result (documents_at count bytes.now) }
 {
     let mut documents = Vec::new(alloc);
@@ -159,11 +162,11 @@ fn some_documents(
 }
 
 #[tactic(auto, unfolding(crate::specs::Fields::stored_at))]
-fn document(alloc: Global, bytes: &[u8]) -> Result<(Document, &[u8]), ReadFault>
+fn document(alloc: Global, bytes: &[u8]) -> Result<(DocumentText, &[u8]), ReadFault>
     ensures { Gives (λ x. (x.0, x.1.now)) result (stored_at bytes.now) }
 {
     let (front, rest) = piece(bytes)?;
-    match document_at(alloc, front)? {
+    match DocumentText::at(alloc, front)? {
         Some(document) => Ok((document, rest)),
         None => Err(ReadFault::Left(front.len() + rest.len())),
     }

@@ -14,7 +14,7 @@ use crate::fault::ReadFault;
 use crate::fields::{long_piece, optional, text, u32_at, u32_up_to};
 use crate::names::NameSet;
 use crate::rows::{ImageDocument, ImageIndex};
-use doc_values::{Document, IdFault, document_at, external_id, paths};
+use doc_values::{Document, DocumentText, IdFault, external_id, paths};
 use index_settings::{Settings, SettingsFault, patch, to_json};
 use search_base::{DocId, NoMemory, Word};
 use serde_json::Value;
@@ -348,7 +348,7 @@ fn fitting_document<'a>(
     names: &NameSet,
     taken: &mut NameSet,
     bytes: &'a [u8],
-) -> Result<(Document, &'a [u8]), ReadFault>
+) -> Result<(DocumentText, &'a [u8]), ReadFault>
     ensures document { Gives (λ x. (x.0, x.1.now)) result (fitting_at key.now names.now taken.old bytes.now) }
     ensures taken { IfOk result (λ x. SameNames taken.new (unwrap_or (external_under key.now x.0) [] ∷ taken.old)) }
 {
@@ -365,18 +365,33 @@ fn fitting_at_text(
     names: &NameSet,
     taken: &mut NameSet,
     text: &[u8],
-) -> Result<Option<Document>, NoMemory>
+) -> Result<Option<DocumentText>, NoMemory>
     ensures document { IfOk result (λ document. document ≡ fitting key.now names.now taken.old text.now) }
     ensures taken { IfOk result (λ document. IfSome document (λ d. SameNames taken.new (unwrap_or (external_under key.now d) [] ∷ taken.old))) }
 {
-    match document_at(alloc, text)? {
-        Some(document) => if fits(alloc, &document, key, names, taken)? {
+    match DocumentText::at(alloc, text)? {
+        Some(document) => if text_fits(alloc, &document, key, names, taken)? {
             Ok(Some(document))
         } else {
             Ok(None)
         },
         None => Ok(None),
     }
+}
+
+/// Whether the document of a text fits. It is let go again at once.
+fn text_fits(
+    alloc: Global,
+    text: &DocumentText,
+    key: &str,
+    names: &NameSet,
+    taken: &mut NameSet,
+) -> Result<bool, NoMemory>
+    ensures fits { IfOk result (λ fits. fits ≡ fits_in key.now names.now taken.old text.now) }
+    ensures taken { IfOk result (λ fits. fits ≡ true → SameNames taken.new (unwrap_or (external_under key.now text.now) [] ∷ taken.old)) }
+{
+    let document = text.document(alloc)?;
+    fits(alloc, &document, key, names, taken)
 }
 
 /// Whether a document has an id under the key that is not taken, and its paths are registered. Its id is taken then.

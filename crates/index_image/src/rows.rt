@@ -1,4 +1,4 @@
-use doc_values::Document;
+use doc_values::DocumentText;
 use index_settings::Settings;
 use search_base::{DocId, Word};
 
@@ -6,7 +6,7 @@ use search_base::{DocId, Word};
 #[derive(Drop)]
 pub struct ImageDocument {
     pub id: DocId,
-    pub document: Document,
+    pub document: DocumentText,
 }
 
 /// An index: its paths in the order of the registry, and its documents by internal ids.

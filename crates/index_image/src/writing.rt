@@ -10,7 +10,7 @@ ghost use Rattle.index_image.specs.Spelling.{text as text_bytes, optional as opt
 ghost use Rattle.index_image.specs.Change.{change_at};
 ghost use Rattle.index_image.specs.Fits.{IsText, IsKey, IsStored, AreStored, AreIds, IsJson, IsKind};
 
-use doc_values::{Change, ChangeKind, Document, document_text};
+use doc_values::{Change, ChangeKind, DocumentText};
 use search_base::{NoMemory, Word};
 use serde_json::Value;
 use std::alloc::Global;
@@ -70,8 +70,8 @@ fn put_body(alloc: Global, out: &mut Vec<u8>, kind: &ChangeKind) -> Result<(), N
 {
     match kind {
         ChangeKind::Create { key } => put_optional(out, key),
-        ChangeKind::Replace { key, documents } => put_stored(alloc, out, key, documents),
-        ChangeKind::Update { key, documents } => put_stored(alloc, out, key, documents),
+        ChangeKind::Replace { key, documents } => put_stored(out, key, documents),
+        ChangeKind::Update { key, documents } => put_stored(out, key, documents),
         ChangeKind::Remove { ids } => put_ids(alloc, out, ids),
         ChangeKind::Patch { members } => put_json(alloc, out, members),
         ChangeKind::Drop | ChangeKind::Clear | ChangeKind::Reset => Ok(()),
@@ -127,10 +127,9 @@ pub(crate) fn put_optional(out: &mut Vec<u8>, text: &Option<Word>) -> Result<(),
 }
 
 fn put_stored(
-    alloc: Global,
     out: &mut Vec<u8>,
     key: &Option<Word>,
-    documents: &Vec<Document>,
+    documents: &Vec<DocumentText>,
 ) -> Result<(), NoMemory>
     ensures bytes { OnOk result (out.new.items
         ≡ out.old.items ++ (optional_bytes key.now ++ documents_bytes documents.now.items)) }
@@ -139,27 +138,26 @@ fn put_stored(
 {
     put_optional(out, key)?;
     put_length(out, documents.len())?;
-    put_documents(alloc, out, documents)?;
+    put_documents(out, documents)?;
     Ok(())
 }
 
-fn put_documents(alloc: Global, out: &mut Vec<u8>, documents: &[Document]) -> Result<(), NoMemory>
+fn put_documents(out: &mut Vec<u8>, documents: &[DocumentText]) -> Result<(), NoMemory>
     ensures bytes { OnOk result (out.new.items
         ≡ out.old.items ++ flat_map json_bytes documents.now) }
     ensures stored { OnOk result (AllByRecursion IsStored documents.now) }
 {
     for document in documents {
-        put_document(alloc, out, document)?;
+        put_document(out, document)?;
     }
     Ok(())
 }
 
-fn put_document(alloc: Global, out: &mut Vec<u8>, document: &Document) -> Result<(), NoMemory>
+fn put_document(out: &mut Vec<u8>, document: &DocumentText) -> Result<(), NoMemory>
     ensures bytes { OnOk result (out.new.items ≡ out.old.items ++ json_bytes document.now) }
     ensures stored { OnOk result (IsStored document.now) }
 {
-    let text = document_text(alloc, document)?;
-    put_text(out, &text)?;
+    put_text(out, document.text().as_bytes())?;
     Ok(())
 }
 

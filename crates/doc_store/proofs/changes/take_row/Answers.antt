@@ -1,8 +1,7 @@
-use Rattle.std.proofs.Common.{◌≡◌, ◌<◌, ◌≤◌, ◌∙◌, sym, ap, subst, arith, rules, length, Some, None, cond}
+use Rattle.std.proofs.Common.{◌≡◌, ◌<◌, ◌≤◌, ◌∙◌, sym, ap, subst, arith, rules, length, Some, None}
 use Rattle.std.proofs.Math.ListN.{set}
-use Rattle.std.specs.Prelude.{bytes_eq, vec_len}
+use Rattle.std.specs.Prelude.{vec_len}
 use Rattle.std.specs.Option.{is_some}
-use Rattle.doc_store.specs.Names.{number_at}
 use Rattle.doc_store.specs.Slots.{rows_of, IsIndex}
 use Rattle.doc_store.proofs.GoneLemmas.{absent-row}
 use Rattle.doc_store.proofs.SlotLemmas.{slot-got, slot-past, slot-emptied, index-emptied}
