@@ -40,6 +40,7 @@ pub struct IndexCore {
 }
 
 impl Model for IndexCore {
+    ghost use Rattle.std.specs.Prelude.{◌≡◌};
     ghost use Rattle.index_core.specs.Index.{Index, index_code};
     ghost use Rattle.index_core.specs.Matching.{stop_words_of};
     ghost use Rattle.index_core.specs.Slots.{AreInSlots};
