@@ -8,6 +8,7 @@ use Rattle.std.proofs.lemmas.List.{take_more, take-map, drop-map}
 use Rattle.std.proofs.lemmas.List.Elements.{filter_map-append}
 use Rattle.serde_json.specs.Data.{Data}
 use Rattle.search_base.specs.declared.document.DocId.{DocId}
+use Rattle.search_base.specs.declared.rule.Rule.{Rule}
 use Rattle.search_base.specs.GraphView.{GraphView}
 use Rattle.doc_store.specs.Store.{Row, Store, id_of, row_at}
 use Rattle.doc_store.specs.Sound.{Increase, IsSound}
@@ -16,7 +17,7 @@ use Rattle.index_core.specs.declared.kept.KeptRows.{KeptRows}
 use Rattle.index_settings.specs.View.{SettingsView}
 use Rattle.index_core.specs.Index.{Index, document_under}
 use Rattle.index_core.specs.Kept.{kept_at, AreKept, AreOf}
-use Rattle.index_core.specs.Matching.{Match, match_at, match_of, matching, query_of, rows_with}
+use Rattle.index_core.specs.Matching.{Match, match_at, match_of, matching, query_of, rows_with, rules_of}
 use Rattle.index_core.specs.Hits.{hit_at, numbers, hits_of, window_end, most_hits, place_among}
 use Rattle.index_core.specs.Ordered.{matches_in, RiseFrom, IdsRise}
 use Rattle.index_core.proofs.Placing.{AllAre}
@@ -187,12 +188,12 @@ kept-rise st s low (r ∷ rows) high h = (h.0, kept-rise st s (suc r.id) rows hi
 pub ids-rise : (st : SettingsView) (s : Store) (kept : List KeptRows) → AreKept kept st s → IdsRise kept
 ids-rise st s kept h = record { each = subst (RiseFrom 0) (sym h.same) (kept-rise st s 0 s.rows s.next_id h.sound.increase) }
 
-matches-kept : (st : SettingsView) (s : Store) (query : GraphView) (rows : List Row) → matches_in query (map (λ r. kept_at r.id (rows_with st s.paths r.document)) rows) ≡ filter_map (λ r. match_of query r.id (rows_with st s.paths r.document)) rows
-matches-kept st s query [] = refl
-matches-kept st s query (r ∷ rows) = ap (cons_option (match_of query r.id (rows_with st s.paths r.document))) (matches-kept st s query rows)
+matches-kept : (st : SettingsView) (s : Store) (query : GraphView) (rules : List Rule) (rows : List Row) → matches_in query rules (map (λ r. kept_at r.id (rows_with st s.paths r.document)) rows) ≡ filter_map (λ r. match_of query rules r.id (rows_with st s.paths r.document)) rows
+matches-kept st s query rules [] = refl
+matches-kept st s query rules (r ∷ rows) = ap (cons_option (match_of query rules r.id (rows_with st s.paths r.document))) (matches-kept st s query rules rows)
 
-pub matches-same : (index : Index) (kept : List KeptRows) (q : List ℕ) → AreKept kept index.settings index.store → matches_in (query_of index q) kept ≡ matching index q
-matches-same index kept q h = ap (matches_in (query_of index q)) h.same ∙ matches-kept index.settings index.store (query_of index q) index.store.rows
+pub matches-same : (index : Index) (kept : List KeptRows) (q : List ℕ) → AreKept kept index.settings index.store → matches_in (query_of index q) (rules_of index.settings) kept ≡ matching index q
+matches-same index kept q h = ap (matches_in (query_of index q) (rules_of index.settings)) h.same ∙ matches-kept index.settings index.store (query_of index q) (rules_of index.settings) index.store.rows
 
 abbrev IsStored : List Row → Match → Type 0
 IsStored all m = is_some (document_at m.id all) ≡ true
@@ -201,14 +202,14 @@ match-stored : (all : List Row) (id : ℕ) (m : Match) (found : Option (List _))
 match-stored all id m None e h = absurd (cc)
 match-stored all id m (Some costs) e h = let same : match_at id costs ≡ m = cc in subst (λ (v : Match). is_some (document_at v.id all) ≡ true) same h
 
-matching-stored : (st : SettingsView) (s : Store) (query : GraphView) (all rows : List Row) → AllByRecursion (IsThere all) rows → AllAre (IsStored all) (filter_map (λ r. match_of query r.id (rows_with st s.paths r.document)) rows)
-matching-stored st s query all [] h = tt
-matching-stored st s query all (r ∷ rows) h = by (match_of query r.id (rows_with st s.paths r.document)) refl (matching-stored st s query all rows h.1)
+matching-stored : (st : SettingsView) (s : Store) (query : GraphView) (rules : List Rule) (all rows : List Row) → AllByRecursion (IsThere all) rows → AllAre (IsStored all) (filter_map (λ r. match_of query rules r.id (rows_with st s.paths r.document)) rows)
+matching-stored st s query rules all [] h = tt
+matching-stored st s query rules all (r ∷ rows) h = by (match_of query rules r.id (rows_with st s.paths r.document)) refl (matching-stored st s query rules all rows h.1)
   where
-    by : (o : Option Match) → match_of query r.id (rows_with st s.paths r.document) ≡ o → AllAre (IsStored all) (filter_map (λ r. match_of query r.id (rows_with st s.paths r.document)) rows)
-        → AllAre (IsStored all) (cons_option (match_of query r.id (rows_with st s.paths r.document)) (filter_map (λ r. match_of query r.id (rows_with st s.paths r.document)) rows))
-    by None e rest = subst (λ o. AllAre (IsStored all) (cons_option o (filter_map (λ r. match_of query r.id (rows_with st s.paths r.document)) rows))) (sym e) rest
-    by (Some m) e rest = subst (λ o. AllAre (IsStored all) (cons_option o (filter_map (λ r. match_of query r.id (rows_with st s.paths r.document)) rows))) (sym e)
+    by : (o : Option Match) → match_of query rules r.id (rows_with st s.paths r.document) ≡ o → AllAre (IsStored all) (filter_map (λ r. match_of query rules r.id (rows_with st s.paths r.document)) rows)
+        → AllAre (IsStored all) (cons_option (match_of query rules r.id (rows_with st s.paths r.document)) (filter_map (λ r. match_of query rules r.id (rows_with st s.paths r.document)) rows))
+    by None e rest = subst (λ o. AllAre (IsStored all) (cons_option o (filter_map (λ r. match_of query rules r.id (rows_with st s.paths r.document)) rows))) (sym e) rest
+    by (Some m) e rest = subst (λ o. AllAre (IsStored all) (cons_option o (filter_map (λ r. match_of query rules r.id (rows_with st s.paths r.document)) rows))) (sym e)
         (match-stored all r.id m _ e (ap (λ o. is_some (option_map (λ (v : Row). v.document) o)) h.0), rest)
 
 all-filter : (P : Match → Type 0) (p : Match → Bool) (ms : List Match) → AllAre P ms → AllAre P (filter p ms)
@@ -241,7 +242,7 @@ stored-length all (m ∷ hits) h = by (document_at m.id all) refl (stored-length
     by (Some d) e again = ap suc again ∙ ap (λ o. length (cons_option o (filter_map (λ m. document_at m.id all) hits))) (sym e)
 
 pub hits-read : (index : Index) (kept : List KeptRows) (ids : List DocId) (call : SearchCall) → AreKept kept index.settings index.store
-    → map (λ id. id.0) ids ≡ map (λ m. m.id) (hits_of (most_hits index) call (matches_in (query_of index call.q) kept))
+    → map (λ id. id.0) ids ≡ map (λ m. m.id) (hits_of (most_hits index) call (matches_in (query_of index call.q) (rules_of index.settings) kept))
     → filter_map (λ id. option_map (λ r. r.document) (row_at id.0 index.store.rows)) ids
     ≡ filter_map (λ m. option_map (λ r. r.document) (row_at m.id index.store.rows)) (hits_of (most_hits index) call (matching index call.q))
 hits-read index kept ids call h is =
@@ -249,14 +250,14 @@ hits-read index kept ids call h is =
     (is ∙ ap (λ ms. map (λ m. m.id) (hits_of (most_hits index) call ms)) (matches-same index kept call.q h))
 
 pub hits-length : (index : Index) (kept : List KeptRows) (ids : List DocId) (call : SearchCall) → AreKept kept index.settings index.store
-    → map (λ id. id.0) ids ≡ map (λ m. m.id) (hits_of (most_hits index) call (matches_in (query_of index call.q) kept))
+    → map (λ id. id.0) ids ≡ map (λ m. m.id) (hits_of (most_hits index) call (matches_in (query_of index call.q) (rules_of index.settings) kept))
     → length ids ≡ length (filter_map (λ m. option_map (λ r. r.document) (row_at m.id index.store.rows)) (hits_of (most_hits index) call (matching index call.q)))
 hits-length index kept ids call h is =
     let rows = index.store.rows in
     let most = most_hits index in
     let hits = hits_of most call (matching index call.q) in
     same-lengths (λ id. id.0) (λ m. m.id) ids hits (is ∙ ap (λ ms. map (λ m. m.id) (hits_of most call ms)) (matches-same index kept call.q h))
-    ∙ stored-length rows hits (all-hits (IsStored rows) (matching index call.q) (numbers call.offset (window_end most call - call.offset)) (matching-stored index.settings index.store (query_of index call.q) rows rows (rows-there index.store h.sound)))
+    ∙ stored-length rows hits (all-hits (IsStored rows) (matching index call.q) (numbers call.offset (window_end most call - call.offset)) (matching-stored index.settings index.store (query_of index call.q) (rules_of index.settings) rows rows (rows-there index.store h.sound)))
 
 -- ---- the documents of which something is kept
 

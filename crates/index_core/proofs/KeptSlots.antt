@@ -7,6 +7,7 @@ use Rattle.std.specs.Option.{is_some, option_map, unwrap_or}
 use Rattle.std.specs.List.{AllByRecursion}
 use Rattle.std.proofs.lemmas.List.{drop_more, drop-map, take-map, length-set}
 use Rattle.search_base.specs.declared.cost_key.CostKey.{CostKey}
+use Rattle.search_base.specs.declared.rule.Rule.{Rule}
 use Rattle.search_base.specs.GraphView.{GraphView}
 use Rattle.search_base.specs.RowsView.{RowsView}
 use Rattle.index_settings.specs.View.{SettingsView}
@@ -183,22 +184,22 @@ length-slots at None slots = ap (λ n. length (kept_from n slots)) (let e : suc 
 length-slots at (Some rows) slots = ap (λ n. suc (length (kept_from n slots))) (let e : suc at ≡ at + 1 = omega arith in e) ∙ (let e : suc (length (kept_from (at + 1) slots)) ≡ 1 + length (kept_from (at + 1) slots) = omega arith in e)
 
 -- the document of a slot that matches
-pub slot-match : (query : GraphView) (kept : List KeptRows) (at : ℕ) (slots rest : List (Option RowsView)) (slot : Option RowsView) (most : ℕ) (first more : List Match) (total next : ℕ) (costs : List CostKey) → slots ≡ slot ∷ rest
-    → costs_in query slot ≡ Some costs → more ≡ take most (placed (match_at at costs) first) → next ≡ total + 1 → Collecting query kept (kept_from at slots) most first total → Collecting query kept (kept_from (at + 1) rest) most more next
-slot-match query kept at slots rest None most first more total next costs is found grown one h = absurd (cc)
-slot-match query kept at slots rest (Some rows) most first more total next costs is found grown one h =
-    subst (λ n. Collecting query kept (kept_from n rest) most more next) (let e : suc at ≡ at + 1 = omega arith in e)
-    (collecting-match query kept (kept_from at slots) (kept_at at rows) (kept_from (suc at) rest) most first more total next (match_at at costs) (ap (kept_from at) is) (ap (option_map (match_at at)) found) grown one h)
+pub slot-match : (query : GraphView) (rules : List Rule) (kept : List KeptRows) (at : ℕ) (slots rest : List (Option RowsView)) (slot : Option RowsView) (most : ℕ) (first more : List Match) (total next : ℕ) (costs : List CostKey) → slots ≡ slot ∷ rest
+    → costs_in query rules slot ≡ Some costs → more ≡ take most (placed (match_at at costs) first) → next ≡ total + 1 → Collecting query rules kept (kept_from at slots) most first total → Collecting query rules kept (kept_from (at + 1) rest) most more next
+slot-match query rules kept at slots rest None most first more total next costs is found grown one h = absurd (cc)
+slot-match query rules kept at slots rest (Some rows) most first more total next costs is found grown one h =
+    subst (λ n. Collecting query rules kept (kept_from n rest) most more next) (let e : suc at ≡ at + 1 = omega arith in e)
+    (collecting-match query rules kept (kept_from at slots) (kept_at at rows) (kept_from (suc at) rest) most first more total next (match_at at costs) (ap (kept_from at) is) (ap (option_map (match_at at)) found) grown one h)
 
 -- a slot without
-pub slot-none : (query : GraphView) (kept : List KeptRows) (at : ℕ) (slots rest : List (Option RowsView)) (slot : Option RowsView) (most : ℕ) (first more : List Match) (total next : ℕ) → slots ≡ slot ∷ rest
-    → costs_in query slot ≡ None → more ≡ first → next ≡ total → Collecting query kept (kept_from at slots) most first total → Collecting query kept (kept_from (at + 1) rest) most more next
-slot-none query kept at slots rest None most first more total next is none stays same h =
-    subst (λ n. Collecting query kept (kept_from n rest) most more next) (let e : suc at ≡ at + 1 = omega arith in e)
-    (subst (λ n. Collecting query kept (kept_from (suc at) rest) most more n) (sym same) (subst (λ v. Collecting query kept (kept_from (suc at) rest) most v total) (sym stays) (subst (λ v. Collecting query kept (kept_from at v) most first total) is h)))
-slot-none query kept at slots rest (Some rows) most first more total next is none stays same h =
-    subst (λ n. Collecting query kept (kept_from n rest) most more next) (let e : suc at ≡ at + 1 = omega arith in e)
-    (collecting-none query kept (kept_from at slots) (kept_at at rows) (kept_from (suc at) rest) most first more total next (ap (kept_from at) is) (ap (option_map (match_at at)) none) stays same h)
+pub slot-none : (query : GraphView) (rules : List Rule) (kept : List KeptRows) (at : ℕ) (slots rest : List (Option RowsView)) (slot : Option RowsView) (most : ℕ) (first more : List Match) (total next : ℕ) → slots ≡ slot ∷ rest
+    → costs_in query rules slot ≡ None → more ≡ first → next ≡ total → Collecting query rules kept (kept_from at slots) most first total → Collecting query rules kept (kept_from (at + 1) rest) most more next
+slot-none query rules kept at slots rest None most first more total next is none stays same h =
+    subst (λ n. Collecting query rules kept (kept_from n rest) most more next) (let e : suc at ≡ at + 1 = omega arith in e)
+    (subst (λ n. Collecting query rules kept (kept_from (suc at) rest) most more n) (sym same) (subst (λ v. Collecting query rules kept (kept_from (suc at) rest) most v total) (sym stays) (subst (λ v. Collecting query rules kept (kept_from at v) most first total) is h)))
+slot-none query rules kept at slots rest (Some rows) most first more total next is none stays same h =
+    subst (λ n. Collecting query rules kept (kept_from n rest) most more next) (let e : suc at ≡ at + 1 = omega arith in e)
+    (collecting-none query rules kept (kept_from at slots) (kept_at at rows) (kept_from (suc at) rest) most first more total next (ap (kept_from at) is) (ap (option_map (match_at at)) none) stays same h)
 
 -- ---- rows anew
 

@@ -17,17 +17,17 @@ use Rattle.index_settings.specs.declared.fault.SettingsFault.{SettingsFault}
 use Rattle.index_settings.specs.View.{SettingsView}
 use Rattle.index_settings.specs.Table.{defaults, patch_fault}
 use Rattle.index_settings.specs.Values.{texts_in}
-use Rattle.index_settings.specs.Patch.{chosen, patched, unless_wrong, patch_of}
+use Rattle.index_settings.specs.Patch.{chosen, patched}
 use Rattle.index_core.specs.declared.fault.CoreFault.{CoreFault}
 use Rattle.index_core.specs.declared.fault.CoreFault.TheVariants.{KeyDiffers}
 use Rattle.index_core.specs.declared.kept.KeptRows.{KeptRows}
 use Rattle.index_core.specs.Index.{Index, documents}
-use Rattle.index_core.specs.PlanView.{PlanView, Work, replace, update, remove, clear, settle}
-use Rattle.index_core.specs.Plans.{◌>>=◌, key_for, rows_for, plan_of, documents_planned, settled, planned, is_named, after_work, settings_after, unless_spent, applied}
+use Rattle.index_core.specs.PlanView.{PlanView, Work, replace, update, remove, clear, patch, reset}
+use Rattle.index_core.specs.Plans.{◌>>=◌, key_for, rows_for, plan_of, documents_planned, patch_planned, planned, is_named, after_work, settings_after, unless_spent, applied}
 use Rattle.index_core.specs.Kept.{kept_of, AreKept}
-use Rattle.index_core.specs.Matching.{query_of}
+use Rattle.index_core.specs.Matching.{query_of, rules_of}
 use Rattle.index_core.specs.Hits.{window_end, most_hits}
-use Rattle.index_core.specs.Fetches.{search_alike, needed}
+use Rattle.index_core.specs.Fetches.{search_alike, needed, needed_under}
 use Rattle.index_core.specs.Laws.{KeyStays, PathsStay, IdsAreSpentOnce, NoWordFindsTheList, LeavesSearch, OtherPatchesLeaveSearch, SettingsReadOnce}
 use Rattle.index_core.proofs.Collecting.{hits-empty}
 use Rattle.index_core.proofs.Finding.{ids-rise, hits-read, part-read}
@@ -61,9 +61,9 @@ found_good plan = Ok plan
 key_same : (key : Option (List ℕ)) (work : Work) (plan : PlanView) → found_good (plan_of key work) ≡ Ok plan → plan.key ≡ key
 key_same key work plan h = let same : plan_of key work ≡ plan = cc in ap (λ (p : PlanView). p.key) (sym same)
 
-key_settled : (key : Option (List ℕ)) (settings : Result SettingsView SettingsFault) (plan : PlanView) → settled key settings ≡ Ok plan → plan.key ≡ key
-key_settled key (Ok settings) plan h = key_same key (settle settings) plan h
-key_settled key (Err fault) plan h = absurd (cc)
+key_patched : (key : Option (List ℕ)) (members : Data) (fault : Option SettingsFault) (plan : PlanView) → patch_planned key members fault ≡ Ok plan → plan.key ≡ key
+key_patched key members None plan h = key_same key (patch members) plan h
+key_patched key members (Some fault) plan h = absurd (cc)
 
 key_planned : (index : Index) (change : KindData) (plan : PlanView) (own : List ℕ) → index.key ≡ Some own → planned index change ≡ Ok plan → plan.key ≡ Some own
 key_planned index (kind.replace given ds) plan own is h = key_documents own given ds replace plan (subst (λ k. documents_planned k given ds replace ≡ Ok plan) is h)
@@ -72,8 +72,8 @@ key_planned index (kind.remove ids) plan own is h = key_same index.key (remove i
 key_planned index kind.clear plan own is h = key_same index.key clear plan h ∙ is
 key_planned index (kind.create key) plan own is h = key_same index.key (replace []) plan h ∙ is
 key_planned index kind.drop_index plan own is h = key_same index.key (replace []) plan h ∙ is
-key_planned index (kind.patch d) plan own is h = key_settled index.key (patch_of index.settings d) plan h ∙ is
-key_planned index kind.reset plan own is h = key_same index.key (settle defaults) plan h ∙ is
+key_planned index (kind.patch d) plan own is h = key_patched index.key d (patch_fault d) plan h ∙ is
+key_planned index kind.reset plan own is h = key_same index.key reset plan h ∙ is
 
 unless_ok : (index after : Index) (fault : Option StoreFault) → unless_spent index fault ≡ Ok after → index ≡ after
 unless_ok index after None h = cc
@@ -116,7 +116,8 @@ grows-work (replace rows) s = grows-stored rows s
 grows-work (update rows) s = subst (λ (t : Store). Grows s.paths t.paths) (sym (updated-stored rows s)) (grows-stored (updated_rows rows s) s)
 grows-work (remove ids) s = grows-same s.paths
 grows-work clear s = grows-same s.paths
-grows-work (settle settings) s = grows-same s.paths
+grows-work (patch members) s = grows-same s.paths
+grows-work reset s = grows-same s.paths
 
 pub paths_stay : PathsStay
 paths_stay index after change takes = subst (λ (i : Index). Grows index.store.paths i.store.paths) (applied-is takes.plan index after takes.is_applied) (grows-work takes.plan.work index.store)
@@ -141,7 +142,8 @@ spent-work (replace rows) s id low gone = (next_id-grows rows s, never_given_aga
 spent-work (update rows) s id low gone = subst (Spent id s) (sym (updated-stored rows s)) (next_id-grows (updated_rows rows s) s, never_given_again (updated_rows rows s) s id low gone)
 spent-work (remove ids) s id low gone = (omega arith, absent-filter (λ r. not (is_named ids r)) id s.rows gone)
 spent-work clear s id low gone = (omega arith, refl)
-spent-work (settle settings) s id low gone = (omega arith, gone)
+spent-work (patch members) s id low gone = (omega arith, gone)
+spent-work reset s id low gone = (omega arith, gone)
 
 pub ids_are_spent_once : IdsAreSpentOnce
 ids_are_spent_once index after change id takes low gone = subst (λ (i : Index). Spent id index.store i.store) (applied-is takes.plan index after takes.is_applied) (spent-work takes.plan.work index.store id low gone)
@@ -161,7 +163,7 @@ no_word_finds_the_list index call sound none =
     let all : AreKept kept index.settings s = record { same = refl; sound = sound } in
     let some = take n (drop call.offset kept) in
     let ids = map (λ (k : KeptRows). k.id) some in
-    sym (hits-read index kept ids call all (ids-in some ∙ hits-empty most call (query_of index call.q) kept (ids-rise index.settings s kept all) none)) ∙ part-read index.settings s kept ids call.offset n all (ids-in some)
+    sym (hits-read index kept ids call all (ids-in some ∙ hits-empty most call (query_of index call.q) (rules_of index.settings) kept (ids-rise index.settings s kept all) none)) ∙ part-read index.settings s kept ids call.offset n all (ids-in some)
 
 -- ---- settings
 
@@ -177,18 +179,21 @@ other_patches_leave_search index d plan none h = by (patch_fault d) h
     stays : new.searchable_attributes ≡ old.searchable_attributes
     stays = ap (chosen old.searchable_attributes defaults.searchable_attributes texts_in) none
 
-    reads : needed (settle new) index ≡ 0
+    reads : needed (patch d) index ≡ 0
     reads = cond-true (search_alike new old) _ _ (alike-texts new.searchable_attributes old.searchable_attributes stays)
 
-    by : (fault : Option SettingsFault) → settled index.key (unless_wrong fault new) ≡ Ok plan → LeavesSearch index plan
-    by None is = let same : plan_of index.key (settle new) ≡ plan = cc in subst (LeavesSearch index) same (record { settings = new; settles = refl; attributes = stays; reads = reads })
+    by : (fault : Option SettingsFault) → patch_planned index.key d fault ≡ Ok plan → LeavesSearch index plan
+    by None is = let same : plan_of index.key (patch d) ≡ plan = cc in subst (LeavesSearch index) same (record { attributes = stays; reads = reads })
     by (Some fault) is = absurd (cc)
 
 count-documents : (rows : List Row) → length (map (λ r. r.document) rows) ≡ length rows
 count-documents [] = refl
 count-documents (r ∷ rows) = ap suc (count-documents rows)
 
-pub settings_read_once : SettingsReadOnce
-settings_read_once index settings =
+read-once : (settings : SettingsView) (index : Index) → needed_under settings index ≤ length (documents index)
+read-once settings index =
     let same = count-documents index.store.rows in
     cond_both (search_alike settings index.settings) 0 (length index.store.rows) (λ n. n ≤ length (documents index)) (λ _. omega arith) (λ _. omega arith)
+
+pub settings_read_once : SettingsReadOnce
+settings_read_once index members = (read-once (patched defaults index.settings members) index, read-once defaults index)

@@ -1,5 +1,5 @@
 -- A document stays under its internal id.
-use Rattle.std.proofs.Common.{◌≡◌, ℕ, Bool, true, false, List, [], ◌∷◌, filter, Option, Some, Result, Ok, Err, refl, sym, ap, subst, ◌∙◌, bytes_eq}
+use Rattle.std.proofs.Common.{◌≡◌, ℕ, Bool, true, false, List, [], ◌∷◌, filter, Option, None, Some, Result, Ok, Err, refl, sym, ap, subst, ◌∙◌, bytes_eq}
 use Rattle.std.specs.Prelude.{not}
 use Rattle.std.specs.List.{list_any}
 use Rattle.std.proofs.lemmas.Bool.{cond-true, cond-false, cond_both}
@@ -11,13 +11,11 @@ use Rattle.doc_store.specs.Store.{Row, Store, id_of}
 use Rattle.doc_store.proofs.LawLemmas.{ids_stay}
 use Rattle.doc_store.proofs.NameLemmas.{same_bytes}
 use Rattle.index_settings.specs.declared.fault.SettingsFault.{SettingsFault}
-use Rattle.index_settings.specs.View.{SettingsView}
-use Rattle.index_settings.specs.Table.{defaults}
-use Rattle.index_settings.specs.Patch.{patch_of}
+use Rattle.index_settings.specs.Table.{patch_fault}
 use Rattle.index_core.specs.declared.fault.CoreFault.{CoreFault}
 use Rattle.index_core.specs.Index.{Index}
-use Rattle.index_core.specs.PlanView.{PlanView, Work, replace, update, remove, clear, settle}
-use Rattle.index_core.specs.Plans.{◌>>=◌, key_for, rows_for, plan_of, documents_planned, settled, planned, is_named, after_work}
+use Rattle.index_core.specs.PlanView.{PlanView, Work, replace, update, remove, clear, patch, reset}
+use Rattle.index_core.specs.Plans.{◌>>=◌, key_for, rows_for, plan_of, documents_planned, patch_planned, planned, is_named, after_work}
 use Rattle.index_core.specs.Updating.{updated_rows}
 use Rattle.index_core.specs.Laws.{Spares, DocumentsStay}
 use Rattle.index_core.proofs.LawLemmas.{bind_ok, applied-is}
@@ -29,7 +27,8 @@ SparesIn (replace rows) external = Unit {0}
 SparesIn (update rows) external = Unit {0}
 SparesIn (remove ids) external = list_any (bytes_eq external) ids ≡ false
 SparesIn clear external = ⊥
-SparesIn (settle settings) external = Unit {0}
+SparesIn (patch members) external = Unit {0}
+SparesIn reset external = Unit {0}
 
 abbrev fine : PlanView → Result PlanView CoreFault
 fine plan = Ok plan
@@ -44,9 +43,9 @@ spared-documents external own given ds work plan h is =
     let b = bind_ok (rows_for a.0 ds) (λ rows. Ok (plan_of a.0 (work rows))) plan a.2 in
     spared external a.0 (work b.0) plan (h b.0) b.2
 
-spared-settled : (external : List ℕ) (key : Option (List ℕ)) (settings : Result SettingsView SettingsFault) (plan : PlanView) → settled key settings ≡ Ok plan → SparesIn plan.work external
-spared-settled external key (Ok settings) plan is = spared external key (settle settings) plan tt is
-spared-settled external key (Err fault) plan is = absurd (cc)
+spared-patched : (external : List ℕ) (key : Option (List ℕ)) (members : Data) (fault : Option SettingsFault) (plan : PlanView) → patch_planned key members fault ≡ Ok plan → SparesIn plan.work external
+spared-patched external key members None plan is = spared external key (patch members) plan tt is
+spared-patched external key members (Some fault) plan is = absurd (cc)
 
 spared-planned : (external : List ℕ) (index : Index) (change : KindData) (plan : PlanView) → Spares change external → planned index change ≡ Ok plan → SparesIn plan.work external
 spared-planned external index (kind.replace given ds) plan h is = spared-documents external index.key given ds replace plan (λ _. tt) is
@@ -55,8 +54,8 @@ spared-planned external index (kind.remove ids) plan h is = spared external inde
 spared-planned external index kind.clear plan h is = absurd h
 spared-planned external index (kind.create key) plan h is = spared external index.key (replace []) plan tt is
 spared-planned external index kind.drop_index plan h is = spared external index.key (replace []) plan tt is
-spared-planned external index (kind.patch d) plan h is = spared-settled external index.key (patch_of index.settings d) plan is
-spared-planned external index kind.reset plan h is = spared external index.key (settle defaults) plan tt is
+spared-planned external index (kind.patch d) plan h is = spared-patched external index.key d (patch_fault d) plan is
+spared-planned external index kind.reset plan h is = spared external index.key reset plan tt is
 
 -- the others go, and it stays where it is
 stays-filter : (external : List ℕ) (ids : List (List ℕ)) (rows : List Row) → list_any (bytes_eq external) ids ≡ false → id_of external (filter (λ r. not (is_named ids r)) rows) ≡ id_of external rows
@@ -78,7 +77,8 @@ stays-work (replace rows) s external id h there = ids_stay rows s external id th
 stays-work (update rows) s external id h there = subst (λ (t : Store). id_of external t.rows ≡ Some id) (sym (updated-stored rows s)) (ids_stay (updated_rows rows s) s external id there)
 stays-work (remove ids) s external id h there = stays-filter external ids s.rows h ∙ there
 stays-work clear s external id h there = absurd h
-stays-work (settle settings) s external id h there = there
+stays-work (patch members) s external id h there = there
+stays-work reset s external id h there = there
 
 pub documents_stay : DocumentsStay
 documents_stay index after change external id takes spares there =

@@ -2,7 +2,6 @@
 use Rattle.std.specs.Prelude.{◌≡◌, ◌<◌, ◌≤◌, ℕ, ◌-◌, List, [], ◌++◌, length, take, drop, codes, bytes_eq, false, Some, None, Ok}
 use Rattle.std.specs.List.{list_any}
 use Rattle.doc_values.specs.Changes.{KindData, remove, clear, patch}
-use Rattle.index_settings.specs.View.{SettingsView}
 use Rattle.serde_json.specs.Data.{Data}
 use Rattle.serde_json.specs.Find.{get}
 use Rattle.doc_store.specs.Store.{row_at, id_of}
@@ -12,8 +11,9 @@ use Rattle.index_core.specs.Fetches.{needed}
 use Rattle.index_core.specs.Hits.{found, most_hits, window_end}
 use Rattle.index_core.specs.Index.{Index, documents}
 use Rattle.index_core.specs.Matching.{query_of}
-use Rattle.index_core.specs.PlanView.{PlanView, settle}
-use Rattle.index_core.specs.Plans.{planned, applied}
+use Rattle.index_core.specs.PlanView.{PlanView}
+use Rattle.index_core.specs.PlanView as work
+use Rattle.index_core.specs.Plans.{planned, applied, settings_after}
 
 -- the index took the change, and became the other one
 pub record Takes (index : Index) (change : KindData) (after : Index) : Type 0 where
@@ -52,9 +52,7 @@ NoWordFindsTheList = (index : Index) (call : SearchCall) → IsSound index.store
 
 -- a patch that does not name the searchable attributes leaves them, and reads no document
 pub record LeavesSearch (index : Index) (plan : PlanView) : Type 0 where
-  pub settings : SettingsView
-  pub settles : plan.work ≡ settle settings
-  pub attributes : settings.searchable_attributes ≡ index.settings.searchable_attributes
+  pub attributes : (settings_after plan.work index.settings).searchable_attributes ≡ index.settings.searchable_attributes
   pub reads : needed plan.work index ≡ 0
 
 abbrev pub OtherPatchesLeaveSearch : Type 0
@@ -63,4 +61,4 @@ OtherPatchesLeaveSearch = (index : Index) (members : Data) (plan : PlanView) →
 
 -- a patch or a reset reads each document at most once
 abbrev pub SettingsReadOnce : Type 0
-SettingsReadOnce = (index : Index) (settings : SettingsView) → needed (settle settings) index ≤ length (documents index)
+SettingsReadOnce = (index : Index) (members : Data) → (needed (work.patch members) index ≤ length (documents index)) × (needed work.reset index ≤ length (documents index))

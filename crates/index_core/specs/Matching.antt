@@ -1,7 +1,8 @@
 -- The documents that match a query, each with the costs by which it is ranked.
-use Rattle.std.specs.Prelude.{ℕ, ◌+◌, List, [], ◌∷◌, Option, Some, None}
+use Rattle.std.specs.Prelude.{ℕ, ◌+◌, List, [], ◌∷◌, Option, Some, None, if◌then◌else◌, codes}
 use Rattle.std.specs.Option.{option_map}
 use Rattle.std.specs.List.{filter_map}
+use Rattle.std.specs.Str.{bytes_eq}
 use Rattle.serde_json.specs.Data.{Data}
 use Rattle.search_base.specs.declared.cost_key.CostKey.{CostKey}
 use Rattle.search_base.specs.declared.query.Strategy.TheVariants.{Last}
@@ -36,9 +37,13 @@ ranks_in index = ranks_from index.settings 0 index.store.paths
 abbrev pub rows_in : Index → Data → RowsView
 rows_in index document = rows_with index.settings index.store.paths document
 
--- the rules by which documents are ranked
-abbrev pub rules : List Rule
-rules = Words ∷ []
+-- the rule that an entry of the ranking rules names, where it is built: today `words` alone
+abbrev pub rule_named : List ℕ → Option Rule
+rule_named entry = if bytes_eq entry (codes "words") then Some Words else None
+
+-- the rules by which documents are ranked: those that the ranking rules name, in their order
+abbrev pub rules_of : SettingsView → List Rule
+rules_of settings = filter_map rule_named settings.ranking_rules
 
 -- the one word of a text that has exactly one
 abbrev pub only_word : List Token → Option (List ℕ)
@@ -69,10 +74,10 @@ abbrev pub match_at : ℕ → List CostKey → Match
 match_at id costs = record { costs = costs; id = id }
 
 -- the match of a document of which a search sees these rows, where it matches
-abbrev pub match_of : GraphView → ℕ → RowsView → Option Match
-match_of query id rows = option_map (match_at id) (tuple rows query rules)
+abbrev pub match_of : GraphView → List Rule → ℕ → RowsView → Option Match
+match_of query rules id rows = option_map (match_at id) (tuple rows query rules)
 
 -- the matching documents, in the order of their internal ids. To a query with no item each document matches, and all
 -- cost the same
 abbrev pub matching : Index → List ℕ → List Match
-matching index q = filter_map (λ r. match_of (query_of index q) r.id (rows_in index r.document)) index.store.rows
+matching index q = filter_map (λ r. match_of (query_of index q) (rules_of index.settings) r.id (rows_in index r.document)) index.store.rows

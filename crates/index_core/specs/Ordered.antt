@@ -1,6 +1,7 @@
 -- The matches that are first, as a search collects them.
 use Rattle.std.specs.Prelude.{◌≡◌, ◌≤◌, ℕ, suc, true, List, [], ◌∷◌, if◌then◌else◌}
 use Rattle.std.specs.List.{AllByRecursion, filter_map}
+use Rattle.search_base.specs.declared.rule.Rule.{Rule}
 use Rattle.search_base.specs.GraphView.{GraphView}
 use Rattle.index_core.specs.declared.kept.KeptRows.{KeptRows}
 use Rattle.index_core.specs.Matching.{Match, match_of}
@@ -22,8 +23,8 @@ AreInOrder [] = Unit {0}
 AreInOrder (x ∷ xs) = AllByRecursion (λ y. stands_before x y ≡ true) xs × AreInOrder xs
 
 -- the matches among the documents of which these rows are kept
-abbrev pub matches_in : GraphView → List KeptRows → List Match
-matches_in query kept = filter_map (λ k. match_of query k.id.0 k.rows) kept
+abbrev pub matches_in : GraphView → List Rule → List KeptRows → List Match
+matches_in query rules kept = filter_map (λ k. match_of query rules k.id.0 k.rows) kept
 
 -- the internal ids rise
 abbrev pub RiseFrom : ℕ → List KeptRows → Type 0

@@ -11,10 +11,10 @@ use Rattle.doc_store.specs.declared.rows.StoreFault.{StoreFault}
 use Rattle.doc_store.specs.Store.{Row, Store, stored, all_stored, spent}
 use Rattle.index_settings.specs.declared.fault.SettingsFault.{SettingsFault}
 use Rattle.index_settings.specs.View.{SettingsView}
-use Rattle.index_settings.specs.Table.{defaults}
-use Rattle.index_settings.specs.Patch.{patch_of}
+use Rattle.index_settings.specs.Table.{defaults, patch_fault}
+use Rattle.index_settings.specs.Patch.{patched}
 use Rattle.index_core.specs.Index.{Index, document_under}
-use Rattle.index_core.specs.PlanView.{PlanView, Work, replace, update, remove, clear, settle}
+use Rattle.index_core.specs.PlanView.{PlanView, Work, replace, update, remove, clear, patch, reset}
 use Rattle.index_core.specs.Faults.{key_result, id_result, store_refusal, settings_refusal}
 use Rattle.index_core.specs.declared.fault.CoreFault.{CoreFault}
 use Rattle.index_core.specs.declared.fault.CoreFault.TheVariants.{KeyDiffers}
@@ -58,10 +58,10 @@ documents_planned own given ds work = do
   rows ← rows_for key ds
   Ok (plan_of key (work rows))
 
--- the settings that a patch makes, or what is wrong with it
-abbrev pub settled : Option (List ℕ) → Result SettingsView SettingsFault → Result PlanView CoreFault
-settled key (Ok settings) = Ok (plan_of key (settle settings))
-settled key (Err fault) = Err (settings_refusal fault)
+-- the members of a patch, or its first fault
+abbrev pub patch_planned : Option (List ℕ) → Data → Option SettingsFault → Result PlanView CoreFault
+patch_planned key members None = Ok (plan_of key (patch members))
+patch_planned key members (Some fault) = Err (settings_refusal fault)
 
 -- One equation a kind of change. A change that makes an index or takes it away does nothing here.
 abbrev pub planned : Index → KindData → Result PlanView CoreFault
@@ -69,8 +69,8 @@ planned index (kind.replace given ds) = documents_planned index.key given ds rep
 planned index (kind.update given ds) = documents_planned index.key given ds update
 planned index (kind.remove ids) = Ok (plan_of index.key (remove ids))
 planned index kind.clear = Ok (plan_of index.key clear)
-planned index (kind.patch members) = settled index.key (patch_of index.settings members)
-planned index kind.reset = Ok (plan_of index.key (settle defaults))
+planned index (kind.patch members) = patch_planned index.key members (patch_fault members)
+planned index kind.reset = Ok (plan_of index.key reset)
 planned index other = Ok (plan_of index.key (replace []))
 
 -- ---- what changes
@@ -104,14 +104,16 @@ after_work (replace rows) s = all_stored rows s
 after_work (update rows) s = all_updated rows s
 after_work (remove ids) s = all_removed ids s
 after_work clear s = cleared s
-after_work (settle settings) s = s
+after_work (patch members) s = s
+after_work reset s = s
 
 abbrev pub settings_after : Work → SettingsView → SettingsView
 settings_after (replace rows) old = old
 settings_after (update rows) old = old
 settings_after (remove ids) old = old
 settings_after clear old = old
-settings_after (settle settings) old = settings
+settings_after (patch members) old = patched defaults old members
+settings_after reset old = defaults
 
 abbrev pub unless_spent : Index → Option StoreFault → Result Index CoreFault
 unless_spent after None = Ok after

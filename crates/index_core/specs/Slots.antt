@@ -1,6 +1,7 @@
 -- What an index keeps of its documents, in a slot for each internal id that was given.
 use Rattle.std.specs.Prelude.{◌≡◌, ◌≤◌, ℕ, suc, max, List, [], ◌∷◌, length, Option, None, Some}
 use Rattle.search_base.specs.declared.cost_key.CostKey.{CostKey}
+use Rattle.search_base.specs.declared.rule.Rule.{Rule}
 use Rattle.search_base.specs.GraphView.{GraphView}
 use Rattle.search_base.specs.RowsView.{RowsView}
 use Rattle.search_base.specs.Tuple.{tuple}
@@ -10,7 +11,6 @@ use Rattle.doc_rows.specs.Rows.{rows_of}
 use Rattle.doc_store.specs.Store.{Store, row_at}
 use Rattle.index_core.specs.declared.kept.KeptRows.{KeptRows}
 use Rattle.index_core.specs.Kept.{kept_at, AreKept}
-use Rattle.index_core.specs.Matching.{rules}
 
 -- the rows in the slots, of which the first has the internal id
 abbrev pub kept_from : ℕ → List (Option RowsView) → List KeptRows
@@ -34,9 +34,9 @@ slots_after [] many = many
 slots_after (one ∷ more) many = slots_after more (max many (suc one.id.0))
 
 -- the costs of a document that matches, where there is one
-abbrev pub costs_in : GraphView → Option RowsView → Option (List CostKey)
-costs_in query None = None
-costs_in query (Some rows) = tuple rows query rules
+abbrev pub costs_in : GraphView → List Rule → Option RowsView → Option (List CostKey)
+costs_in query rules None = None
+costs_in query rules (Some rows) = tuple rows query rules
 
 -- what a search sees of the document with an internal id, where there is one, by the ranks of the paths
 abbrev pub rows_at : ℕ → List (Option ℕ) → Store → Option RowsView

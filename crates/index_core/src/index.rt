@@ -15,11 +15,11 @@ use crate::change::{clear_documents, remove_documents, store_documents};
 use crate::fault::CoreFault;
 use crate::kept::Slots;
 use crate::plan::{
-    Plan, Work, keeping_key, no_work, planned_patch, planned_replace, planned_reset, planned_update,
+    Plan, Work, keeping_key, no_work, planned_patch, planned_replace, planned_update,
 };
 use crate::read::read;
 use crate::search::rank;
-use crate::settle::settle;
+use crate::settle::{patch_settings, reset_settings};
 use crate::update::update_rows;
 use doc_store::DocStore;
 use doc_values::{ChangeKind, DocumentText};
@@ -28,18 +28,21 @@ use search_base::{NoMemory, Steps, Word};
 use std::alloc::Global;
 use std::marker::Model;
 
-/// One index, seen as its primary key, its store and its settings. What it keeps so that a search reads no document is
-/// not seen.
+/// One index, seen as its primary key, its store and its settings. What it keeps so that a search reads no document and
+/// cuts no stop word is not seen.
 #[derive(Drop)]
 pub struct IndexCore {
     key: Option<Word>,
     store: DocStore,
     settings: Settings,
+    stops: Vec<Word>,
     kept: Slots,
 }
 
 impl Model for IndexCore {
+    ghost use Rattle.std.specs.Prelude.{◌≡◌};
     ghost use Rattle.index_core.specs.Index.{Index, index_code};
+    ghost use Rattle.index_core.specs.Matching.{stop_words_of};
     ghost use Rattle.index_core.specs.Slots.{AreInSlots};
 
     ghost Value = { Index };
@@ -48,7 +51,8 @@ impl Model for IndexCore {
 
     ghost view = { λ index. record { key = index.key; store = index.store.content; settings = index.settings } };
 
-    ghost invariant = { λ index. AreInSlots index.kept.items index.settings index.store.content };
+    ghost invariant = { λ index. AreInSlots index.kept.items index.settings index.store.content
+        × (index.stops.items ≡ stop_words_of index.settings) };
 }
 
 impl IndexCore {
@@ -60,6 +64,7 @@ impl IndexCore {
             key: None,
             store: DocStore::new(alloc)?,
             settings: Settings::defaults(alloc)?,
+            stops: Vec::new(alloc),
             kept: Vec::new(alloc),
         })
     }
@@ -96,7 +101,7 @@ impl IndexCore {
     /// nothing.
     ///
     /// A change that makes an index or drops it is planned as one of no documents. A change of 2^32 documents or more
-    /// counts as one for which there is no memory. Settings share their lists with those that a patch makes of them.
+    /// counts as one for which there is no memory.
     pub fn plan(&self, alloc: Global, change: ChangeKind) -> Result<Plan, CoreFault>
         ensures { MatchResult result (λ plan. planned self.now (kind_view change) ≡ Ok plan)
             (λ fault. fault ≢ Memory → planned self.now (kind_view change) ≡ Err fault) }
@@ -107,8 +112,8 @@ impl IndexCore {
             ChangeKind::Update { key, documents } => planned_update(alloc, own, key, documents),
             ChangeKind::Remove { ids } => keeping_key(own, Work::Remove { ids }),
             ChangeKind::Clear => keeping_key(own, Work::Clear),
-            ChangeKind::Patch { members } => planned_patch(alloc, own, &self.settings, &members),
-            ChangeKind::Reset => planned_reset(alloc, own),
+            ChangeKind::Patch { members } => planned_patch(alloc, own, &self.settings, members),
+            ChangeKind::Reset => keeping_key(own, Work::Reset),
             _ => keeping_key(own, no_work(alloc)),
         }
     }
@@ -118,7 +123,7 @@ impl IndexCore {
     ///
     /// Where ids or paths are spent, ids are named first. An update reads each stored document that it names once, and
     /// new settings read each document once where they search other paths or rank them otherwise; no other change reads
-    /// one.
+    /// one. What a patch does not name is not looked at, and shares its list with the settings before.
     pub fn apply<F>(
         &mut self,
         alloc: Global,
@@ -169,9 +174,16 @@ impl IndexCore {
                 clear_documents(&mut self.store, &mut self.kept);
                 Ok(())
             }
-            Work::Settle { settings } => {
-                let (kept, old) = (&mut self.kept, &mut self.settings);
-                settle(alloc, &self.store, kept, old, settings, fetches)?;
+            Work::Patch { members } => {
+                let (kept, stops) = (&mut self.kept, &mut self.stops);
+                let settings = &mut self.settings;
+                patch_settings(alloc, &self.store, kept, stops, settings, &members, fetches)?;
+                Ok(())
+            }
+            Work::Reset => {
+                let (kept, stops) = (&mut self.kept, &mut self.stops);
+                let settings = &mut self.settings;
+                reset_settings(alloc, &self.store, kept, stops, settings, fetches)?;
                 Ok(())
             }
         }
@@ -197,6 +209,7 @@ impl IndexCore {
         let ranked = rank(
             alloc,
             &self.settings,
+            self.stops.as_slice(),
             &self.store,
             self.kept.as_slice(),
             call,

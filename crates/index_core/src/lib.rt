@@ -18,6 +18,7 @@ mod kept;
 mod key;
 mod laws;
 mod plan;
+mod ranking;
 mod read;
 mod rows;
 mod search;

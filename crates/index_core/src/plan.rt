@@ -1,10 +1,9 @@
 ghost use Rattle.std.specs.Prelude.{◌≡◌, ◌≢◌, [], Ok, Err, IfOk, OnErr, IfErr, MatchResult};
 ghost use Rattle.std.specs.Option.{option_copied};
 ghost use Rattle.serde_json.specs.View.{view as data_of};
-ghost use Rattle.index_settings.specs.Patch.{patch_of};
-ghost use Rattle.index_settings.specs.Table.{defaults};
-ghost use Rattle.index_core.specs.PlanView.{replace as replace_rows, update as update_rows, settle as settle_to, work_view};
-ghost use Rattle.index_core.specs.Plans.{documents_planned, plan_of, settled};
+ghost use Rattle.index_settings.specs.Table.{patch_fault};
+ghost use Rattle.index_core.specs.PlanView.{replace as replace_rows, update as update_rows, work_view};
+ghost use Rattle.index_core.specs.Plans.{documents_planned, patch_planned, plan_of};
 ghost use Rattle.index_core.specs.declared.fault.CoreFault.TheVariants.{NoMemory as Memory};
 
 use crate::fault::CoreFault;
@@ -36,8 +35,10 @@ pub(crate) enum Work {
     Remove { ids: Vec<Word> },
     /// Takes out all documents.
     Clear,
-    /// Gives the index these settings.
-    Settle { settings: Settings },
+    /// Gives the index's settings these members, a patch without a fault.
+    Patch { members: Value },
+    /// Gives the index the settings of a new one.
+    Reset,
 }
 
 impl Model for Plan {
@@ -90,29 +91,20 @@ pub(crate) fn planned_update(
     })
 }
 
-/// The settings that a patch of an index's gives.
+/// The members of a patch of an index's settings, where it has no fault.
 pub(crate) fn planned_patch(
     alloc: Global,
     own: Option<&Word>,
     settings: &Settings,
-    members: &Value,
+    members: Value,
 ) -> Result<Plan, CoreFault>
     ensures { MatchResult result
-        (λ plan. settled (option_copied own.entry) (patch_of settings.now (data_of members.now)) ≡ Ok plan)
+        (λ plan. patch_planned (option_copied own.entry) (data_of members) (patch_fault (data_of members)) ≡ Ok plan)
         (λ fault. fault ≢ Memory
-        → settled (option_copied own.entry) (patch_of settings.now (data_of members.now)) ≡ Err fault) }
+        → patch_planned (option_copied own.entry) (data_of members) (patch_fault (data_of members)) ≡ Err fault) }
 {
-    let settings = patch(alloc, settings, members)?;
-    keeping_key(own, Work::Settle { settings })
-}
-
-/// The settings of a new index.
-pub(crate) fn planned_reset(alloc: Global, own: Option<&Word>) -> Result<Plan, CoreFault>
-    ensures plan { IfOk result (λ plan. plan ≡ plan_of (option_copied own.entry) (settle_to defaults)) }
-    ensures starved { IfErr result (λ fault. fault ≡ Memory) }
-{
-    let settings = Settings::defaults(alloc)?;
-    keeping_key(own, Work::Settle { settings })
+    let _tried = patch(alloc, settings, &members)?;
+    keeping_key(own, Work::Patch { members })
 }
 
 /// The plan of work under the key that the index has.

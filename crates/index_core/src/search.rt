@@ -1,6 +1,6 @@
 ghost use Rattle.std.specs.Prelude.{◌≡◌, ◌-◌, ◌≤◌, map, length, take, drop, [], IfOk};
 ghost use Rattle.search_base.specs.Graphs.{IsGraph};
-ghost use Rattle.index_core.specs.Matching.{query_without, stop_words_of};
+ghost use Rattle.index_core.specs.Matching.{query_without, rules_of as rules_of_settings, stop_words_of};
 ghost use Rattle.index_core.specs.Hits.{hits_of, window_end as end_of_window};
 ghost use Rattle.std.specs.Option.{option_map};
 ghost use Rattle.index_core.specs.Ordered.{placed_all, matches_in};
@@ -10,12 +10,12 @@ ghost use Rattle.index_core.specs.Slots.{kept_from, costs_in};
 use crate::call::SearchCall;
 use crate::candidate::{Candidate, place};
 use crate::kept::part;
-use crate::stops::stop_words;
+use crate::ranking::rules_of;
 use doc_store::DocStore;
 use index_settings::Settings;
 use plain_rank::cost_tuple;
 use query_graph::{build_graph, items};
-use search_base::{CostKey, DocId, DocRows, Graph, NoMemory, Rule, Strategy};
+use search_base::{CostKey, DocId, DocRows, Graph, NoMemory, Rule, Strategy, Word};
 use std::alloc::Global;
 
 /// The internal ids of the hits of a search, and how many documents match.
@@ -25,22 +25,25 @@ pub(crate) struct Ranked {
     pub(crate) total: u64,
 }
 
-/// Ranks the documents of which these rows are kept. Without a word to look for, no rows are read.
+/// Ranks the documents of which these rows are kept, by the rules that the settings name. These stop words are those of
+/// the settings. Without a word to look for, no rows are read.
 pub(crate) fn rank(
     alloc: Global,
     settings: &Settings,
+    stops: &[Word],
     store: &DocStore,
     kept: &[Option<DocRows>],
     call: &SearchCall,
 ) -> Result<Ranked, NoMemory>
     requires of { AreOf (kept_from 0 kept.now) store.now.content }
     requires few { length kept.now ≤ 1000000 }
+    requires stops { stops.now ≡ stop_words_of settings.now }
     ensures ids { IfOk result (λ ranked. map (λ id. id.0) ranked.ids.items
-        ≡ map (λ m. m.id) (hits_of settings.now.max_total_hits call.now (matches_in (query_without (stop_words_of settings.now) call.now.q) (kept_from 0 kept.now)))) }
+        ≡ map (λ m. m.id) (hits_of settings.now.max_total_hits call.now (matches_in (query_without (stop_words_of settings.now) call.now.q) (rules_of_settings settings.now) (kept_from 0 kept.now)))) }
     ensures total { IfOk result (λ ranked. ranked.total
-        ≡ length (matches_in (query_without (stop_words_of settings.now) call.now.q) (kept_from 0 kept.now))) }
+        ≡ length (matches_in (query_without (stop_words_of settings.now) call.now.q) (rules_of_settings settings.now) (kept_from 0 kept.now))) }
 {
-    let query = query_of(alloc, settings, call.q.as_str())?;
+    let query = query_of(alloc, stops, call.q.as_str())?;
     let end = window_end(settings.max_total_hits(), call);
     let limit = end.saturating_sub(call.offset);
     let levels = query.levels.as_slice();
@@ -50,19 +53,20 @@ pub(crate) fn rank(
             total: store.len(),
         });
     }
-    let best = find_best(alloc, kept, &query, end as usize)?;
+    let rules = rules_of(alloc, settings)?;
+    let best = find_best(alloc, kept, &query, rules.as_slice(), end as usize)?;
     Ok(Ranked {
         ids: ids_of(alloc, part(best.first.as_slice(), call.offset, limit))?,
         total: best.total,
     })
 }
 
-fn query_of(alloc: Global, settings: &Settings, q: &str) -> Result<Graph, NoMemory>
-    ensures query { IfOk result (λ query. query ≡ query_without (stop_words_of settings.now) q.now) }
+// The query of a text without these stop words.
+fn query_of(alloc: Global, stops: &[Word], q: &str) -> Result<Graph, NoMemory>
+    ensures query { IfOk result (λ query. query ≡ query_without stops.now q.now) }
     ensures sound { IfOk result IsGraph }
 {
-    let words = stop_words(alloc, settings)?;
-    let items = items(alloc, q, words.as_slice())?;
+    let items = items(alloc, q, stops)?;
     build_graph(alloc, &items, Strategy::Last)
 }
 
@@ -84,17 +88,18 @@ fn find_best(
     alloc: Global,
     kept: &[Option<DocRows>],
     query: &Graph,
+    rules: &[Rule],
     most: usize,
 ) -> Result<Best, NoMemory>
     requires graph { IsGraph query.now }
     requires few { length kept.now ≤ 1000000 }
-    ensures first { IfOk result (λ best. best.first.items ≡ take most (placed_all (matches_in query.now (kept_from 0 kept.now)) [])) }
-    ensures total { IfOk result (λ best. best.total ≡ length (matches_in query.now (kept_from 0 kept.now))) }
+    ensures first { IfOk result (λ best. best.first.items ≡ take most (placed_all (matches_in query.now rules.now (kept_from 0 kept.now)) [])) }
+    ensures total { IfOk result (λ best. best.total ≡ length (matches_in query.now rules.now (kept_from 0 kept.now))) }
 {
     let mut first = Vec::new(alloc);
     let mut total = 0;
     for (at, slot) in kept.iter().enumerate() {
-        if let Some(costs) = costs_of(alloc, query, slot)? {
+        if let Some(costs) = costs_of(alloc, query, rules, slot)? {
             let candidate = Candidate {
                 costs,
                 id: DocId(at as u32),
@@ -110,13 +115,14 @@ fn find_best(
 fn costs_of(
     alloc: Global,
     query: &Graph,
+    rules: &[Rule],
     slot: &Option<DocRows>,
 ) -> Result<Option<Vec<CostKey>>, NoMemory>
     requires { IsGraph query.now }
-    ensures { IfOk result (λ costs. option_map (λ cost. cost.items) costs ≡ costs_in query.now slot.now) }
+    ensures { IfOk result (λ costs. option_map (λ cost. cost.items) costs ≡ costs_in query.now rules.now slot.now) }
 {
     match slot {
-        Some(rows) => cost_tuple(alloc, query, rows, &[Rule::Words]),
+        Some(rows) => cost_tuple(alloc, query, rows, rules),
         None => Ok(None),
     }
 }

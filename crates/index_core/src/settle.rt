@@ -1,28 +1,121 @@
-ghost use Rattle.std.specs.Prelude.{◌≡◌, ◌+◌, ◌≤◌, ◌++◌, ◌∷◌, [], length, IfOk, IfErr, OnOk, OnErr, if◌then◌else◌};
+ghost use Rattle.std.specs.Prelude.{◌≡◌, ◌+◌, ◌≤◌, ◌++◌, ◌∷◌, [], length, false, None, codes, IfOk, IfErr, IfSome, IfNone, OnOk, OnErr, if◌then◌else◌};
+ghost use Rattle.serde_json.specs.Find.{get};
+ghost use Rattle.serde_json.specs.View.{view as data_of};
 ghost use Rattle.doc_store.specs.Sound.{IsSound};
+ghost use Rattle.index_settings.specs.Patch.{patched};
+ghost use Rattle.index_settings.specs.Table.{defaults};
 ghost use Rattle.index_core.specs.Fetches.{search_alike as are_alike};
 ghost use Rattle.index_core.specs.Kept.{AreOf, kept_of};
 ghost use Rattle.index_core.specs.Slots.{AreInSlots, kept_from, rows_at, anew};
-ghost use Rattle.index_core.specs.Matching.{ranks_from};
+ghost use Rattle.index_core.specs.Matching.{ranks_from, stop_words_of};
 
 use crate::kept::Slots;
+use crate::stops::stop_words;
 use doc_rows::{SharedWords, rows};
 use doc_store::DocStore;
-use index_settings::{Settings, rank_of};
+use index_settings::{Settings, patch, rank_of};
 use search_base::{DocId, DocRows, NoMemory, Steps, Word};
+use serde_json::Value;
 use std::alloc::Global;
 
-/// Gives an index other settings. What is kept of its documents is made anew where other paths are searched, or the same
-/// with other ranks, and then each document is read once. All memory is taken before anything changes.
-pub(crate) fn settle<F>(
+/// Gives an index's settings the members of a patch that has no fault, and keeps its stop words. What the patch does not
+/// name is not looked at. All memory is taken before anything changes.
+pub(crate) fn patch_settings<F>(
+    alloc: Global,
+    store: &DocStore,
+    kept: &mut Slots,
+    stops: &mut Vec<Word>,
+    settings: &mut Settings,
+    members: &Value,
+    fetches: &mut Steps<F>,
+) -> Result<(), NoMemory>
+    requires kept { AreInSlots kept.old.items settings.old store.now.content }
+    requires stops { stops.old.items ≡ stop_words_of settings.old }
+    ensures kept { AreInSlots kept.new.items settings.new store.now.content }
+    ensures stops { stops.new.items ≡ stop_words_of settings.new }
+    ensures settings { OnOk result (settings.new ≡ patched defaults settings.old (data_of members.now)) }
+    ensures stays { OnErr result (settings.new ≡ settings.old) }
+    ensures fetches { OnOk result (fetches.new ≡ fetches.old
+        + (if are_alike (patched defaults settings.old (data_of members.now)) settings.old then 0 else length store.now.content.rows)) }
+    ensures at_most { fetches.new ≤ fetches.old
+        + (if are_alike (patched defaults settings.old (data_of members.now)) settings.old then 0 else length store.now.content.rows) }
+{
+    let others = settings_after(alloc, settings, members)?;
+    let words = stops_named(alloc, &others, members)?;
+    let may_differ = members.get("searchableAttributes").is_some();
+    settle(alloc, store, kept, settings, others, may_differ, fetches)?;
+    if let Some(words) = words {
+        *stops = words;
+    }
+    Ok(())
+}
+
+// The settings after a patch that was tried before, so that memory alone can be wanting.
+fn settings_after(alloc: Global, settings: &Settings, members: &Value) -> Result<Settings, NoMemory>
+    ensures { IfOk result (λ after. after ≡ patched defaults settings.now (data_of members.now)) }
+{
+    match patch(alloc, settings, members) {
+        Ok(after) => Ok(after),
+        Err(_) => Err(NoMemory),
+    }
+}
+
+// The stop words of the settings after a patch, where the patch names them.
+fn stops_named(
+    alloc: Global,
+    settings: &Settings,
+    members: &Value,
+) -> Result<Option<Vec<Word>>, NoMemory>
+    ensures named { IfOk result (λ found. IfSome found (λ words. words.items ≡ stop_words_of settings.now)) }
+    ensures not_named { IfOk result (λ found. IfNone found (get (codes "stopWords") (data_of members.now) ≡ None)) }
+{
+    match members.get("stopWords") {
+        Some(_) => Ok(Some(stop_words(alloc, settings)?)),
+        None => Ok(None),
+    }
+}
+
+/// Gives an index the settings of a new one. All memory is taken before anything changes.
+pub(crate) fn reset_settings<F>(
+    alloc: Global,
+    store: &DocStore,
+    kept: &mut Slots,
+    stops: &mut Vec<Word>,
+    settings: &mut Settings,
+    fetches: &mut Steps<F>,
+) -> Result<(), NoMemory>
+    requires kept { AreInSlots kept.old.items settings.old store.now.content }
+    requires stops { stops.old.items ≡ stop_words_of settings.old }
+    ensures kept { AreInSlots kept.new.items settings.new store.now.content }
+    ensures stops { stops.new.items ≡ stop_words_of settings.new }
+    ensures settings { OnOk result (settings.new ≡ defaults) }
+    ensures stays { OnErr result (settings.new ≡ settings.old) }
+    ensures fetches { OnOk result (fetches.new
+        ≡ fetches.old + (if are_alike defaults settings.old then 0 else length store.now.content.rows)) }
+    ensures at_most { fetches.new
+        ≤ fetches.old + (if are_alike defaults settings.old then 0 else length store.now.content.rows) }
+{
+    let others = Settings::defaults(alloc)?;
+    let words = stop_words(alloc, &others)?;
+    settle(alloc, store, kept, settings, others, true, fetches)?;
+    *stops = words;
+    Ok(())
+}
+
+// Gives an index other settings. What is kept of its documents is made anew where other paths are searched, or the same
+// with other ranks, and then each document is read once. The lists of searched paths are compared only where they may
+// differ. All memory is taken before anything changes.
+fn settle<F>(
     alloc: Global,
     store: &DocStore,
     kept: &mut Slots,
     settings: &mut Settings,
     others: Settings,
+    may_differ: bool,
     fetches: &mut Steps<F>,
 ) -> Result<(), NoMemory>
-    requires { AreInSlots kept.old.items settings.old store.now.content }
+    requires kept { AreInSlots kept.old.items settings.old store.now.content }
+    requires same { may_differ ≡ false → others.searchable_attributes ≡ settings.old.searchable_attributes }
     ensures kept { AreInSlots kept.new.items settings.new store.now.content }
     ensures settings { OnOk result (settings.new ≡ others) }
     ensures stays { OnErr result (settings.new ≡ settings.old) }
@@ -31,7 +124,7 @@ pub(crate) fn settle<F>(
     ensures at_most { fetches.new
         ≤ fetches.old + (if are_alike others settings.old then 0 else length store.now.content.rows) }
 {
-    if search_alike(&others, settings) {
+    if search_alike(&others, settings, may_differ) {
         *settings = others;
         return Ok(());
     }
@@ -40,11 +133,16 @@ pub(crate) fn settle<F>(
     Ok(())
 }
 
-// Whether both search the same paths, with the same ranks.
-fn search_alike(settings: &Settings, others: &Settings) -> bool
+// Whether both search the same paths, with the same ranks. Lists that cannot differ are not looked at.
+fn search_alike(settings: &Settings, others: &Settings, may_differ: bool) -> bool
+    requires { may_differ ≡ false → settings.now.searchable_attributes ≡ others.now.searchable_attributes }
     ensures { result ≡ are_alike settings.now others.now }
 {
-    settings.searchable_attributes() == others.searchable_attributes()
+    if may_differ {
+        settings.searchable_attributes() == others.searchable_attributes()
+    } else {
+        true
+    }
 }
 
 // The rows of each stored document under these settings. Each document is read once.

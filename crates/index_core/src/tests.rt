@@ -154,7 +154,11 @@ const PATCHED: &str = r#"{}~dark knight~1 2 3 of 3
 {"pagination":{"maxTotalHits":2}}~dark~1 2 of 2
 {"pagination":{"maxTotalHits":2}}~~1 2 of 2
 {"pagination":{"maxTotalHits":0}}~dark~of 0
-{"displayedAttributes":["id"],"rankingRules":[]}~action~1 2 of 2"#;
+{"displayedAttributes":["id"],"rankingRules":[]}~action~1 2 of 2
+{"rankingRules":["typo"]}~knight rises~1 2 3 of 3
+{"rankingRules":[]}~knight rises~1 2 3 of 3
+{"rankingRules":["sort","words","words"]}~knight rises~2 1 3 of 3
+{"rankingRules":null}~knight rises~2 1 3 of 3"#;
 
 fn patch(
     rt: &impl Abort,
@@ -182,6 +186,19 @@ fn queries_of_the_films_under_settings(rt: HostRuntime) {
             "{row}"
         );
     }
+}
+
+#[test]
+fn a_patch_leaves_what_it_does_not_name(rt: HostRuntime) {
+    let alloc = rt.alloc();
+    let mut index = films(&rt, alloc);
+    let body = "{\"searchableAttributes\":[\"title\"],\"stopWords\":[\"dark\"]}";
+    assert!(rt; patch(&rt, alloc, &mut index, body).is_ok());
+    assert!(rt;
+        patch(&rt, alloc, &mut index, "{\"rankingRules\":[]}").is_ok()
+    );
+    assert_eq!(rt; found(&rt, alloc, &index, "dark rises", 0, 9).as_str(), "2 of 1");
+    assert_eq!(rt; found(&rt, alloc, &index, "action", 0, 9).as_str(), "of 0");
 }
 
 #[test]

@@ -31,7 +31,8 @@ work_need (work.replace rows) i = named_there (externals rows) i.store
 work_need (work.update rows) i = named_there (externals rows) i.store
 work_need (work.remove ids) i = named_there ids i.store
 work_need work.clear i = 0
-work_need (work.settle s) i = needed (work.settle s) i
+work_need (work.patch members) i = needed (work.patch members) i
+work_need work.reset i = needed work.reset i
 
 -- a change that is refused by its key or its ids needs none
 abbrev pub plan_need : Result PlanView CoreFault → Index → ℕ

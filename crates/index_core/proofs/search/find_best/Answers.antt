@@ -9,7 +9,7 @@ use Rattle.index_core.proofs.search.find_best.Goals.{in-Some+in_ok-place, in_def
 pub loop-at-init : goal.loop-at-init
 loop-at-init c =
     let kept = kept_from 0 c.args.kept.now in
-    subst (λ v. Collecting c.args.query.now kept kept c.args.most v 0) (sym c.new-first.ensures.items) (collecting-start c.args.query.now kept c.args.most (slots-rise c.args.kept.now))
+    subst (λ v. Collecting c.args.query.now c.args.rules.now kept kept c.args.most v 0) (sym c.new-first.ensures.items) (collecting-start c.args.query.now c.args.rules.now kept c.args.most (slots-rise c.args.kept.now))
 
 pub overflow_add-total : goal.overflow_add-total
 overflow_add-total c =
@@ -19,16 +19,17 @@ overflow_add-total c =
 pub loop-at-preserved : goal.loop-at-preserved
 loop-at-preserved c =
     let query = c.args.query.now in
+    let rules = c.args.rules.now in
     let kept = c.args.kept.now in
     let at = c.loop-at.at in
     let slot = c.index-kept-at.result in
     let here : drop at kept ≡ slot ∷ drop (at + 1) kept = slots-next at kept slot (omega arith) c.index-kept-at.is in
-    let costs : costs_in query slot ≡ option_map (λ v. v.items) c.in_ok-costs.field-0 = sym c.in_ok-costs.ensures in
+    let costs : costs_in query rules slot ≡ option_map (λ v. v.items) c.in_ok-costs.field-0 = sym c.in_ok-costs.ensures in
     elim c.match-branch-2.branch [
       | in-Some+in_ok-place w ↦
-          slot-match query (kept_from 0 kept) at (drop at kept) (drop (at + 1) kept) slot c.args.most c.loop-at.first.items c.match-branch-2.first.items c.loop-at.total c.match-branch-2.total w.in-Some.costs.items here
+          slot-match query rules (kept_from 0 kept) at (drop at kept) (drop (at + 1) kept) slot c.args.most c.loop-at.first.items c.match-branch-2.first.items c.loop-at.total c.match-branch-2.total w.in-Some.costs.items here
           (costs ∙ ap (option_map (λ v. v.items)) w.in-Some.is) (ap (λ v. v.items) w.first-is ∙ w.in_ok-place.ensures) w.total-is c.loop-at.invariant
       | in_default w ↦
-          slot-none query (kept_from 0 kept) at (drop at kept) (drop (at + 1) kept) slot c.args.most c.loop-at.first.items c.match-branch-2.first.items c.loop-at.total c.match-branch-2.total here
+          slot-none query rules (kept_from 0 kept) at (drop at kept) (drop (at + 1) kept) slot c.args.most c.loop-at.first.items c.match-branch-2.first.items c.loop-at.total c.match-branch-2.total here
           (costs ∙ ap (option_map (λ v. v.items)) w.in_default.is) (ap (λ v. v.items) w.first-is) w.total-is c.loop-at.invariant
     ]
