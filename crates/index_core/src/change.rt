@@ -42,7 +42,7 @@ pub(crate) fn store_documents(
         admission.ids(),
     )?;
     kept.reserve(come.len())?;
-    let plan = store.prepare(alloc, documents, admission)?;
+    let plan = store.prepare(documents, admission)?;
     store.commit(plan);
     put_all(kept, come);
     Ok(())
@@ -76,11 +76,11 @@ pub(crate) fn remove_documents(store: &mut DocStore, kept: &mut Slots, ids: &[Wo
     ensures removed { store.new.content ≡ all_removed ids.now store.old.content }
 {
     for id in ids {
-        remove_document(store, kept, id.as_str());
+        remove_document(store, kept, id);
     }
 }
 
-fn remove_document(store: &mut DocStore, kept: &mut Slots, external: &str)
+fn remove_document(store: &mut DocStore, kept: &mut Slots, external: &Word)
     requires sound { IsSound store.old.content }
     requires slots { length kept.old.items ≡ store.old.content.next_id }
     ensures kept { (settings : SettingsView) → AreInSlots kept.old.items settings store.old.content → AreInSlots kept.new.items settings store.new.content }

@@ -222,7 +222,7 @@ impl IndexCore {
     }
 
     /// The document with an external id. Reads that document once, and none where there is none. Takes no memory.
-    pub fn get<F>(&self, external: &str, fetches: &mut Steps<F>) -> Option<&DocumentText>
+    pub fn get<F>(&self, external: &Word, fetches: &mut Steps<F>) -> Option<&DocumentText>
         ensures document { option_map (λ document. document.now) result ≡ document_under external.now self.now.store.rows }
         ensures fetches { fetches.new ≡ fetches.old + (if is_some result then 1 else 0) }
     {

@@ -6,7 +6,7 @@ ghost use Rattle.index_core.specs.Plans.{key_for as key_of_change};
 ghost use Rattle.index_core.specs.declared.fault.CoreFault.TheVariants.{NoMemory as Memory};
 
 use crate::fault::CoreFault;
-use doc_values::{Document, KeyFault, infer_key};
+use doc_values::{DocumentText, KeyFault, infer_key};
 use search_base::Word;
 use std::alloc::Global;
 
@@ -15,7 +15,7 @@ pub(crate) fn key_for(
     alloc: Global,
     own: Option<&Word>,
     given: Option<&Word>,
-    documents: &[Document],
+    documents: &[DocumentText],
 ) -> Result<Option<Word>, CoreFault>
     ensures { MatchResult result
         (λ key. key_of_change (option_copied own.entry) (option_copied given.entry) documents.now ≡ Ok key)
@@ -41,11 +41,12 @@ pub(crate) fn key_for(
     }
 }
 
-fn inferred(alloc: Global, document: &Document) -> Result<Option<Word>, CoreFault>
+fn inferred(alloc: Global, document: &DocumentText) -> Result<Option<Word>, CoreFault>
     ensures { MatchResult result (λ key. key_result (key_of document.now) ≡ Ok key)
         (λ fault. fault ≢ Memory → key_result (key_of document.now) ≡ Err fault) }
 {
-    match infer_key(alloc, document) {
+    let document = document.document(alloc)?;
+    match infer_key(alloc, &document) {
         Ok(key) => Ok(Some(key)),
         Err(KeyFault::NoCandidate) => Err(CoreFault::NoCandidate),
         Err(KeyFault::SeveralCandidates { .. }) => Err(CoreFault::SeveralCandidates),

@@ -10,7 +10,7 @@ use crate::fault::CoreFault;
 use crate::key::key_for;
 use crate::rows::rows_for;
 use doc_store::StoreRow;
-use doc_values::Document;
+use doc_values::DocumentText;
 use index_settings::{Settings, patch};
 use search_base::Word;
 use serde_json::Value;
@@ -56,7 +56,7 @@ pub(crate) fn planned_replace(
     alloc: Global,
     own: Option<&Word>,
     given: Option<Word>,
-    documents: Vec<Document>,
+    documents: Vec<DocumentText>,
 ) -> Result<Plan, CoreFault>
     ensures { MatchResult result
         (λ plan. documents_planned (option_copied own.entry) given documents.items replace_rows ≡ Ok plan)
@@ -76,7 +76,7 @@ pub(crate) fn planned_update(
     alloc: Global,
     own: Option<&Word>,
     given: Option<Word>,
-    documents: Vec<Document>,
+    documents: Vec<DocumentText>,
 ) -> Result<Plan, CoreFault>
     ensures { MatchResult result
         (λ plan. documents_planned (option_copied own.entry) given documents.items update_rows ≡ Ok plan)

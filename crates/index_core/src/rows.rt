@@ -7,7 +7,7 @@ ghost use Rattle.index_core.specs.declared.fault.CoreFault.TheVariants.{NoMemory
 
 use crate::fault::CoreFault;
 use doc_store::StoreRow;
-use doc_values::{Document, IdFault, external_id};
+use doc_values::{DocumentText, IdFault, external_id};
 use search_base::Word;
 use std::alloc::Global;
 
@@ -15,7 +15,7 @@ use std::alloc::Global;
 pub(crate) fn rows_for(
     alloc: Global,
     key: Option<&Word>,
-    documents: Vec<Document>,
+    documents: Vec<DocumentText>,
 ) -> Result<Vec<StoreRow>, CoreFault>
     ensures { MatchResult result
         (λ rows. rows_of_change (option_copied key.entry) documents.items ≡ Ok rows.items)
@@ -30,7 +30,7 @@ pub(crate) fn rows_for(
 fn rows_under(
     alloc: Global,
     key: &str,
-    documents: Vec<Document>,
+    documents: Vec<DocumentText>,
 ) -> Result<Vec<StoreRow>, CoreFault>
     ensures { MatchResult result (λ rows. rows_from key.now 1 documents.items ≡ Ok rows.items)
         (λ fault. fault ≢ Memory → rows_from key.now 1 documents.items ≡ Err fault) }
@@ -49,11 +49,12 @@ fn rows_under(
 }
 
 // The external id of the document at a place.
-fn id_at(alloc: Global, document: &Document, key: &str, place: u32) -> Result<Word, CoreFault>
+fn id_at(alloc: Global, document: &DocumentText, key: &str, place: u32) -> Result<Word, CoreFault>
     ensures { MatchResult result (λ id. id_result place (external_id_of key.now document.now) ≡ Ok id)
         (λ fault. fault ≢ Memory → id_result place (external_id_of key.now document.now) ≡ Err fault) }
 {
-    match external_id(alloc, document, key) {
+    let document = document.document(alloc)?;
+    match external_id(alloc, &document, key) {
         Ok(id) => Ok(id),
         Err(IdFault::MissingId) => Err(CoreFault::MissingId { document: place }),
         Err(IdFault::BadId) => Err(CoreFault::BadId { document: place }),

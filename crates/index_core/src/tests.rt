@@ -1,6 +1,6 @@
 use crate::settle::ranks_of;
 use crate::{CoreFault, IndexCore, SearchCall};
-use doc_values::{ChangeKind, Document, documents_of};
+use doc_values::{ChangeKind, DocumentText, documents_of};
 use index_settings::SettingsFault;
 use search_base::{Steps, Word};
 use serde_json::Value;
@@ -13,9 +13,14 @@ struct Fetch;
 const FILMS: &str =
     "[{\"id\":1,\"title\":\"The Dark Knight\",\"year\":2008,\"genres\":[\"Action\",\"Drama\"]},{\"id\":2,\"title\":\"Dark Knight Rises\",\"year\":2012,\"genres\":[\"Action\"]},{\"id\":3,\"title\":\"Knight of the Dark\",\"year\":1999},{\"id\":4,\"title\":\"Darkness\",\"year\":2002,\"genres\":[\"drama\"]}]";
 
-fn documents(rt: &impl Abort, alloc: Global, body: &str) -> Vec<Document> {
+fn documents(rt: &impl Abort, alloc: Global, body: &str) -> Vec<DocumentText> {
     let value = Value::from_str(alloc, body).expect(rt, "JSON");
-    documents_of(alloc, value).expect(rt, "documents")
+    let mut texts = Vec::new(alloc);
+    for document in documents_of(alloc, value).expect(rt, "documents") {
+        let text = DocumentText::of(alloc, &document).expect(rt, "memory");
+        texts.push(text).expect(rt, "memory");
+    }
+    texts
 }
 
 fn word(rt: &impl Abort, alloc: Global, text: &str) -> Word {
@@ -102,7 +107,7 @@ fn found(
 
 fn text(rt: &impl Abort, alloc: Global, index: &IndexCore, id: &str) -> String {
     let mut fetches = Steps::<Fetch>::new();
-    match index.get(id, &mut fetches) {
+    match index.get(&word(rt, alloc, id), &mut fetches) {
         Some(document) => String::from_str(alloc, document.text()).expect(rt, "memory"),
         None => String::new(alloc),
     }
@@ -194,10 +199,11 @@ fn a_patch_leaves_what_it_does_not_name(rt: HostRuntime) {
     let mut index = films(&rt, alloc);
     let body = "{\"searchableAttributes\":[\"title\"],\"stopWords\":[\"dark\"]}";
     assert!(rt; patch(&rt, alloc, &mut index, body).is_ok());
-    assert!(rt;
-        patch(&rt, alloc, &mut index, "{\"rankingRules\":[]}").is_ok()
+    assert!(rt; patch(&rt, alloc, &mut index, "{\"rankingRules\":[]}").is_ok());
+    assert_eq!(rt;
+        found(&rt, alloc, &index, "dark rises", 0, 9).as_str(),
+        "2 of 1"
     );
-    assert_eq!(rt; found(&rt, alloc, &index, "dark rises", 0, 9).as_str(), "2 of 1");
     assert_eq!(rt; found(&rt, alloc, &index, "action", 0, 9).as_str(), "of 0");
 }
 

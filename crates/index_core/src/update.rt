@@ -1,4 +1,4 @@
-ghost use Rattle.std.specs.Prelude.{◌≡◌, ◌+◌, ◌≤◌, IfOk, OnOk, length, filter};
+ghost use Rattle.std.specs.Prelude.{◌≡◌, ◌+◌, ◌≤◌, Some, IfOk, OnOk, length, filter};
 ghost use Rattle.std.specs.Option.{option_copied, option_map};
 ghost use Rattle.doc_store.specs.Sound.{IsSound};
 ghost use Rattle.doc_store.specs.Store.{externals, id_of};
@@ -7,7 +7,7 @@ ghost use Rattle.index_core.specs.Plans.{is_named, over};
 ghost use Rattle.index_core.specs.Updating.{updated_rows, ArePlaces, last_of, or_else, reads};
 
 use doc_store::{DocStore, StoreRow};
-use doc_values::{Document, merged};
+use doc_values::{DocumentText, merged};
 use search_base::{NoMemory, Steps, Word};
 use std::alloc::Global;
 use std::collections::BTreeMap;
@@ -48,9 +48,9 @@ fn updated<F>(
     rows: &[StoreRow],
     places: &Places,
     external: &Word,
-    document: Document,
+    document: DocumentText,
     fetches: &mut Steps<F>,
-) -> Result<Document, NoMemory>
+) -> Result<DocumentText, NoMemory>
     requires sound { IsSound store.now.content }
     requires places { ArePlaces places.now rows.now }
     ensures document { IfOk result (λ updated. updated
@@ -59,18 +59,25 @@ fn updated<F>(
         ≡ fetches.old + reads (last_of external.now rows.now) (id_of external.now store.now.content.rows) }
 {
     if let Some(row) = last_row(rows, places, external) {
-        return Ok(merged(alloc, &row.document, &document)?);
+        return joined(alloc, &row.document, &document);
     }
-    match store.id_of(external.as_str()) {
+    match store.id_of(external) {
         Some(id) => match store.fetch(id, fetches) {
-            Some(stored) => {
-                let stored = stored.document(alloc)?;
-                Ok(merged(alloc, &stored, &document)?)
-            }
+            Some(stored) => joined(alloc, stored, &document),
             None => Ok(document),
         },
         None => Ok(document),
     }
+}
+
+// The document with the members of the old one that it does not name. Both are read back from their texts.
+fn joined(alloc: Global, old: &DocumentText, new: &DocumentText) -> Result<DocumentText, NoMemory>
+    ensures { IfOk result (λ document. document ≡ over (Some old.now) new.now) }
+{
+    let old = old.document(alloc)?;
+    let new = new.document(alloc)?;
+    let document = merged(alloc, &old, &new)?;
+    DocumentText::of(alloc, &document)
 }
 
 fn last_row<'a>(rows: &'a [StoreRow], places: &Places, external: &Word) -> Option<&'a StoreRow>

@@ -95,7 +95,7 @@ fn show_document<F>(
     let Some(index) = indexes.get(&uid) else {
         return Err(Fault::from(Refusal::NoIndex { uid }));
     };
-    match index.get(id.as_str(), fetches) {
+    match index.get(&id, fetches) {
         Some(document) => Ok(document_reply(alloc, fields, document)?),
         None => Err(Fault::from(Refusal::NoDocument { id })),
     }
