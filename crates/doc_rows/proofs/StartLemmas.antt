@@ -1,10 +1,10 @@
 -- Where the texts of a path start, and which of their words are searched.
-use Rattle.std.proofs.Common.{◌≡◌, ◌∙◌, ℕ, zero, suc, ◌+◌, ◌-◌, ◌<◌, ◌≤◌, Bool, true, false, cond, List, [], ◌∷◌, ◌++◌, length, get_or, drop, map, filter, min, refl, sym, ap, subst, ◌⊎◌, inl, inr, arith, nat_le, nat_lt, append_assoc}
+use Rattle.std.proofs.Common.{◌≡◌, ◌∙◌, ℕ, zero, suc, ◌+◌, ◌-◌, ◌<◌, ◌≤◌, Bool, true, false, cond, List, [], ◌∷◌, ◌++◌, length, get_or, drop, map, filter, min, refl, sym, ap, ◌⊎◌, inl, inr, arith, nat_lt, append_assoc}
 use Rattle.std.proofs.lemmas.List.{drop_more}
 use Rattle.search_base.specs.declared.document.Place.{Place}
 use Rattle.search_base.specs.declared.token.Token.{Token}
 use Rattle.token_words.specs.Tokens.{tokens}
-use Rattle.doc_rows.specs.Rows.{last_searched, text_step, place_of, next_start, all_places, is_searched, places_of}
+use Rattle.doc_rows.specs.Rows.{last_searched, text_step, place_of, next_start, all_places, is_searched}
 
 filter-append : {X : Type 0} (p : X → Bool) (xs ys : List X) → filter p (xs ++ ys) ≡ filter p xs ++ filter p ys
 filter-append p [] ys = refl

@@ -4,7 +4,6 @@ use Rattle.std.specs.BTreeMap.{BTreeMap, get, UpdatesBy}
 use Rattle.std.specs.Cmp.Lexicographic.{slice_cmp}
 use Rattle.std.specs.Option.{option_map_or}
 use Rattle.std.specs.Ordering.{nat_cmp, is_eq}
-use Rattle.std.specs.declared.cmp.Ordering.TheVariants.{Equal}
 use Rattle.std.proofs.lemmas.Map.Text.{is_eq-slice_cmp}
 use Rattle.std.proofs.lemmas.Slice.Eq.{bytes_eq-Decides}
 use Rattle.doc_rows.specs.Grouped.{texts_at}
@@ -46,7 +45,3 @@ added {A} old removed new path key text other list longer empty takes list_is no
     go : (b : Bool) → bytes_eq other path ≡ b → texts_at new other ≡ texts_at old other ++ cond b (text ∷ []) []
     go true e = subst (λ (q : List ℕ). texts_at new q ≡ texts_at old q ++ text ∷ []) (sym ((bytes_eq-Decides other path).0 e)) here
     go false e = there (λ same. let yes : bytes_eq other path ≡ true = (bytes_eq-Decides other path).1 (sym same) in cc) ∙ sym (append-nil (texts_at old other))
-
--- words that compare equal are one
-pub equal_words : (known word : List ℕ) → slice_cmp nat_cmp word known ≡ Equal → known ≡ word
-equal_words known word h = sym ((bytes_eq-Decides word known).0 (sym (is_eq-slice_cmp word known) ∙ ap is_eq h))

@@ -8,9 +8,7 @@
 mod path_texts;
 mod path_words;
 mod row_list;
-mod shared;
 #[cfg(test)]
 mod tests;
 
 pub use row_list::rows;
-pub use shared::SharedWords;

@@ -1,7 +1,6 @@
 ghost use Rattle.std.specs.Prelude.{◌≡◌, ◌+◌, ◌≤◌, ◌++◌, map, filter, min, OnOk};
 ghost use Rattle.doc_rows.specs.Rows.{place_of, next_start, is_searched, places_of as places_of_path, places_at};
 
-use crate::shared::SharedWords;
 use search_base::{NoMemory, PathId, Place, Token, Word};
 use std::alloc::Global;
 use token_words::tokens;
@@ -17,13 +16,12 @@ pub fn add_path(
     number: u16,
     rank: Option<u16>,
     texts: &[Word],
-    shared: &mut SharedWords,
     places: &mut Vec<Place>,
 ) -> Result<(), NoMemory>
     ensures { OnOk result (places.new.items ≡ places.old.items ++ places_at number rank texts.now) }
 {
     match rank {
-        Some(rank) => add_texts(alloc, number, rank, texts, shared, places),
+        Some(rank) => add_texts(alloc, number, rank, texts, places),
         None => Ok(()),
     }
 }
@@ -33,7 +31,6 @@ fn add_texts(
     number: u16,
     rank: u16,
     texts: &[Word],
-    shared: &mut SharedWords,
     places: &mut Vec<Place>,
 ) -> Result<(), NoMemory>
     ensures { OnOk result (places.new.items ≡ places.old.items ++ places_of_path number rank texts.now) }
@@ -42,7 +39,7 @@ fn add_texts(
     for text in texts {
         let words = tokens(alloc, text.as_str())?;
         let words = words.as_slice();
-        add_words(number, rank, start, words, shared, places)?;
+        add_words(number, rank, start, words, places)?;
         start = next_start(start, words);
     }
     Ok(())
@@ -54,7 +51,6 @@ fn add_words(
     rank: u16,
     start: u128,
     words: &[Token],
-    shared: &mut SharedWords,
     places: &mut Vec<Place>,
 ) -> Result<(), NoMemory>
     ensures { OnOk result (places.new.items
@@ -67,7 +63,7 @@ fn add_words(
                 path: PathId(number),
                 rank,
                 position: position as u16,
-                word: shared.share(&word.word)?,
+                word: word.word.clone()?,
             })?;
         }
     }

@@ -3,7 +3,6 @@ ghost use Rattle.doc_rows.specs.Rows.{rows_of};
 
 use crate::path_texts::{texts_at, texts_by_path};
 use crate::path_words::add_path;
-use crate::shared::SharedWords;
 use doc_values::{Document, flatten};
 use search_base::{DocRows, NoMemory, Word};
 use std::alloc::Global;
@@ -15,13 +14,12 @@ use std::alloc::Global;
 /// counts as its decimal text and a truth value as `true` or `false`. The first word of a path has
 /// position 0, and the first word of a later leaf the position of the word before it plus eight. A
 /// word past position 65,535 is left out, and so is a path that is not in the registry. There are
-/// no leaves and no marks. Equal words share the text that `shared` has for them.
+/// no leaves and no marks.
 pub fn rows(
     alloc: Global,
     document: &Document,
     paths: &[Word],
     ranks: &[Option<u16>],
-    shared: &mut SharedWords,
 ) -> Result<DocRows, NoMemory>
     requires few { length paths.now ≤ 1000 }
     requires ranks { length ranks.now ≡ length paths.now }
@@ -32,14 +30,7 @@ pub fn rows(
     let mut places = Vec::new(alloc);
     for (number, path) in paths.iter().enumerate() {
         let texts = texts_at(&texts, path);
-        add_path(
-            alloc,
-            number as u16,
-            ranks[number],
-            texts,
-            shared,
-            &mut places,
-        )?;
+        add_path(alloc, number as u16, ranks[number], texts, &mut places)?;
     }
     Ok(DocRows {
         places,

@@ -1,4 +1,4 @@
-use super::{SharedWords, rows};
+use super::rows;
 use doc_values::Document;
 use search_base::{DocRows, Word};
 use serde_json::Value;
@@ -18,13 +18,7 @@ const DOCUMENTS: &str = r#"{"a":[{"b":"x y"},{"b":"z"}]}~a:0 a.b:1~1 1 0 x;1 1 1
 {"a":"x","b":"y","c":"z"}~a:7 b:- c:7~0 7 0 x;2 7 0 z;
 {"a":"x x","b":"x"}~a:65535 b:0~0 65535 0 x;0 65535 1 x;1 0 0 x;"#;
 
-fn found(
-    rt: &impl Abort,
-    alloc: Global,
-    document: &str,
-    registry: &str,
-    shared: &mut SharedWords,
-) -> Result<DocRows, Fail> {
+fn found(rt: &impl Abort, alloc: Global, document: &str, registry: &str) -> Result<DocRows, Fail> {
     let value = Value::from_str(alloc, document).expect(rt, "JSON");
     let document = Document::from_json(alloc, value).expect(rt, "a document");
     let mut paths = Vec::new(alloc);
@@ -36,7 +30,7 @@ fn found(
     }
     let (paths, ranks) = (paths.as_slice(), ranks.as_slice());
     assert!(rt; paths.len() <= 1000 && ranks.len() == paths.len());
-    Ok(rows(alloc, &document, paths, ranks, shared)?)
+    Ok(rows(alloc, &document, paths, ranks)?)
 }
 
 fn told(alloc: Global, rows: &DocRows) -> Result<String, Fail> {
@@ -50,16 +44,14 @@ fn told(alloc: Global, rows: &DocRows) -> Result<String, Fail> {
     Ok(told)
 }
 
-// The words are the same where others share their texts.
 #[test]
 fn documents_have_these_words(rt: HostRuntime) -> Result<(), Fail> {
-    let mut shared = SharedWords::new(rt.alloc());
     for row in DOCUMENTS.lines() {
         let mut parts = row.split('~');
         let document = parts.next().unwrap_or("");
         let registry = parts.next().unwrap_or("");
         let want = parts.next().unwrap_or("");
-        let rows = found(&rt, rt.alloc(), document, registry, &mut shared)?;
+        let rows = found(&rt, rt.alloc(), document, registry)?;
         assert_eq!(rt; told(rt.alloc(), &rows)?.as_str(), want, "{document}");
         assert!(rt;
             rows.leaves.is_empty() && rows.marks.is_empty(),
@@ -77,8 +69,7 @@ fn words_behind_the_last_position_are_left_out(rt: HostRuntime) -> Result<(), Fa
         text.push_str("a. ")?;
     }
     text.push_str("b c d e f g h i j\",\"z\"]}")?;
-    let mut shared = SharedWords::new(rt.alloc());
-    let rows = found(&rt, rt.alloc(), text.as_str(), "t:0", &mut shared)?;
+    let rows = found(&rt, rt.alloc(), text.as_str(), "t:0")?;
     assert_eq!(rt; rows.places.len(), 8199);
     let last = rows.places.last().expect(&rt, "a word");
     assert_eq!(rt; last.position, 65535);

@@ -4,7 +4,7 @@ ghost use Rattle.index_core.specs.Putting.{put_kept as kept_with, put_all as kep
 ghost use Rattle.index_core.specs.Slots.{kept_from, HaveSlots, slots_after};
 
 use crate::settle::ranks_of;
-use doc_rows::{SharedWords, rows};
+use doc_rows::rows;
 use doc_store::StoreRow;
 use index_settings::Settings;
 use search_base::{DocId, DocRows, NoMemory, Word};
@@ -43,13 +43,12 @@ pub(crate) fn rows_of_new(
 {
     let ranks = ranks_of(alloc, settings, paths)?;
     let ranks = ranks.as_slice();
-    let mut shared = SharedWords::new(alloc);
     let mut come = Vec::with_capacity(alloc, documents.len())?;
     for (document, id) in documents.iter().zip(ids) {
         let read = document.document.document(alloc)?;
         come.push(KeptRows {
             id: *id,
-            rows: rows(alloc, &read, paths, ranks, &mut shared)?,
+            rows: rows(alloc, &read, paths, ranks)?,
         })?;
     }
     Ok(come)

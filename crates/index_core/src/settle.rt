@@ -11,7 +11,7 @@ ghost use Rattle.index_core.specs.Matching.{ranks_from, stop_words_of};
 
 use crate::kept::Slots;
 use crate::stops::stop_words;
-use doc_rows::{SharedWords, rows};
+use doc_rows::rows;
 use doc_store::DocStore;
 use index_settings::{Settings, patch, rank_of};
 use search_base::{DocId, DocRows, NoMemory, Steps, Word};
@@ -163,7 +163,6 @@ fn rows_of_all<F>(
 {
     let ranks = ranks_of(alloc, settings, store.paths())?;
     let ranks = ranks.as_slice();
-    let mut shared = SharedWords::new(alloc);
     let mut all = Vec::with_capacity(alloc, kept.len())?;
     for (at, slot) in kept.iter().enumerate() {
         let id = DocId(at as u32);
@@ -173,7 +172,6 @@ fn rows_of_all<F>(
             ranks,
             id,
             slot,
-            &mut shared,
             &mut all,
             fetches,
         )?;
@@ -188,7 +186,6 @@ fn add_slot<F>(
     ranks: &[Option<u16>],
     id: DocId,
     slot: &Option<DocRows>,
-    shared: &mut SharedWords,
     all: &mut Slots,
     fetches: &mut Steps<F>,
 ) -> Result<(), NoMemory>
@@ -199,7 +196,7 @@ fn add_slot<F>(
     ensures at_most { fetches.new ≤ fetches.old + length (kept_from id.0 (slot.now ∷ [])) }
 {
     match slot {
-        Some(_) => add_rows(alloc, store, ranks, id, shared, all, fetches),
+        Some(_) => add_rows(alloc, store, ranks, id, all, fetches),
         None => {
             all.push(None)?;
             Ok(())
@@ -213,7 +210,6 @@ fn add_rows<F>(
     store: &DocStore,
     ranks: &[Option<u16>],
     id: DocId,
-    shared: &mut SharedWords,
     all: &mut Slots,
     fetches: &mut Steps<F>,
 ) -> Result<(), NoMemory>
@@ -227,7 +223,7 @@ fn add_rows<F>(
         return Ok(());
     };
     let document = text.document(alloc)?;
-    let rows = rows(alloc, &document, store.paths(), ranks, shared)?;
+    let rows = rows(alloc, &document, store.paths(), ranks)?;
     all.push(Some(rows))?;
     Ok(())
 }

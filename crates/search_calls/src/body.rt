@@ -9,7 +9,8 @@ ghost use Rattle.search_calls.specs.Bodies.{json_in, documents_in as documents_o
 
 use crate::refusal::{Fault, Refusal};
 use crate::routes::is_uid;
-use doc_values::{BodyFault, Document, documents_of, id_of};
+use doc_values::{DocumentText, id_of};
+use document_stream::BodyError;
 use search_base::{NoMemory, Word};
 use serde_json::{Map, Value};
 use std::alloc::Global;
@@ -35,19 +36,20 @@ pub(crate) fn read_json(alloc: Global, body: &[u8]) -> Result<Value, Fault>
     }
 }
 
-/// The documents of a body.
-pub(crate) fn read_documents(alloc: Global, body: &[u8]) -> Result<Vec<Document>, Fault>
+/// The documents of a body, read one by one.
+#[tactic(auto, using(crate::proofs::JsonBodies::documents_same))]
+pub(crate) fn read_documents(alloc: Global, body: &[u8]) -> Result<Vec<DocumentText>, Fault>
     ensures { Gives (λ documents. documents.items) result (documents_of_body body.now) }
 {
-    let value = read_json(alloc, body)?;
-    match documents_of(alloc, value) {
+    match document_stream::read_documents(alloc, body) {
         Ok(documents) => Ok(documents),
-        Err(BodyFault::NotList) => Err(Fault::from(Refusal::NotList)),
-        Err(BodyFault::NotObject { document }) => Err(Fault::from(Refusal::NotObject { document })),
-        Err(BodyFault::NumberNotWhole { document, path }) => {
+        Err(BodyError::NotJson) => Err(Fault::from(Refusal::NotJson)),
+        Err(BodyError::NotList) => Err(Fault::from(Refusal::NotList)),
+        Err(BodyError::NotObject { document }) => Err(Fault::from(Refusal::NotObject { document })),
+        Err(BodyError::NumberNotWhole { document, path }) => {
             Err(Fault::from(Refusal::NumberNotWhole { document, path }))
         }
-        Err(BodyFault::NoMemory) => Err(Fault::NoMemory),
+        Err(BodyError::NoMemory) => Err(Fault::NoMemory),
     }
 }
 

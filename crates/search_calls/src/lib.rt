@@ -2,9 +2,9 @@
 //!
 //! Promises that the call is the one of `call_of` in specs/Calls.antt, or the reply to the request's first fault; its
 //! one free answer is want of memory. Contracts see a `Call` as a `CallData`, a change or a read whose vectors are
-//! lists, and a `Refusal` as itself. Stands on http_wire for requests and replies, on doc_values for documents, ids and
-//! changes, on index_settings for what a patch of settings may say, on matchit for paths, and on serde_json and
-//! form_urlencoded for bodies and query strings.
+//! lists, and a `Refusal` as itself. Stands on http_wire for requests and replies, on doc_values for ids and changes, on
+//! document_stream for documents, on index_settings for what a patch of settings may say, on matchit for paths, and on
+//! serde_json and form_urlencoded for other bodies and query strings.
 #![tactic(auto)]
 
 mod body;

@@ -14,7 +14,7 @@ ghost use Rattle.search_routes.specs.Needs.{change_need, documents_need, need_in
 ghost use Rattle.search_routes.specs.Replies.{accepted};
 
 use crate::replies::accepted_reply;
-use doc_values::{Change, ChangeKind, Document, KeyFault, infer_key};
+use doc_values::{Change, ChangeKind, DocumentText, KeyFault, infer_key};
 use http_wire::Reply;
 use index_core::{CoreFault, IndexCore, Plan};
 use search_base::{NoMemory, Steps, Word};
@@ -242,7 +242,7 @@ fn id_member(
     alloc: Global,
     own: Option<&Word>,
     given: Option<&Word>,
-    documents: &[Document],
+    documents: &[DocumentText],
 ) -> Result<Word, NoMemory>
     ensures { IfOk result (λ key. key
         ≡ id_member_of (option_copied own.entry) (option_copied given.entry) documents.now) }
@@ -255,14 +255,15 @@ fn id_member(
     }
     match documents {
         [] => Word::new(alloc, ""),
-        [document, ..] => inferred_key(alloc, document),
+        [first, ..] => inferred_key(alloc, first),
     }
 }
 
-fn inferred_key(alloc: Global, document: &Document) -> Result<Word, NoMemory>
-    ensures { IfOk result (λ key. key ≡ result_unwrap_or (key_of document.now) []) }
+fn inferred_key(alloc: Global, first: &DocumentText) -> Result<Word, NoMemory>
+    ensures { IfOk result (λ key. key ≡ result_unwrap_or (key_of first.now) []) }
 {
-    match infer_key(alloc, document) {
+    let document = first.document(alloc)?;
+    match infer_key(alloc, &document) {
         Ok(key) => Ok(key),
         Err(KeyFault::NoMemory) => Err(NoMemory),
         Err(_) => Word::new(alloc, ""),

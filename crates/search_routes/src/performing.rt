@@ -1,6 +1,7 @@
-ghost use Rattle.std.specs.Prelude.{◌≡◌, ◌+◌, ◌≤◌, Bool};
+ghost use Rattle.std.specs.Prelude.{◌≡◌, ◌+◌, ◌≤◌, Bool, IfOk};
 ghost use Rattle.http_wire.specs.Sent.{IsSentAs};
 ghost use Rattle.http_wire.specs.Wire.{request_of};
+ghost use Rattle.search_calls.specs.Calls.{IsCall, call_of};
 ghost use Rattle.search_calls.specs.Refusals.{refused};
 ghost use Rattle.search_routes.specs.Chosen.{or_memory, answer_of, state_after};
 ghost use Rattle.search_routes.specs.Done.{Answers, Performs, held_need};
@@ -8,24 +9,31 @@ ghost use Rattle.search_routes.specs.Needs.{needed_fetches};
 
 use crate::machine::Machine;
 use http_wire::{Reply, Wire};
-use search_base::Steps;
+use search_base::{NoMemory, Steps};
 use search_calls::{Call, Fault, Refusal, read_call, refusal_reply};
 use std::alloc::Global;
 
 /// Answers one request.
 ///
 /// The reply and the state after it are those of `step` in specs/Machine.antt; or there was no memory, the reply says so
-/// and the machine is as it was. `fetches` counts the stored documents that are read: at most those that the request
-/// needs, by specs/Needs.antt.
-pub fn answer<F>(alloc: Global, machine: &mut Machine, wire: &Wire, fetches: &mut Steps<F>) -> Reply
-    ensures answered { (starved : Bool) × IsSentAs result (answer_of machine.old (request_of wire.now) starved)
-        × (machine.new ≡ state_after machine.old (request_of wire.now) starved) }
-    ensures fetched { fetches.new ≤ fetches.old + needed_fetches machine.old (request_of wire.now) }
+/// and the machine is as it was. The request is let go, with its body, before its call is performed. `fetches` counts
+/// the stored documents that are read: at most those that the request needs, by specs/Needs.antt.
+pub fn answer<F>(alloc: Global, machine: &mut Machine, wire: Wire, fetches: &mut Steps<F>) -> Reply
+    ensures answered { (starved : Bool) × IsSentAs result (answer_of machine.old (request_of wire) starved)
+        × (machine.new ≡ state_after machine.old (request_of wire) starved) }
+    ensures fetched { fetches.new ≤ fetches.old + needed_fetches machine.old (request_of wire) }
 {
-    match read_call(alloc, wire) {
+    match take_call(alloc, wire) {
         Ok(call) => perform(alloc, machine, call, fetches),
         Err(_) => Reply::Memory,
     }
+}
+
+// The call that a request is. The request is let go.
+fn take_call(alloc: Global, wire: Wire) -> Result<Call, NoMemory>
+    ensures { IfOk result (λ call. IsCall call (call_of (request_of wire))) }
+{
+    read_call(alloc, &wire)
 }
 
 /// Performs a call.

@@ -134,7 +134,7 @@ fn reply_to(
         closes: false,
     };
     let mut fetches: Steps<()> = Steps::new();
-    match &answer(alloc, machine, &wire, &mut fetches) {
+    match &answer(alloc, machine, wire, &mut fetches) {
         Reply::Made { status, body, .. } => {
             let text = str::from_utf8(body).unwrap_or("no text");
             Ok(format!(in alloc; "{status} {text}")?)

@@ -62,7 +62,7 @@ pub fn serve_one<P: Link, F>(
         Err(WireEnd::NoMemory) => Turn::NoMemory,
         Ok(wire) => {
             let closes = wire.closes;
-            let reply = answer(alloc, machine, &wire, fetches);
+            let reply = answer(alloc, machine, wire, fetches);
             let says = says_close(closes, left);
             match write_reply(link, &reply, says) {
                 Err(Failed) => Turn::ReplyFault,
