@@ -2,7 +2,7 @@
 use Rattle.std.specs.Prelude.{◌≡◌, ◌≤◌, ℕ, suc, true, List, [], ◌∷◌, if◌then◌else◌}
 use Rattle.std.specs.List.{AllByRecursion, filter_map}
 use Rattle.search_base.specs.GraphView.{GraphView}
-use Rattle.index_core.specs.declared.kept.KeptRows.{KeptRows}
+use Rattle.index_core.specs.Kept.{KeptRows}
 use Rattle.index_core.specs.Matching.{Match, match_of}
 use Rattle.index_core.specs.Hits.{stands_before}
 

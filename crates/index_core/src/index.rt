@@ -13,7 +13,7 @@ ghost use Rattle.index_core.specs.declared.fault.CoreFault.TheVariants.{NoMemory
 use crate::call::{Listing, SearchCall, SearchResult};
 use crate::change::{clear_documents, remove_documents, store_documents};
 use crate::fault::CoreFault;
-use crate::kept::Slots;
+use crate::kept::Kept;
 use crate::plan::{
     Plan, Work, keeping_key, no_work, planned_patch, planned_replace, planned_reset, planned_update,
 };
@@ -35,7 +35,7 @@ pub struct IndexCore {
     key: Option<Word>,
     store: DocStore,
     settings: Settings,
-    kept: Slots,
+    kept: Kept,
 }
 
 impl Model for IndexCore {
@@ -48,7 +48,7 @@ impl Model for IndexCore {
 
     ghost view = { λ index. record { key = index.key; store = index.store.content; settings = index.settings } };
 
-    ghost invariant = { λ index. AreInSlots index.kept.items index.settings index.store.content };
+    ghost invariant = { λ index. AreInSlots index.kept.slots index.settings index.store.content };
 }
 
 impl IndexCore {
@@ -60,7 +60,7 @@ impl IndexCore {
             key: None,
             store: DocStore::new(alloc)?,
             settings: Settings::defaults(alloc)?,
-            kept: Vec::new(alloc),
+            kept: Kept::new(alloc),
         })
     }
 
@@ -194,13 +194,7 @@ impl IndexCore {
         ensures fetches { OnOk result (fetches.new ≡ fetches.old + length (found self.now call.now).hits) }
         ensures starved { OnErr result (fetches.new ≡ fetches.old) }
     {
-        let ranked = rank(
-            alloc,
-            &self.settings,
-            &self.store,
-            self.kept.as_slice(),
-            call,
-        )?;
+        let ranked = rank(alloc, &self.settings, &self.store, &self.kept, call)?;
         let hits = read(alloc, &self.store, ranked.ids.as_slice(), fetches)?;
         Ok(SearchResult {
             hits,
