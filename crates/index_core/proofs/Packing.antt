@@ -4,7 +4,8 @@ use Rattle.std.proofs.Math.ListN.{set}
 use Rattle.std.specs.Prelude.{bytes_eq, slice_get}
 use Rattle.std.specs.Option.{option_map}
 use Rattle.std.specs.List.{AllByRecursion}
-use Rattle.std.specs.BTreeMap.{BTreeMap, get, UpdatesBy}
+use Rattle.std.specs.BTreeMap.{BTreeMap, get, UpdatesBy, is_at}
+use Rattle.std.specs.Map.{lookup}
 use Rattle.std.specs.Cmp.Lexicographic.{slice_cmp}
 use Rattle.std.specs.Ordering.{nat_cmp}
 use Rattle.std.proofs.lemmas.Map.Text.{is_eq-slice_cmp}
@@ -53,8 +54,9 @@ got-last (y ∷ xs) x = got-last xs x
 
 -- ---- the numbers of words
 
-pub numbers-behind : (numbers : BTreeMap (List ℕ) ℕ) (words more : List (List ℕ)) → AreNumbers numbers words → AreNumbers numbers (words ++ more)
-numbers-behind numbers words more h = record { each = λ word number found. got-behind words more number word (h.each word number found) }
+-- of a map with the same entries, and more words
+pub numbers-behind : (old new : BTreeMap (List ℕ) ℕ) (words more : List (List ℕ)) → new.entries ≡ old.entries → AreNumbers old words → AreNumbers new (words ++ more)
+numbers-behind old new words more same h = record { each = λ word number found. got-behind words more number word (h.each word number (sym (ap (lookup (is_at (slice_cmp nat_cmp word))) same) ∙ found)) }
 
 pub numbers-more : (old new : BTreeMap (List ℕ) ℕ) (key : List ℕ) (words : List (List ℕ)) (w : List ℕ) → AreNumbers old words → key ≡ w → UpdatesBy (slice_cmp nat_cmp) (slice_cmp nat_cmp key) old new (Some (length words)) → AreNumbers new (words ++ w ∷ [])
 numbers-more old new key words w h is puts = record { each = λ word number found. by word number (bytes_eq w word) refl found }
