@@ -1,5 +1,5 @@
 -- Rows that are packed in a table, which grows.
-use Rattle.std.proofs.Common.{◌≡◌, ℕ, zero, suc, ◌+◌, ◌<◌, ◌≤◌, Bool, true, false, cond, List, [], ◌∷◌, ◌++◌, length, map, take, get_or, Option, None, Some, refl, sym, ap, ap₂, subst, ◌∙◌, arith, length-append, append-nil}
+use Rattle.std.proofs.Common.{◌≡◌, ℕ, zero, suc, ◌+◌, ◌<◌, ◌≤◌, Bool, true, false, cond, List, [], ◌∷◌, ◌++◌, length, map, take, get_or, Option, None, Some, refl, sym, ap, ap₂, subst, ◌∙◌, arith, length-append, append-nil, append_assoc}
 use Rattle.std.proofs.Math.ListN.{set}
 use Rattle.std.specs.Prelude.{bytes_eq, slice_get}
 use Rattle.std.specs.Option.{option_map}
@@ -20,7 +20,10 @@ use Rattle.index_core.specs.declared.table.RankedPath.{RankedPath}
 use Rattle.index_core.specs.declared.kept.NewRows.{NewRows}
 use Rattle.index_core.specs.Kept.{KeptRows, kept_at}
 use Rattle.index_core.specs.Packed.{TableView, AreNumbers, IsWithin, no_path, place_read, AreWithin, rows_read, Keeps, slots_read, IsSlotWithin, AreSlotsWithin}
-use Rattle.index_core.specs.Putting.{rows_new, AreNewWithin}
+use Rattle.index_settings.specs.View.{SettingsView}
+use Rattle.doc_store.specs.declared.rows.StoreRow.{StoreRow}
+use Rattle.index_core.specs.Matching.{rows_with}
+use Rattle.index_core.specs.Putting.{rows_come, rows_new, AreNewWithin}
 
 -- ---- each element
 
@@ -151,3 +154,21 @@ packs-more t u v packed more one places next place keeps within is grown longer 
 
 pub packs-none : (t : TableView) → Packs t t [] []
 packs-none t = record { keeps = keeps-same t; within = tt; told = refl }
+
+-- ---- documents that come, packed one after the other
+
+pub record Comes (st : SettingsView) (paths : List (List ℕ)) (t : TableView) (come : List NewRows) (rows : List StoreRow) (ids : List ℕ) (whole : List KeptRows) : Type 0 where
+  pub within : AreNewWithin t come
+  pub told : rows_new t come ++ rows_come st paths rows ids ≡ whole
+
+pub comes-more : (st : SettingsView) (paths : List (List ℕ)) (t u : TableView) (come more : List NewRows) (one : NewRows) (r : StoreRow) (left rows : List StoreRow) (id : ℕ) (numbers ids : List ℕ) (whole : List KeptRows) → Keeps t u → AreWithin u one.rows
+    → rows_read u one.rows ≡ rows_with st paths r.document → one.id.0 ≡ id → more ≡ come ++ one ∷ [] → left ≡ r ∷ rows → numbers ≡ id ∷ ids → Comes st paths t come left numbers whole → Comes st paths u more rows ids whole
+comes-more st paths t u come more one r left rows id numbers ids whole keeps within reads is grown first number h =
+    let both = new-kept t u come keeps h.within in
+    let rest = rows_come st paths rows ids in
+    record {
+      within = subst (AreNewWithin u) (sym grown) (all-push (λ (v : NewRows). AreWithin u v.rows) come one both.1 within);
+      told = ap (λ v. rows_new u v ++ rest) grown ∙ ap (λ v. v ++ rest) (map_push (λ (v : NewRows). kept_at v.id.0 (rows_read u v.rows)) come one ∙ ap₂ (λ xs x. xs ++ x ∷ []) both.0 (ap₂ kept_at is reads))
+          ∙ append_assoc (rows_new t come) (kept_at id (rows_with st paths r.document) ∷ []) rest
+          ∙ sym (ap₂ (λ rs ns. rows_new t come ++ rows_come st paths rs ns) first number) ∙ h.told;
+    }

@@ -1,4 +1,4 @@
-ghost use Rattle.std.specs.Prelude.{◌≡◌, ◌+◌, ◌<◌, ◌≤◌, ◌++◌, ◌∷◌, [], suc, max, length, map, take, drop, slice_set, slice_index_or, None, IfOk, OnOk, OnErr};
+ghost use Rattle.std.specs.Prelude.{◌≡◌, ◌+◌, ◌<◌, ◌≤◌, ◌++◌, ◌∷◌, [], suc, max, length, map, take, drop, slice_set, slice_index_or, None, Some, IfOk, OnOk, OnErr};
 ghost use Rattle.std.specs.Option.{is_some, option_map};
 ghost use Rattle.doc_rows.specs.Rows.{rows_of};
 ghost use Rattle.index_core.specs.Kept.{kept_at};
@@ -99,12 +99,31 @@ impl Kept {
         ensures room { self.old.room ≤ self.new.room + 1 }
     {
         let NewRows { id, rows } = one;
-        let at = id.0 as usize;
-        if at < self.slots.len() {
-            self.slots[at] = Some(rows);
+        if (id.0 as usize) < self.len() {
+            self.fill(id, rows);
         } else {
-            self.slots.push_reserved(Some(rows));
+            self.append(rows);
         }
+    }
+
+    fn fill(&mut self, id: DocId, rows: PackedRows)
+        requires slot { id.0 < length self.old.slots }
+        requires within { AreWithin self.old.table rows }
+        ensures table { self.new.table ≡ self.old.table }
+        ensures slots { self.new.slots ≡ slice_set self.old.slots id.0 (Some (rows_read self.old.table rows)) }
+        ensures room { self.new.room ≡ self.old.room }
+    {
+        self.slots[id.0 as usize] = Some(rows);
+    }
+
+    fn append(&mut self, rows: PackedRows)
+        requires within { AreWithin self.old.table rows }
+        requires room { 0 < self.old.room }
+        ensures table { self.new.table ≡ self.old.table }
+        ensures slots { self.new.slots ≡ self.old.slots ++ Some (rows_read self.old.table rows) ∷ [] }
+        ensures room { self.old.room ≤ self.new.room + 1 }
+    {
+        self.slots.push_reserved(Some(rows));
     }
 
     /// Puts rows into a new slot behind the others, or leaves that slot empty. A refusal changes nothing.
