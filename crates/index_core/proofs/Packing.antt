@@ -1,5 +1,5 @@
 -- Rows that are packed in a table, which grows.
-use Rattle.std.proofs.Common.{◌≡◌, ℕ, zero, suc, ◌+◌, ◌<◌, ◌≤◌, Bool, true, false, cond, List, [], ◌∷◌, ◌++◌, length, map, take, get_or, Option, None, Some, refl, sym, ap, ap₂, subst, ◌∙◌, arith, length-append, append-nil, append_assoc}
+use Rattle.std.proofs.Common.{◌≡◌, ℕ, zero, suc, ◌+◌, ◌<◌, Bool, true, false, cond, List, [], ◌∷◌, ◌++◌, length, map, get_or, Option, None, Some, refl, sym, ap, ap₂, subst, ◌∙◌, arith, length-append, append-nil, append_assoc}
 use Rattle.std.proofs.Math.ListN.{set}
 use Rattle.std.specs.Prelude.{bytes_eq, slice_get}
 use Rattle.std.specs.Option.{option_map}
@@ -10,10 +10,9 @@ use Rattle.std.specs.Cmp.Lexicographic.{slice_cmp}
 use Rattle.std.specs.Ordering.{nat_cmp}
 use Rattle.std.proofs.lemmas.Map.Text.{is_eq-slice_cmp}
 use Rattle.std.proofs.lemmas.Bool.{cond-true, cond-false}
-use Rattle.std.proofs.lemmas.List.{get_or_append_left, map_push, take_more}
+use Rattle.std.proofs.lemmas.List.{get_or_append_left, map_push}
 use Rattle.std.proofs.lemmas.Option.{get_or_from_slice_get}
 use Rattle.search_base.specs.declared.document.Place.{Place}
-use Rattle.search_base.specs.RowsView.{RowsView}
 use Rattle.doc_store.proofs.NameLemmas.{same_bytes}
 use Rattle.index_core.specs.declared.table.KeptPlace.{KeptPlace}
 use Rattle.index_core.specs.declared.table.RankedPath.{RankedPath}
@@ -106,7 +105,7 @@ pub place-found : (t : TableView) (p : KeptPlace) (place : Place) → slice_get 
     → (place_read t p ≡ place) × IsWithin t p
 place-found t p place path word position = (
   ap₂ (λ (at : RankedPath) (w : List ℕ). record { path = at.path; rank = at.rank; position = p.position; word = w }) (get_or_from_slice_get t.paths p.path _ no_path path) (get_or_from_slice_get t.words p.word _ [] word)
-  ∙ ap (λ n. record { path = place.path; rank = place.rank; position = n; word = place.word }) position,
+      ∙ ap (λ n. record { path = place.path; rank = place.rank; position = n; word = place.word }) position,
   (got-within t.words p.word _ word, got-within t.paths p.path _ path),
 )
 

@@ -80,12 +80,7 @@ struct Best {
     total: u64,
 }
 
-fn find_best(
-    alloc: Global,
-    kept: &Kept,
-    query: &Graph,
-    most: usize,
-) -> Result<Best, NoMemory>
+fn find_best(alloc: Global, kept: &Kept, query: &Graph, most: usize) -> Result<Best, NoMemory>
     requires graph { IsGraph query.now }
     requires few { length kept.now.slots ≤ 1000000 }
     ensures first { IfOk result (λ best. best.first.items ≡ take most (placed_all (matches_in query.now (kept_from 0 kept.now.slots)) [])) }
