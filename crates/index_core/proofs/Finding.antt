@@ -13,10 +13,9 @@ use Rattle.search_base.specs.GraphView.{GraphView}
 use Rattle.doc_store.specs.Store.{Row, Store, id_of, row_at}
 use Rattle.doc_store.specs.Sound.{Increase, IsSound}
 use Rattle.index_core.specs.declared.call.SearchCall.{SearchCall}
-use Rattle.index_core.specs.declared.kept.KeptRows.{KeptRows}
 use Rattle.index_settings.specs.View.{SettingsView}
 use Rattle.index_core.specs.Index.{Index, document_under}
-use Rattle.index_core.specs.Kept.{kept_at, AreKept, AreOf}
+use Rattle.index_core.specs.Kept.{KeptRows, kept_at, AreKept, AreOf}
 use Rattle.index_core.specs.Matching.{Match, match_at, match_of, matching, query_of, rows_with, rules_of}
 use Rattle.index_core.specs.Hits.{hit_at, numbers, hits_of, window_end, most_hits, place_among}
 use Rattle.index_core.specs.Ordered.{matches_in, RiseFrom, IdsRise}

@@ -17,8 +17,7 @@ use Rattle.doc_store.specs.Store.{Row, Store, id_of, id_given, ids_given, stored
 use Rattle.doc_store.specs.Sound.{Increase}
 use Rattle.doc_store.proofs.SoundLemmas.{IsWhole, whole-stored, sound-removed, increase-low}
 use Rattle.doc_store.proofs.StoreLemmas.{store_same}
-use Rattle.index_core.specs.declared.kept.KeptRows.{KeptRows}
-use Rattle.index_core.specs.Kept.{kept_at}
+use Rattle.index_core.specs.Kept.{KeptRows, kept_at}
 use Rattle.index_core.specs.Slots.{kept_from, AreInSlots, HaveSlots, slots_after, costs_in, rows_at, anew}
 use Rattle.index_core.specs.Ordered.{placed, RiseFrom, IdsRise}
 use Rattle.index_core.specs.Matching.{Match, match_at, rows_with}

@@ -20,11 +20,10 @@ use Rattle.index_settings.specs.Values.{texts_in}
 use Rattle.index_settings.specs.Patch.{chosen, patched}
 use Rattle.index_core.specs.declared.fault.CoreFault.{CoreFault}
 use Rattle.index_core.specs.declared.fault.CoreFault.TheVariants.{KeyDiffers}
-use Rattle.index_core.specs.declared.kept.KeptRows.{KeptRows}
 use Rattle.index_core.specs.Index.{Index, documents}
 use Rattle.index_core.specs.PlanView.{PlanView, Work, replace, update, remove, clear, patch, reset}
 use Rattle.index_core.specs.Plans.{◌>>=◌, key_for, rows_for, plan_of, documents_planned, patch_planned, planned, is_named, after_work, settings_after, unless_spent, applied}
-use Rattle.index_core.specs.Kept.{kept_of, AreKept}
+use Rattle.index_core.specs.Kept.{KeptRows, kept_of, AreKept}
 use Rattle.index_core.specs.Matching.{query_of, rules_of}
 use Rattle.index_core.specs.Hits.{window_end, most_hits}
 use Rattle.index_core.specs.Fetches.{search_alike, needed, needed_under}

@@ -12,3 +12,4 @@ pub mod Settling
 pub mod LawLemmas
 pub mod KeptSlots
 pub mod StayLemmas
+pub mod Packing

@@ -9,8 +9,7 @@ use Rattle.doc_store.specs.Store.{Row, Store, id_of, put, stored, all_stored, id
 use Rattle.doc_store.specs.StoreView.{AdmissionView, IsAdmitted}
 use Rattle.doc_store.specs.Sound.{Increase, StandOnce, IsSound}
 use Rattle.doc_store.proofs.SoundLemmas.{IsWhole, whole-stored, sound-all_stored}
-use Rattle.index_core.specs.declared.kept.KeptRows.{KeptRows}
-use Rattle.index_core.specs.Kept.{kept_at, AreKept}
+use Rattle.index_core.specs.Kept.{KeptRows, kept_at, AreKept}
 use Rattle.index_core.specs.Matching.{rows_with}
 use Rattle.index_core.specs.Putting.{put_kept, put_all, HasPlace, HavePlaces, rows_come}
 use Rattle.index_core.proofs.Stable.{all-stay}

@@ -9,8 +9,7 @@ use Rattle.index_settings.specs.View.{SettingsView}
 use Rattle.index_settings.specs.Paths.{names, first_place, rank_of}
 use Rattle.doc_rows.specs.Rows.{rows_of}
 use Rattle.doc_store.specs.Store.{Row, Store}
-use Rattle.index_core.specs.declared.kept.KeptRows.{KeptRows}
-use Rattle.index_core.specs.Kept.{kept_at, AreKept}
+use Rattle.index_core.specs.Kept.{KeptRows, kept_at, AreKept}
 use Rattle.index_core.specs.Fetches.{search_alike}
 use Rattle.index_core.specs.Matching.{ranks_from, rows_with}
 

@@ -3,7 +3,7 @@ use Rattle.std.specs.Prelude.{◌≡◌, ◌≤◌, ℕ, suc, true, List, [], �
 use Rattle.std.specs.List.{AllByRecursion, filter_map}
 use Rattle.search_base.specs.declared.rule.Rule.{Rule}
 use Rattle.search_base.specs.GraphView.{GraphView}
-use Rattle.index_core.specs.declared.kept.KeptRows.{KeptRows}
+use Rattle.index_core.specs.Kept.{KeptRows}
 use Rattle.index_core.specs.Matching.{Match, match_of}
 use Rattle.index_core.specs.Hits.{stands_before}
 

@@ -1,10 +1,12 @@
 -- The rows that an index keeps, as a change of documents puts them.
-use Rattle.std.specs.Prelude.{◌≡◌, ◌<◌, ◌⊎◌, ℕ, ◌==◌, List, [], ◌∷◌, if◌then◌else◌}
+use Rattle.std.specs.Prelude.{◌≡◌, ◌<◌, ◌⊎◌, ℕ, ◌==◌, List, [], ◌∷◌, map, if◌then◌else◌}
+use Rattle.std.specs.List.{AllByRecursion}
 use Rattle.index_settings.specs.View.{SettingsView}
 use Rattle.doc_store.specs.declared.rows.StoreRow.{StoreRow}
-use Rattle.index_core.specs.declared.kept.KeptRows.{KeptRows}
-use Rattle.index_core.specs.Kept.{kept_at}
+use Rattle.index_core.specs.Kept.{KeptRows, kept_at}
 use Rattle.index_core.specs.Matching.{rows_with}
+use Rattle.index_core.specs.declared.kept.NewRows.{NewRows}
+use Rattle.index_core.specs.Packed.{TableView, AreWithin, rows_read}
 
 -- the rows in place of those of their internal id, or else behind the others
 abbrev pub put_kept : KeptRows → List KeptRows → List KeptRows
@@ -29,3 +31,10 @@ abbrev pub rows_come : SettingsView → List (List ℕ) → List StoreRow → Li
 rows_come settings paths [] ids = []
 rows_come settings paths (r ∷ rows) [] = []
 rows_come settings paths (r ∷ rows) (id ∷ ids) = kept_at id (rows_with settings paths r.document) ∷ rows_come settings paths rows ids
+
+-- the rows that come, read through the table
+abbrev pub rows_new : TableView → List NewRows → List KeptRows
+rows_new t come = map (λ one. kept_at one.id.0 (rows_read t one.rows)) come
+
+abbrev pub AreNewWithin : TableView → List NewRows → Type 0
+AreNewWithin t come = AllByRecursion (λ one. AreWithin t one.rows) come

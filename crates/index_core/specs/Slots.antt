@@ -9,8 +9,7 @@ use Rattle.index_settings.specs.View.{SettingsView}
 use Rattle.std.specs.Option.{option_map}
 use Rattle.doc_rows.specs.Rows.{rows_of}
 use Rattle.doc_store.specs.Store.{Store, row_at}
-use Rattle.index_core.specs.declared.kept.KeptRows.{KeptRows}
-use Rattle.index_core.specs.Kept.{kept_at, AreKept}
+use Rattle.index_core.specs.Kept.{KeptRows, kept_at, AreKept}
 
 -- the rows in the slots, of which the first has the internal id
 abbrev pub kept_from : ℕ → List (Option RowsView) → List KeptRows

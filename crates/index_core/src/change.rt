@@ -10,7 +10,7 @@ ghost use Rattle.index_core.specs.Removing.{removed_under};
 ghost use Rattle.index_core.specs.declared.fault.CoreFault.TheVariants.{NoMemory as Memory};
 
 use crate::fault::CoreFault;
-use crate::kept::{Slots, put_all, rows_of_new};
+use crate::kept::{Kept, put_all, rows_of_new};
 use doc_store::{DocStore, StoreRow};
 use index_settings::Settings;
 use search_base::{DocId, NoMemory, Word};
@@ -21,11 +21,11 @@ pub(crate) fn store_documents(
     alloc: Global,
     settings: &Settings,
     store: &mut DocStore,
-    kept: &mut Slots,
+    kept: &mut Kept,
     documents: Vec<StoreRow>,
 ) -> Result<(), CoreFault>
-    requires { AreInSlots kept.old.items settings.now store.old.content }
-    ensures kept { AreInSlots kept.new.items settings.now store.new.content }
+    requires { AreInSlots kept.old.slots settings.now store.old.content }
+    ensures kept { AreInSlots kept.new.slots settings.now store.new.content }
     ensures stored { OnOk result (store.new.content ≡ all_stored documents.items store.old.content) }
     ensures within { OnOk result (spent (all_stored documents.items store.old.content) ≡ None) }
     ensures stays { OnErr result (store.new.content ≡ store.old.content) }
@@ -40,6 +40,7 @@ pub(crate) fn store_documents(
         paths.as_slice(),
         documents.as_slice(),
         admission.ids(),
+        kept,
     )?;
     kept.reserve(come.len())?;
     let plan = store.prepare(documents, admission)?;
@@ -69,10 +70,10 @@ fn add_paths(paths: &[Word], all: &mut Vec<Word>) -> Result<(), NoMemory>
 
 /// Takes out the documents with these external ids, and what is kept of them. Each takes steps in proportion to the
 /// logarithm of the index.
-pub(crate) fn remove_documents(store: &mut DocStore, kept: &mut Slots, ids: &[Word])
+pub(crate) fn remove_documents(store: &mut DocStore, kept: &mut Kept, ids: &[Word])
     requires sound { IsSound store.old.content }
-    requires slots { length kept.old.items ≡ store.old.content.next_id }
-    ensures kept { (settings : SettingsView) → AreInSlots kept.old.items settings store.old.content → AreInSlots kept.new.items settings store.new.content }
+    requires slots { length kept.old.slots ≡ store.old.content.next_id }
+    ensures kept { (settings : SettingsView) → AreInSlots kept.old.slots settings store.old.content → AreInSlots kept.new.slots settings store.new.content }
     ensures removed { store.new.content ≡ all_removed ids.now store.old.content }
 {
     for id in ids {
@@ -80,11 +81,11 @@ pub(crate) fn remove_documents(store: &mut DocStore, kept: &mut Slots, ids: &[Wo
     }
 }
 
-fn remove_document(store: &mut DocStore, kept: &mut Slots, external: &Word)
+fn remove_document(store: &mut DocStore, kept: &mut Kept, external: &Word)
     requires sound { IsSound store.old.content }
-    requires slots { length kept.old.items ≡ store.old.content.next_id }
-    ensures kept { (settings : SettingsView) → AreInSlots kept.old.items settings store.old.content → AreInSlots kept.new.items settings store.new.content }
-    ensures slots { length kept.new.items ≡ store.new.content.next_id }
+    requires slots { length kept.old.slots ≡ store.old.content.next_id }
+    ensures kept { (settings : SettingsView) → AreInSlots kept.old.slots settings store.old.content → AreInSlots kept.new.slots settings store.new.content }
+    ensures slots { length kept.new.slots ≡ store.new.content.next_id }
     ensures removed { store.new.content ≡ removed_under external.now store.old.content }
 {
     match store.id_of(external) {
@@ -94,22 +95,22 @@ fn remove_document(store: &mut DocStore, kept: &mut Slots, external: &Word)
 }
 
 // Takes out the document with an internal id, where there is one, and what is kept of it.
-fn remove_at(store: &mut DocStore, kept: &mut Slots, id: DocId)
-    requires slots { length kept.old.items ≡ store.old.content.next_id }
-    requires within { id.0 < length kept.old.items }
-    ensures kept { (settings : SettingsView) → AreInSlots kept.old.items settings store.old.content → AreInSlots kept.new.items settings store.new.content }
-    ensures slots { length kept.new.items ≡ store.new.content.next_id }
+fn remove_at(store: &mut DocStore, kept: &mut Kept, id: DocId)
+    requires slots { length kept.old.slots ≡ store.old.content.next_id }
+    requires within { id.0 < length kept.old.slots }
+    ensures kept { (settings : SettingsView) → AreInSlots kept.old.slots settings store.old.content → AreInSlots kept.new.slots settings store.new.content }
+    ensures slots { length kept.new.slots ≡ store.new.content.next_id }
     ensures removed { store.new.content ≡ removed id.0 store.old.content }
 {
     let _found = store.remove(id);
-    kept[id.0 as usize] = None;
+    kept.empty(id);
 }
 
 /// Takes out all documents, and what is kept of them.
-pub(crate) fn clear_documents(store: &mut DocStore, kept: &mut Slots)
+pub(crate) fn clear_documents(store: &mut DocStore, kept: &mut Kept)
     requires sound { IsSound store.old.content }
-    requires slots { length kept.old.items ≡ store.old.content.next_id }
-    ensures kept { (settings : SettingsView) → AreInSlots kept.old.items settings store.old.content → AreInSlots kept.new.items settings store.new.content }
+    requires slots { length kept.old.slots ≡ store.old.content.next_id }
+    ensures kept { (settings : SettingsView) → AreInSlots kept.old.slots settings store.old.content → AreInSlots kept.new.slots settings store.new.content }
     ensures cleared { store.new.content ≡ cleared store.old.content }
 {
     for id in 0..kept.len() {

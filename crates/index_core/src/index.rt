@@ -13,7 +13,7 @@ ghost use Rattle.index_core.specs.declared.fault.CoreFault.TheVariants.{NoMemory
 use crate::call::{Listing, SearchCall, SearchResult};
 use crate::change::{clear_documents, remove_documents, store_documents};
 use crate::fault::CoreFault;
-use crate::kept::Slots;
+use crate::kept::Kept;
 use crate::plan::{
     Plan, Work, keeping_key, no_work, planned_patch, planned_replace, planned_update,
 };
@@ -36,7 +36,7 @@ pub struct IndexCore {
     store: DocStore,
     settings: Settings,
     stops: Vec<Word>,
-    kept: Slots,
+    kept: Kept,
 }
 
 impl Model for IndexCore {
@@ -51,7 +51,7 @@ impl Model for IndexCore {
 
     ghost view = { λ index. record { key = index.key; store = index.store.content; settings = index.settings } };
 
-    ghost invariant = { λ index. AreInSlots index.kept.items index.settings index.store.content
+    ghost invariant = { λ index. AreInSlots index.kept.slots index.settings index.store.content
         × (index.stops.items ≡ stop_words_of index.settings) };
 }
 
@@ -65,7 +65,7 @@ impl IndexCore {
             store: DocStore::new(alloc)?,
             settings: Settings::defaults(alloc)?,
             stops: Vec::new(alloc),
-            kept: Vec::new(alloc),
+            kept: Kept::new(alloc),
         })
     }
 
@@ -211,7 +211,7 @@ impl IndexCore {
             &self.settings,
             self.stops.as_slice(),
             &self.store,
-            self.kept.as_slice(),
+            &self.kept,
             call,
         )?;
         let hits = read(alloc, &self.store, ranked.ids.as_slice(), fetches)?;

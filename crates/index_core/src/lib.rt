@@ -24,6 +24,7 @@ mod rows;
 mod search;
 mod settle;
 mod stops;
+mod table;
 #[cfg(test)]
 mod tests;
 mod update;

@@ -1,4 +1,4 @@
-ghost use Rattle.std.specs.Prelude.{◌≡◌, ◌-◌, ◌≤◌, map, length, take, drop, [], IfOk};
+ghost use Rattle.std.specs.Prelude.{◌≡◌, ◌-◌, ◌≤◌, map, length, take, drop, [], slice_index_or, None, IfOk};
 ghost use Rattle.search_base.specs.Graphs.{IsGraph};
 ghost use Rattle.index_core.specs.Matching.{query_without, rules_of as rules_of_settings, stop_words_of};
 ghost use Rattle.index_core.specs.Hits.{hits_of, window_end as end_of_window};
@@ -9,13 +9,13 @@ ghost use Rattle.index_core.specs.Slots.{kept_from, costs_in};
 
 use crate::call::SearchCall;
 use crate::candidate::{Candidate, place};
-use crate::kept::part;
+use crate::kept::{Kept, part};
 use crate::ranking::rules_of;
 use doc_store::DocStore;
 use index_settings::Settings;
 use plain_rank::cost_tuple;
 use query_graph::{build_graph, items};
-use search_base::{CostKey, DocId, DocRows, Graph, NoMemory, Rule, Strategy, Word};
+use search_base::{CostKey, DocId, Graph, NoMemory, Rule, Strategy, Word};
 use std::alloc::Global;
 
 /// The internal ids of the hits of a search, and how many documents match.
@@ -32,16 +32,16 @@ pub(crate) fn rank(
     settings: &Settings,
     stops: &[Word],
     store: &DocStore,
-    kept: &[Option<DocRows>],
+    kept: &Kept,
     call: &SearchCall,
 ) -> Result<Ranked, NoMemory>
-    requires of { AreOf (kept_from 0 kept.now) store.now.content }
-    requires few { length kept.now ≤ 1000000 }
+    requires of { AreOf (kept_from 0 kept.now.slots) store.now.content }
+    requires few { length kept.now.slots ≤ 1000000 }
     requires stops { stops.now ≡ stop_words_of settings.now }
     ensures ids { IfOk result (λ ranked. map (λ id. id.0) ranked.ids.items
-        ≡ map (λ m. m.id) (hits_of settings.now.max_total_hits call.now (matches_in (query_without (stop_words_of settings.now) call.now.q) (rules_of_settings settings.now) (kept_from 0 kept.now)))) }
+        ≡ map (λ m. m.id) (hits_of settings.now.max_total_hits call.now (matches_in (query_without (stop_words_of settings.now) call.now.q) (rules_of_settings settings.now) (kept_from 0 kept.now.slots)))) }
     ensures total { IfOk result (λ ranked. ranked.total
-        ≡ length (matches_in (query_without (stop_words_of settings.now) call.now.q) (rules_of_settings settings.now) (kept_from 0 kept.now))) }
+        ≡ length (matches_in (query_without (stop_words_of settings.now) call.now.q) (rules_of_settings settings.now) (kept_from 0 kept.now.slots))) }
 {
     let query = query_of(alloc, stops, call.q.as_str())?;
     let end = window_end(settings.max_total_hits(), call);
@@ -86,24 +86,22 @@ struct Best {
 
 fn find_best(
     alloc: Global,
-    kept: &[Option<DocRows>],
+    kept: &Kept,
     query: &Graph,
     rules: &[Rule],
     most: usize,
 ) -> Result<Best, NoMemory>
     requires graph { IsGraph query.now }
-    requires few { length kept.now ≤ 1000000 }
-    ensures first { IfOk result (λ best. best.first.items ≡ take most (placed_all (matches_in query.now rules.now (kept_from 0 kept.now)) [])) }
-    ensures total { IfOk result (λ best. best.total ≡ length (matches_in query.now rules.now (kept_from 0 kept.now))) }
+    requires few { length kept.now.slots ≤ 1000000 }
+    ensures first { IfOk result (λ best. best.first.items ≡ take most (placed_all (matches_in query.now rules.now (kept_from 0 kept.now.slots)) [])) }
+    ensures total { IfOk result (λ best. best.total ≡ length (matches_in query.now rules.now (kept_from 0 kept.now.slots))) }
 {
     let mut first = Vec::new(alloc);
     let mut total = 0;
-    for (at, slot) in kept.iter().enumerate() {
-        if let Some(costs) = costs_of(alloc, query, rules, slot)? {
-            let candidate = Candidate {
-                costs,
-                id: DocId(at as u32),
-            };
+    for at in 0..kept.len() {
+        let id = DocId(at as u32);
+        if let Some(costs) = costs_of(alloc, query, rules, kept, id)? {
+            let candidate = Candidate { costs, id };
             place(&mut first, candidate, most)?;
             total += 1;
         }
@@ -111,18 +109,20 @@ fn find_best(
     Ok(Best { first, total })
 }
 
-// The costs of the document in a slot, where there is one and it matches.
+// The costs of the document in the slot of an internal id, where there is one and it matches.
 fn costs_of(
     alloc: Global,
     query: &Graph,
     rules: &[Rule],
-    slot: &Option<DocRows>,
+    kept: &Kept,
+    id: DocId,
 ) -> Result<Option<Vec<CostKey>>, NoMemory>
     requires { IsGraph query.now }
-    ensures { IfOk result (λ costs. option_map (λ cost. cost.items) costs ≡ costs_in query.now rules.now slot.now) }
+    ensures { IfOk result (λ costs. option_map (λ cost. cost.items) costs
+        ≡ costs_in query.now rules.now (slice_index_or kept.now.slots id.0 None)) }
 {
-    match slot {
-        Some(rows) => cost_tuple(alloc, query, rows, rules),
+    match kept.rows(alloc, id)? {
+        Some(rows) => cost_tuple(alloc, query, &rows, rules),
         None => Ok(None),
     }
 }

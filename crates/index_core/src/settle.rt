@@ -1,4 +1,4 @@
-ghost use Rattle.std.specs.Prelude.{◌≡◌, ◌+◌, ◌≤◌, ◌++◌, ◌∷◌, [], length, false, None, codes, IfOk, IfErr, IfSome, IfNone, OnOk, OnErr, if◌then◌else◌};
+ghost use Rattle.std.specs.Prelude.{◌≡◌, ◌+◌, ◌≤◌, ◌++◌, ◌∷◌, [], length, false, None, codes, slice_index_or, IfOk, IfErr, IfSome, IfNone, OnOk, OnErr, if◌then◌else◌};
 ghost use Rattle.serde_json.specs.Find.{get};
 ghost use Rattle.serde_json.specs.View.{view as data_of};
 ghost use Rattle.doc_store.specs.Sound.{IsSound};
@@ -9,12 +9,11 @@ ghost use Rattle.index_core.specs.Kept.{AreOf, kept_of};
 ghost use Rattle.index_core.specs.Slots.{AreInSlots, kept_from, rows_at, anew};
 ghost use Rattle.index_core.specs.Matching.{ranks_from, stop_words_of};
 
-use crate::kept::Slots;
+use crate::kept::{Kept, packed_rows};
 use crate::stops::stop_words;
-use doc_rows::rows;
 use doc_store::DocStore;
 use index_settings::{Settings, patch, rank_of};
-use search_base::{DocId, DocRows, NoMemory, Steps, Word};
+use search_base::{DocId, NoMemory, Steps, Word};
 use serde_json::Value;
 use std::alloc::Global;
 
@@ -23,15 +22,15 @@ use std::alloc::Global;
 pub(crate) fn patch_settings<F>(
     alloc: Global,
     store: &DocStore,
-    kept: &mut Slots,
+    kept: &mut Kept,
     stops: &mut Vec<Word>,
     settings: &mut Settings,
     members: &Value,
     fetches: &mut Steps<F>,
 ) -> Result<(), NoMemory>
-    requires kept { AreInSlots kept.old.items settings.old store.now.content }
+    requires kept { AreInSlots kept.old.slots settings.old store.now.content }
     requires stops { stops.old.items ≡ stop_words_of settings.old }
-    ensures kept { AreInSlots kept.new.items settings.new store.now.content }
+    ensures kept { AreInSlots kept.new.slots settings.new store.now.content }
     ensures stops { stops.new.items ≡ stop_words_of settings.new }
     ensures settings { OnOk result (settings.new ≡ patched defaults settings.old (data_of members.now)) }
     ensures stays { OnErr result (settings.new ≡ settings.old) }
@@ -79,14 +78,14 @@ fn stops_named(
 pub(crate) fn reset_settings<F>(
     alloc: Global,
     store: &DocStore,
-    kept: &mut Slots,
+    kept: &mut Kept,
     stops: &mut Vec<Word>,
     settings: &mut Settings,
     fetches: &mut Steps<F>,
 ) -> Result<(), NoMemory>
-    requires kept { AreInSlots kept.old.items settings.old store.now.content }
+    requires kept { AreInSlots kept.old.slots settings.old store.now.content }
     requires stops { stops.old.items ≡ stop_words_of settings.old }
-    ensures kept { AreInSlots kept.new.items settings.new store.now.content }
+    ensures kept { AreInSlots kept.new.slots settings.new store.now.content }
     ensures stops { stops.new.items ≡ stop_words_of settings.new }
     ensures settings { OnOk result (settings.new ≡ defaults) }
     ensures stays { OnErr result (settings.new ≡ settings.old) }
@@ -108,15 +107,15 @@ pub(crate) fn reset_settings<F>(
 fn settle<F>(
     alloc: Global,
     store: &DocStore,
-    kept: &mut Slots,
+    kept: &mut Kept,
     settings: &mut Settings,
     others: Settings,
     may_differ: bool,
     fetches: &mut Steps<F>,
 ) -> Result<(), NoMemory>
-    requires kept { AreInSlots kept.old.items settings.old store.now.content }
+    requires kept { AreInSlots kept.old.slots settings.old store.now.content }
     requires same { may_differ ≡ false → others.searchable_attributes ≡ settings.old.searchable_attributes }
-    ensures kept { AreInSlots kept.new.items settings.new store.now.content }
+    ensures kept { AreInSlots kept.new.slots settings.new store.now.content }
     ensures settings { OnOk result (settings.new ≡ others) }
     ensures stays { OnErr result (settings.new ≡ settings.old) }
     ensures fetches { OnOk result (fetches.new
@@ -128,7 +127,7 @@ fn settle<F>(
         *settings = others;
         return Ok(());
     }
-    *kept = rows_of_all(alloc, store, &others, kept.as_slice(), fetches)?;
+    *kept = rows_of_all(alloc, store, &others, kept, fetches)?;
     *settings = others;
     Ok(())
 }
@@ -145,36 +144,29 @@ fn search_alike(settings: &Settings, others: &Settings, may_differ: bool) -> boo
     }
 }
 
-// The rows of each stored document under these settings. Each document is read once.
+// The rows of each stored document under these settings, in a table of their own. Each document is read once.
 fn rows_of_all<F>(
     alloc: Global,
     store: &DocStore,
     settings: &Settings,
-    kept: &[Option<DocRows>],
+    kept: &Kept,
     fetches: &mut Steps<F>,
-) -> Result<Slots, NoMemory>
+) -> Result<Kept, NoMemory>
     requires sound { IsSound store.now.content }
-    requires kept { AreOf (kept_from 0 kept.now) store.now.content }
-    requires few { length kept.now ≤ 1000000 }
-    ensures rows { IfOk result (λ rows. kept_from 0 rows.items ≡ kept_of settings.now store.now.content) }
-    ensures slots { IfOk result (λ rows. length rows.items ≡ length kept.now) }
+    requires kept { AreOf (kept_from 0 kept.now.slots) store.now.content }
+    requires few { length kept.now.slots ≤ 1000000 }
+    ensures rows { IfOk result (λ all. kept_from 0 all.slots ≡ kept_of settings.now store.now.content) }
+    ensures slots { IfOk result (λ all. length all.slots ≡ length kept.now.slots) }
     ensures fetches { OnOk result (fetches.new ≡ fetches.old + length store.now.content.rows) }
     ensures at_most { fetches.new ≤ fetches.old + length store.now.content.rows }
 {
     let ranks = ranks_of(alloc, settings, store.paths())?;
     let ranks = ranks.as_slice();
-    let mut all = Vec::with_capacity(alloc, kept.len())?;
-    for (at, slot) in kept.iter().enumerate() {
+    let mut all = Kept::new(alloc);
+    all.reserve(kept.len())?;
+    for at in 0..kept.len() {
         let id = DocId(at as u32);
-        add_slot(
-            alloc,
-            store,
-            ranks,
-            id,
-            slot,
-            &mut all,
-            fetches,
-        )?;
+        add_slot(alloc, store, ranks, id, kept, &mut all, fetches)?;
     }
     Ok(all)
 }
@@ -185,23 +177,23 @@ fn add_slot<F>(
     store: &DocStore,
     ranks: &[Option<u16>],
     id: DocId,
-    slot: &Option<DocRows>,
-    all: &mut Slots,
+    kept: &Kept,
+    all: &mut Kept,
     fetches: &mut Steps<F>,
 ) -> Result<(), NoMemory>
     requires few { length store.now.content.paths ≤ 1000 }
     requires ranks { length ranks.now ≡ length store.now.content.paths }
-    ensures rows { OnOk result (all.new.items ≡ all.old.items ++ anew id.0 ranks.now store.now.content slot.now ∷ []) }
-    ensures fetches { OnOk result (fetches.new ≡ fetches.old + length (kept_from id.0 (slot.now ∷ []))) }
-    ensures at_most { fetches.new ≤ fetches.old + length (kept_from id.0 (slot.now ∷ [])) }
+    ensures rows { OnOk result (all.new.slots
+        ≡ all.old.slots ++ anew id.0 ranks.now store.now.content (slice_index_or kept.now.slots id.0 None) ∷ []) }
+    ensures fetches { OnOk result (fetches.new
+        ≡ fetches.old + length (kept_from id.0 (slice_index_or kept.now.slots id.0 None ∷ []))) }
+    ensures at_most { fetches.new
+        ≤ fetches.old + length (kept_from id.0 (slice_index_or kept.now.slots id.0 None ∷ [])) }
 {
-    match slot {
-        Some(_) => add_rows(alloc, store, ranks, id, all, fetches),
-        None => {
-            all.push(None)?;
-            Ok(())
-        }
+    if kept.has(id) {
+        return add_rows(alloc, store, ranks, id, all, fetches);
     }
+    all.push(None)
 }
 
 // The rows of the document with an internal id, where there is one.
@@ -210,22 +202,20 @@ fn add_rows<F>(
     store: &DocStore,
     ranks: &[Option<u16>],
     id: DocId,
-    all: &mut Slots,
+    all: &mut Kept,
     fetches: &mut Steps<F>,
 ) -> Result<(), NoMemory>
     requires few { length store.now.content.paths ≤ 1000 }
     requires ranks { length ranks.now ≡ length store.now.content.paths }
-    ensures rows { OnOk result (all.new.items ≡ all.old.items ++ rows_at id.0 ranks.now store.now.content ∷ []) }
+    ensures rows { OnOk result (all.new.slots ≡ all.old.slots ++ rows_at id.0 ranks.now store.now.content ∷ []) }
     ensures fetches { fetches.new ≡ fetches.old + 1 }
 {
     let Some(text) = store.fetch(id, fetches) else {
-        all.push(None)?;
-        return Ok(());
+        return all.push(None);
     };
     let document = text.document(alloc)?;
-    let rows = rows(alloc, &document, store.paths(), ranks)?;
-    all.push(Some(rows))?;
-    Ok(())
+    let rows = packed_rows(alloc, &document, None, store.paths(), ranks, all)?;
+    all.push(Some(rows))
 }
 
 /// The rank of each path of a registry, in its order. None is that of a path that is not searched.

@@ -7,6 +7,6 @@ use Rattle.index_core.proofs.change.remove_documents.Given as goal
 abbrev pub invariant-loop-id : goal.invariant-loop-id
 invariant-loop-id l = record {
   goes : Removes l.ids (drop l.id-index l.ids) l.initial.store.content l.store.content;
-  slots : length l.kept.items ≡ l.store.content.next_id;
-  kept : (settings : SettingsView) → AreInSlots l.initial.kept.items settings l.initial.store.content → AreInSlots l.kept.items settings l.store.content;
+  slots : length l.kept.slots ≡ l.store.content.next_id;
+  kept : (settings : SettingsView) → AreInSlots l.initial.kept.slots settings l.initial.store.content → AreInSlots l.kept.slots settings l.store.content;
 }

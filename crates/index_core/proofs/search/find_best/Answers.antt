@@ -1,5 +1,6 @@
-use Rattle.std.proofs.Common.{◌≡◌, ◌+◌, ◌∷◌, drop, ap, subst, ◌∙◌, sym, arith}
+use Rattle.std.proofs.Common.{◌≡◌, ◌+◌, ◌∷◌, drop, ap, subst, ◌∙◌, sym, arith, get_or, None}
 use Rattle.std.specs.Option.{option_map}
+use Rattle.std.proofs.lemmas.List.{get_or_default}
 use Rattle.index_core.specs.Slots.{kept_from, costs_in}
 use Rattle.index_core.proofs.Collecting.{Collecting, collecting-start}
 use Rattle.index_core.proofs.KeptSlots.{slots-rise, kept-fewer, slots-next, slot-match, slot-none}
@@ -8,22 +9,22 @@ use Rattle.index_core.proofs.search.find_best.Goals.{in-Some+in_ok-place, in_def
 
 pub loop-at-init : goal.loop-at-init
 loop-at-init c =
-    let kept = kept_from 0 c.args.kept.now in
-    subst (λ v. Collecting c.args.query.now c.args.rules.now kept kept c.args.most v 0) (sym c.new-first.ensures.items) (collecting-start c.args.query.now c.args.rules.now kept c.args.most (slots-rise c.args.kept.now))
+    let kept = kept_from 0 c.args.kept.now.slots in
+    subst (λ v. Collecting c.args.query.now c.args.rules.now kept kept c.args.most v 0) (sym c.new-first.ensures.items) (collecting-start c.args.query.now c.args.rules.now kept c.args.most (slots-rise c.args.kept.now.slots))
 
 pub overflow_add-total : goal.overflow_add-total
 overflow_add-total c =
-    let few = kept-fewer 0 c.args.kept.now in
+    let few = kept-fewer 0 c.args.kept.now.slots in
     omega (arith, c.loop-at.invariant.seen, c.requires.few)
 
 pub loop-at-preserved : goal.loop-at-preserved
 loop-at-preserved c =
     let query = c.args.query.now in
     let rules = c.args.rules.now in
-    let kept = c.args.kept.now in
+    let kept = c.args.kept.now.slots in
     let at = c.loop-at.at in
-    let slot = c.index-kept-at.result in
-    let here : drop at kept ≡ slot ∷ drop (at + 1) kept = slots-next at kept slot (omega arith) c.index-kept-at.is in
+    let slot = get_or kept at None in
+    let here : drop at kept ≡ slot ∷ drop (at + 1) kept = slots-next at kept slot (omega arith) (get_or_default kept at None slot (omega arith)) in
     let costs : costs_in query rules slot ≡ option_map (λ v. v.items) c.in_ok-costs.field-0 = sym c.in_ok-costs.ensures in
     elim c.match-branch-2.branch [
       | in-Some+in_ok-place w ↦

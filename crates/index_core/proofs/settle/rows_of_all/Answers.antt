@@ -1,5 +1,5 @@
-use Rattle.std.proofs.Common.{◌≡◌, ◌+◌, ◌∷◌, ◌++◌, [], drop, length, map, sym, ap, ◌∙◌, arith, append-nil}
-use Rattle.std.proofs.lemmas.List.{drop_all}
+use Rattle.std.proofs.Common.{◌≡◌, ◌+◌, ◌∷◌, ◌++◌, [], drop, length, map, sym, ap, ◌∙◌, arith, append-nil, get_or, None}
+use Rattle.std.proofs.lemmas.List.{drop_all, get_or_default}
 use Rattle.doc_rows.specs.Rows.{rows_of}
 use Rattle.doc_store.specs.Store.{Row}
 use Rattle.index_core.specs.Kept.{kept_at}
@@ -12,35 +12,35 @@ use Rattle.index_core.proofs.settle.rows_of_all.Goals as goal
 pub loop-at-preserved : goal.loop-at-preserved
 loop-at-preserved g c =
     let at = c.loop-at.at in
-    let kept = c.args.kept.now in
-    let slot = c.index-kept-at.result in
+    let kept = c.args.kept.now.slots in
+    let slot = get_or kept at None in
     let s = c.args.store.now.content in
     let ranks = c.as_slice-ranks.result.now in
-    let here : drop at kept ≡ slot ∷ drop (at + 1) kept = slots-next at kept slot (omega arith) c.index-kept-at.is in
+    let here : drop at kept ≡ slot ∷ drop (at + 1) kept = slots-next at kept slot (omega arith) (get_or_default kept at None slot (omega arith)) in
     let size : length (kept_from at (drop at kept)) ≡ length (kept_from at (slot ∷ [])) + length (kept_from (at + 1) (drop (at + 1) kept)) = ap (λ v. length (kept_from at v)) here ∙ length-slots at slot (drop (at + 1) kept) in
     record {
-      told = anew-more at ranks s kept slot c.loop-at.all.items c.add_slot.new.all.items (anew_from 0 ranks s kept) (omega arith) c.index-kept-at.is c.in_ok-add_slot.ensures.rows c.loop-at.invariant.told;
+      told = anew-more at ranks s kept slot c.loop-at.all.slots c.add_slot.new.all.slots (anew_from 0 ranks s kept) (omega arith) (get_or_default kept at None slot (omega arith)) c.in_ok-add_slot.ensures.rows c.loop-at.invariant.told;
       read = omega (arith, c.loop-at.invariant.read, c.in_ok-add_slot.ensures.fetches, size);
     }
 
 pub returns-clause-rows : goal.returns-clause-rows
 returns-clause-rows g c =
-    let kept = c.args.kept.now in
+    let kept = c.args.kept.now.slots in
     let s = c.args.store.now.content in
     let st = c.args.settings.now in
     let ranks = c.as_slice-ranks.result.now in
     let at = c.loop-at.at in
     let none : drop at kept ≡ [] = drop_all at kept (omega arith) in
-    let all : c.loop-at.all.items ≡ anew_from 0 ranks s kept = sym (append-nil c.loop-at.all.items) ∙ ap (λ v. c.loop-at.all.items ++ anew_from at ranks s v) (sym none) ∙ c.loop-at.invariant.told in
+    let all : c.loop-at.all.slots ≡ anew_from 0 ranks s kept = sym (append-nil c.loop-at.all.slots) ∙ ap (λ v. c.loop-at.all.slots ++ anew_from at ranks s v) (sym none) ∙ c.loop-at.invariant.told in
     ap (kept_from 0) all ∙ anew-kept 0 ranks s kept s.rows c.requires.kept (rows-there s c.requires.sound)
     ∙ ap (λ rs. map (λ (r : Row). kept_at r.id (rows_of r.document s.paths rs)) s.rows) (c.as_slice-ranks.ensures.value ∙ c.in_ok-ranks.ensures.ranks ∙ ap (ranks_from st 0) c.paths.ensures)
 
 pub returns-clause-slots : goal.returns-clause-slots
 returns-clause-slots g c =
-    let kept = c.args.kept.now in
+    let kept = c.args.kept.now.slots in
     let s = c.args.store.now.content in
     let ranks = c.as_slice-ranks.result.now in
     let at = c.loop-at.at in
     let none : drop at kept ≡ [] = drop_all at kept (omega arith) in
-    let all : c.loop-at.all.items ≡ anew_from 0 ranks s kept = sym (append-nil c.loop-at.all.items) ∙ ap (λ v. c.loop-at.all.items ++ anew_from at ranks s v) (sym none) ∙ c.loop-at.invariant.told in
+    let all : c.loop-at.all.slots ≡ anew_from 0 ranks s kept = sym (append-nil c.loop-at.all.slots) ∙ ap (λ v. c.loop-at.all.slots ++ anew_from at ranks s v) (sym none) ∙ c.loop-at.invariant.told in
     ap length all ∙ anew-length 0 ranks s kept

@@ -6,6 +6,6 @@ use Rattle.index_core.proofs.settle.rows_of_all.Given as goal
 -- the rows so far and those of the slots to come are all rows, and each document so far was read
 abbrev pub invariant-loop-at : goal.invariant-loop-at
 invariant-loop-at g l = record {
-  told : l.all.items ++ anew_from l.at l.ranks l.store.content (drop l.at l.kept) ≡ anew_from 0 l.ranks l.store.content l.kept;
-  read : l.fetches + length (kept_from l.at (drop l.at l.kept)) ≡ l.initial.fetches + length (kept_from 0 l.kept);
+  told : l.all.slots ++ anew_from l.at l.ranks l.store.content (drop l.at l.kept.slots) ≡ anew_from 0 l.ranks l.store.content l.kept.slots;
+  read : l.fetches + length (kept_from l.at (drop l.at l.kept.slots)) ≡ l.initial.fetches + length (kept_from 0 l.kept.slots);
 }

@@ -1,0 +1,11 @@
+use Rattle.std.proofs.Common.{ap, ◌∙◌, None}
+use Rattle.std.proofs.Math.ListN.{set}
+use Rattle.std.proofs.lemmas.List.{map-set}
+use Rattle.std.specs.Option.{option_map}
+use Rattle.index_core.specs.Packed.{KeptView, rows_read}
+use Rattle.index_core.proofs.kept.Kept.empty.Goals as goal
+
+pub returns : goal.returns
+returns c =
+    map-set (λ slot. option_map (rows_read c.self.inside.table) slot) c.self.inside.slots.items c.args.id.0 None
+    ∙ ap (λ (v : KeptView). set v.slots c.args.id.0 None) c.self.view_is

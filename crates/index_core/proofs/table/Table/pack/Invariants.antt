@@ -1,0 +1,7 @@
+use Rattle.std.proofs.Common.{take}
+use Rattle.index_core.proofs.Packing.{Packs}
+use Rattle.index_core.proofs.table.Table.pack.Given as goal
+
+-- the places so far are packed
+abbrev pub invariant-loop-place : goal.invariant-loop-place
+invariant-loop-place l = Packs l.initial.self l.self l.packed.items (take l.place-index l.places)

@@ -1,0 +1,7 @@
+use Rattle.std.proofs.Common.{◌≡◌, map, take}
+use Rattle.index_core.specs.Packed.{place_read}
+use Rattle.index_core.proofs.table.Table.unpack.Given as goal
+
+-- the places so far are read
+abbrev pub invariant-loop-place : goal.invariant-loop-place
+invariant-loop-place l = l.places.items ≡ map (place_read l.fn.self) (take l.place-index l.fn.rows)
