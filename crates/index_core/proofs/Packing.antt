@@ -1,6 +1,5 @@
 -- Rows that are packed in a table, which grows.
-use Rattle.std.proofs.Common.{◌≡◌, ℕ, zero, suc, ◌+◌, ◌<◌, Bool, true, false, cond, List, [], ◌∷◌, ◌++◌, length, map, get_or, Option, None, Some, refl, sym, ap, ap₂, subst, ◌∙◌, arith, length-append, append-nil, append_assoc}
-use Rattle.std.proofs.Math.ListN.{set}
+use Rattle.std.proofs.Common.{◌≡◌, ℕ, zero, suc, Bool, true, false, cond, List, [], ◌∷◌, ◌++◌, length, map, Option, None, Some, refl, sym, ap, ap₂, subst, ◌∙◌, append_assoc}
 use Rattle.std.specs.Prelude.{bytes_eq, slice_get}
 use Rattle.std.specs.Option.{option_map}
 use Rattle.std.specs.List.{AllByRecursion}
@@ -10,15 +9,13 @@ use Rattle.std.specs.Cmp.Lexicographic.{slice_cmp}
 use Rattle.std.specs.Ordering.{nat_cmp}
 use Rattle.std.proofs.lemmas.Map.Text.{is_eq-slice_cmp}
 use Rattle.std.proofs.lemmas.Bool.{cond-true, cond-false}
-use Rattle.std.proofs.lemmas.List.{get_or_append_left, map_push}
-use Rattle.std.proofs.lemmas.Option.{get_or_from_slice_get}
+use Rattle.std.proofs.lemmas.List.{map_push}
 use Rattle.search_base.specs.declared.document.Place.{Place}
 use Rattle.doc_store.proofs.NameLemmas.{same_bytes}
 use Rattle.index_core.specs.declared.table.KeptPlace.{KeptPlace}
-use Rattle.index_core.specs.declared.table.RankedPath.{RankedPath}
 use Rattle.index_core.specs.declared.kept.NewRows.{NewRows}
 use Rattle.index_core.specs.Kept.{KeptRows, kept_at}
-use Rattle.index_core.specs.Packed.{TableView, AreNumbers, IsWithin, no_path, place_read, AreWithin, rows_read, Keeps, slots_read, IsSlotWithin, AreSlotsWithin}
+use Rattle.index_core.specs.Packed.{TableView, AreNumbers, IsWithin, place_read, AreWithin, rows_read, Keeps, slots_read, IsSlotWithin, AreSlotsWithin}
 use Rattle.index_settings.specs.View.{SettingsView}
 use Rattle.doc_store.specs.declared.rows.StoreRow.{StoreRow}
 use Rattle.index_core.specs.Matching.{rows_with}
@@ -29,21 +26,6 @@ use Rattle.index_core.specs.Putting.{rows_come, rows_new, AreNewWithin}
 pub all-push : {A : Type 0} (P : A → Type 0) (xs : List A) (x : A) → AllByRecursion P xs → P x → AllByRecursion P (xs ++ x ∷ [])
 all-push P [] x h is = (is, tt)
 all-push P (y ∷ xs) x h is = (h.0, all-push P xs x h.1 is)
-
-pub all-set : {A : Type 0} (P : A → Type 0) (xs : List A) (at : ℕ) (x : A) → AllByRecursion P xs → P x → AllByRecursion P (set xs at x)
-all-set P [] at x h is = tt
-all-set P (y ∷ xs) zero x h is = (is, h.1)
-all-set P (y ∷ xs) (suc at) x h is = (h.0, all-set P xs at x h.1 is)
-
-pub all-at : {A : Type 0} (P : A → Type 0) (xs : List A) (at : ℕ) (d : A) → AllByRecursion P xs → at < length xs → P (get_or xs at d)
-all-at P [] at d h less = absurd (omega arith)
-all-at P (y ∷ xs) zero d h less = h.0
-all-at P (y ∷ xs) (suc at) d h less = all-at P xs at d h.1 (omega arith)
-
-got-within : {A : Type 0} (xs : List A) (at : ℕ) (x : A) → slice_get xs at ≡ Some x → at < length xs
-got-within [] at x h = absurd (cc)
-got-within (y ∷ xs) zero x h = omega arith
-got-within (y ∷ xs) (suc at) x h = let less = got-within xs at x h in omega arith
 
 got-behind : {A : Type 0} (xs ys : List A) (at : ℕ) (x : A) → slice_get xs at ≡ Some x → slice_get (xs ++ ys) at ≡ Some x
 got-behind [] ys at x h = absurd (cc)
@@ -82,32 +64,6 @@ keeps-same t = record { within = λ p h. h; same = λ p h. refl }
 
 pub keeps-more : (t u v : TableView) → Keeps t u → Keeps u v → Keeps t v
 keeps-more t u v a b = record { within = λ p h. b.within p (a.within p h); same = λ p h. b.same p (a.within p h) ∙ a.same p h }
-
-pub keeps-grown : (t u : TableView) (words : List (List ℕ)) (paths : List RankedPath) → u.words ≡ t.words ++ words → u.paths ≡ t.paths ++ paths → Keeps t u
-keeps-grown t u words paths w r = record {
-  within = λ p h. (
-    (let l : length u.words ≡ length t.words + length words = ap length w ∙ length-append t.words words in let k = h.0 in omega arith),
-    (let l : length u.paths ≡ length t.paths + length paths = ap length r ∙ length-append t.paths paths in let k = h.1 in omega arith),
-  );
-  same = λ p h. ap₂ (λ (at : RankedPath) (word : List ℕ). record { path = at.path; rank = at.rank; position = p.position; word = word })
-      (ap (λ v. get_or v p.path no_path) r ∙ get_or_append_left t.paths paths no_path p.path h.1)
-      (ap (λ v. get_or v p.word []) w ∙ get_or_append_left t.words words [] p.word h.0);
-}
-
-pub keeps-word : (t u : TableView) (word : List ℕ) → u.words ≡ t.words ++ word ∷ [] → u.paths ≡ t.paths → Keeps t u
-keeps-word t u word w r = keeps-grown t u (word ∷ []) [] w (r ∙ sym (append-nil t.paths))
-
-pub keeps-path : (t u : TableView) (path : RankedPath) → u.words ≡ t.words → u.paths ≡ t.paths ++ path ∷ [] → Keeps t u
-keeps-path t u path w r = keeps-grown t u [] (path ∷ []) (w ∙ sym (append-nil t.words)) r
-
--- numbers that were looked up read as what they were looked up for
-pub place-found : (t : TableView) (p : KeptPlace) (place : Place) → slice_get t.paths p.path ≡ Some (record { path = place.path; rank = place.rank }) → slice_get t.words p.word ≡ Some place.word → p.position ≡ place.position
-    → (place_read t p ≡ place) × IsWithin t p
-place-found t p place path word position = (
-  ap₂ (λ (at : RankedPath) (w : List ℕ). record { path = at.path; rank = at.rank; position = p.position; word = w }) (get_or_from_slice_get t.paths p.path _ no_path path) (get_or_from_slice_get t.words p.word _ [] word)
-      ∙ ap (λ n. record { path = place.path; rank = place.rank; position = n; word = place.word }) position,
-  (got-within t.words p.word _ word, got-within t.paths p.path _ path),
-)
 
 pub rows-kept : (t u : TableView) (places : List KeptPlace) → Keeps t u → AreWithin t places → (map (place_read u) places ≡ map (place_read t) places) × AreWithin u places
 rows-kept t u [] keeps h = (refl, tt)
