@@ -21,8 +21,8 @@ length-map : (xs : List DocId) → length (map (λ id. id.0) xs) ≡ length xs
 length-map [] = refl
 length-map (x ∷ xs) = ap suc (length-map xs)
 
-pub loop-row-preserved : goal.loop-row-preserved
-loop-row-preserved c =
+pub loop-row-preserved-in_ok-push-3 : goal.loop-row-preserved-in_ok-push-3
+loop-row-preserved-in_ok-push-3 c =
     let st = c.args.settings.now in
     let paths = c.args.paths.now in
     let row = c.in-Some.row.now in
@@ -34,7 +34,7 @@ loop-row-preserved c =
       slots = c.packed_rows.ensures.slots ∙ c.loop-row.invariant.slots;
       comes = comes-more st paths c.loop-row.kept.table c.packed_rows.new.kept.table c.loop-row.come.items c.push.new.self.items (record { id = c.in-Some.id.now; rows = c.in_ok-rows.rows }) row
           c.loop-row.row-iterator.a.rest.now c.next.new.self.a.rest.now c.in-Some.id.now.0 (map (λ id. id.0) c.loop-row.row-iterator.b.rest.now) (map (λ id. id.0) c.next.new.self.b.rest.now) all
-          c.packed_rows.ensures.keeps c.in_ok-rows.ensures.within (c.in_ok-rows.ensures.rows ∙ ap (rows_of row.document paths) (c.as_slice-ranks.ensures.value ∙ c.in_ok-ranks.ensures.ranks)) refl
+          c.packed_rows.ensures.keeps c.in_ok-rows.ensures.within (c.in_ok-rows.ensures.rows ∙ ap (λ d. rows_of d paths c.as_slice-ranks.result.now) c.in_ok-document.ensures ∙ ap (rows_of row.document paths) (c.as_slice-ranks.ensures.value ∙ c.in_ok-ranks.ensures.ranks)) refl
           c.in_ok-push.ensures.items first number c.loop-row.invariant.comes;
     }
 
