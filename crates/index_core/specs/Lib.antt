@@ -8,7 +8,6 @@ pub mod Hits
 pub mod Ordered
 pub mod Fetches
 pub mod Kept
-pub mod Packed
 pub mod Laws
 pub mod Putting
 pub mod Removing

@@ -6,7 +6,7 @@ use Rattle.doc_store.specs.declared.rows.StoreRow.{StoreRow}
 use Rattle.index_core.specs.Kept.{KeptRows, kept_at}
 use Rattle.index_core.specs.Matching.{rows_with}
 use Rattle.index_core.specs.declared.kept.NewRows.{NewRows}
-use Rattle.index_core.specs.Packed.{TableView, AreWithin, rows_read}
+use Rattle.packed_rows.specs.Packed.{TableView, AreWithin, rows_read}
 
 -- the rows in place of those of their internal id, or else behind the others
 abbrev pub put_kept : KeptRows → List KeptRows → List KeptRows

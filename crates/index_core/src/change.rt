@@ -10,9 +10,10 @@ ghost use Rattle.index_core.specs.Removing.{removed_under};
 ghost use Rattle.index_core.specs.declared.fault.CoreFault.TheVariants.{NoMemory as Memory};
 
 use crate::fault::CoreFault;
-use crate::kept::{Kept, put_all, rows_of_new};
+use crate::kept::{put_all, rows_of_new};
 use doc_store::{DocStore, StoreRow};
 use index_settings::Settings;
+use packed_rows::PackedSlots;
 use search_base::{DocId, NoMemory, Word};
 use std::alloc::Global;
 
@@ -21,7 +22,7 @@ pub(crate) fn store_documents(
     alloc: Global,
     settings: &Settings,
     store: &mut DocStore,
-    kept: &mut Kept,
+    kept: &mut PackedSlots,
     documents: Vec<StoreRow>,
 ) -> Result<(), CoreFault>
     requires { AreInSlots kept.old.slots settings.now store.old.content }
@@ -70,7 +71,7 @@ fn add_paths(paths: &[Word], all: &mut Vec<Word>) -> Result<(), NoMemory>
 
 /// Takes out the documents with these external ids, and what is kept of them. Each takes steps in proportion to the
 /// logarithm of the index.
-pub(crate) fn remove_documents(store: &mut DocStore, kept: &mut Kept, ids: &[Word])
+pub(crate) fn remove_documents(store: &mut DocStore, kept: &mut PackedSlots, ids: &[Word])
     requires sound { IsSound store.old.content }
     requires slots { length kept.old.slots ≡ store.old.content.next_id }
     ensures kept { (settings : SettingsView) → AreInSlots kept.old.slots settings store.old.content → AreInSlots kept.new.slots settings store.new.content }
@@ -81,7 +82,7 @@ pub(crate) fn remove_documents(store: &mut DocStore, kept: &mut Kept, ids: &[Wor
     }
 }
 
-fn remove_document(store: &mut DocStore, kept: &mut Kept, external: &Word)
+fn remove_document(store: &mut DocStore, kept: &mut PackedSlots, external: &Word)
     requires sound { IsSound store.old.content }
     requires slots { length kept.old.slots ≡ store.old.content.next_id }
     ensures kept { (settings : SettingsView) → AreInSlots kept.old.slots settings store.old.content → AreInSlots kept.new.slots settings store.new.content }
@@ -95,7 +96,7 @@ fn remove_document(store: &mut DocStore, kept: &mut Kept, external: &Word)
 }
 
 // Takes out the document with an internal id, where there is one, and what is kept of it.
-fn remove_at(store: &mut DocStore, kept: &mut Kept, id: DocId)
+fn remove_at(store: &mut DocStore, kept: &mut PackedSlots, id: DocId)
     requires slots { length kept.old.slots ≡ store.old.content.next_id }
     requires within { id.0 < length kept.old.slots }
     ensures kept { (settings : SettingsView) → AreInSlots kept.old.slots settings store.old.content → AreInSlots kept.new.slots settings store.new.content }
@@ -107,7 +108,7 @@ fn remove_at(store: &mut DocStore, kept: &mut Kept, id: DocId)
 }
 
 /// Takes out all documents, and what is kept of them.
-pub(crate) fn clear_documents(store: &mut DocStore, kept: &mut Kept)
+pub(crate) fn clear_documents(store: &mut DocStore, kept: &mut PackedSlots)
     requires sound { IsSound store.old.content }
     requires slots { length kept.old.slots ≡ store.old.content.next_id }
     ensures kept { (settings : SettingsView) → AreInSlots kept.old.slots settings store.old.content → AreInSlots kept.new.slots settings store.new.content }

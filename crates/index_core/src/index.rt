@@ -13,7 +13,6 @@ ghost use Rattle.index_core.specs.declared.fault.CoreFault.TheVariants.{NoMemory
 use crate::call::{Listing, SearchCall, SearchResult};
 use crate::change::{clear_documents, remove_documents, store_documents};
 use crate::fault::CoreFault;
-use crate::kept::Kept;
 use crate::plan::{
     Plan, Work, keeping_key, no_work, planned_patch, planned_replace, planned_update,
 };
@@ -24,6 +23,7 @@ use crate::update::update_rows;
 use doc_store::DocStore;
 use doc_values::{ChangeKind, DocumentText};
 use index_settings::Settings;
+use packed_rows::PackedSlots;
 use search_base::{NoMemory, Steps, Word};
 use std::alloc::Global;
 use std::marker::Model;
@@ -36,7 +36,7 @@ pub struct IndexCore {
     store: DocStore,
     settings: Settings,
     stops: Vec<Word>,
-    kept: Kept,
+    kept: PackedSlots,
 }
 
 impl Model for IndexCore {
@@ -65,7 +65,7 @@ impl IndexCore {
             store: DocStore::new(alloc)?,
             settings: Settings::defaults(alloc)?,
             stops: Vec::new(alloc),
-            kept: Kept::new(alloc),
+            kept: PackedSlots::new(alloc),
         })
     }
 

@@ -24,7 +24,6 @@ mod rows;
 mod search;
 mod settle;
 mod stops;
-mod table;
 #[cfg(test)]
 mod tests;
 mod update;

@@ -9,10 +9,11 @@ ghost use Rattle.index_core.specs.Slots.{kept_from, costs_in};
 
 use crate::call::SearchCall;
 use crate::candidate::{Candidate, place};
-use crate::kept::{Kept, part};
+use crate::kept::part;
 use crate::ranking::rules_of;
 use doc_store::DocStore;
 use index_settings::Settings;
+use packed_rows::PackedSlots;
 use plain_rank::cost_tuple;
 use query_graph::{build_graph, items};
 use search_base::{CostKey, DocId, Graph, NoMemory, Rule, Strategy, Word};
@@ -32,7 +33,7 @@ pub(crate) fn rank(
     settings: &Settings,
     stops: &[Word],
     store: &DocStore,
-    kept: &Kept,
+    kept: &PackedSlots,
     call: &SearchCall,
 ) -> Result<Ranked, NoMemory>
     requires of { AreOf (kept_from 0 kept.now.slots) store.now.content }
@@ -86,7 +87,7 @@ struct Best {
 
 fn find_best(
     alloc: Global,
-    kept: &Kept,
+    kept: &PackedSlots,
     query: &Graph,
     rules: &[Rule],
     most: usize,
@@ -114,7 +115,7 @@ fn costs_of(
     alloc: Global,
     query: &Graph,
     rules: &[Rule],
-    kept: &Kept,
+    kept: &PackedSlots,
     id: DocId,
 ) -> Result<Option<Vec<CostKey>>, NoMemory>
     requires { IsGraph query.now }

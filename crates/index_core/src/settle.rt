@@ -9,10 +9,11 @@ ghost use Rattle.index_core.specs.Kept.{AreOf, kept_of};
 ghost use Rattle.index_core.specs.Slots.{AreInSlots, kept_from, rows_at, anew};
 ghost use Rattle.index_core.specs.Matching.{ranks_from, stop_words_of};
 
-use crate::kept::{Kept, packed_rows};
+use crate::kept::pack_document;
 use crate::stops::stop_words;
 use doc_store::DocStore;
 use index_settings::{Settings, patch, rank_of};
+use packed_rows::PackedSlots;
 use search_base::{DocId, NoMemory, Steps, Word};
 use serde_json::Value;
 use std::alloc::Global;
@@ -22,7 +23,7 @@ use std::alloc::Global;
 pub(crate) fn patch_settings<F>(
     alloc: Global,
     store: &DocStore,
-    kept: &mut Kept,
+    kept: &mut PackedSlots,
     stops: &mut Vec<Word>,
     settings: &mut Settings,
     members: &Value,
@@ -78,7 +79,7 @@ fn stops_named(
 pub(crate) fn reset_settings<F>(
     alloc: Global,
     store: &DocStore,
-    kept: &mut Kept,
+    kept: &mut PackedSlots,
     stops: &mut Vec<Word>,
     settings: &mut Settings,
     fetches: &mut Steps<F>,
@@ -107,7 +108,7 @@ pub(crate) fn reset_settings<F>(
 fn settle<F>(
     alloc: Global,
     store: &DocStore,
-    kept: &mut Kept,
+    kept: &mut PackedSlots,
     settings: &mut Settings,
     others: Settings,
     may_differ: bool,
@@ -149,9 +150,9 @@ fn rows_of_all<F>(
     alloc: Global,
     store: &DocStore,
     settings: &Settings,
-    kept: &Kept,
+    kept: &PackedSlots,
     fetches: &mut Steps<F>,
-) -> Result<Kept, NoMemory>
+) -> Result<PackedSlots, NoMemory>
     requires sound { IsSound store.now.content }
     requires kept { AreOf (kept_from 0 kept.now.slots) store.now.content }
     requires few { length kept.now.slots ≤ 1000000 }
@@ -162,7 +163,7 @@ fn rows_of_all<F>(
 {
     let ranks = ranks_of(alloc, settings, store.paths())?;
     let ranks = ranks.as_slice();
-    let mut all = Kept::new(alloc);
+    let mut all = PackedSlots::new(alloc);
     all.reserve(kept.len())?;
     for at in 0..kept.len() {
         let id = DocId(at as u32);
@@ -177,8 +178,8 @@ fn add_slot<F>(
     store: &DocStore,
     ranks: &[Option<u16>],
     id: DocId,
-    kept: &Kept,
-    all: &mut Kept,
+    kept: &PackedSlots,
+    all: &mut PackedSlots,
     fetches: &mut Steps<F>,
 ) -> Result<(), NoMemory>
     requires few { length store.now.content.paths ≤ 1000 }
@@ -202,7 +203,7 @@ fn add_rows<F>(
     store: &DocStore,
     ranks: &[Option<u16>],
     id: DocId,
-    all: &mut Kept,
+    all: &mut PackedSlots,
     fetches: &mut Steps<F>,
 ) -> Result<(), NoMemory>
     requires few { length store.now.content.paths ≤ 1000 }
@@ -214,7 +215,7 @@ fn add_rows<F>(
         return all.push(None);
     };
     let document = text.document(alloc)?;
-    let rows = packed_rows(alloc, &document, None, store.paths(), ranks, all)?;
+    let rows = pack_document(alloc, &document, None, store.paths(), ranks, all)?;
     all.push(Some(rows))
 }
 

@@ -31,10 +31,10 @@ loop-row-preserved-in_ok-push-3 c =
     let first : c.loop-row.row-iterator.a.rest.now ≡ row ∷ c.next.new.self.a.rest.now = both.0 in
     let number : map (λ id. id.0) c.loop-row.row-iterator.b.rest.now ≡ c.in-Some.id.now.0 ∷ map (λ id. id.0) c.next.new.self.b.rest.now = ap (map (λ (id : DocId). id.0)) both.1 in
     record {
-      slots = c.packed_rows.ensures.slots ∙ c.loop-row.invariant.slots;
-      comes = comes-more st paths c.loop-row.kept.table c.packed_rows.new.kept.table c.loop-row.come.items c.push.new.self.items (record { id = c.in-Some.id.now; rows = c.in_ok-rows.rows }) row
+      slots = c.pack_document.ensures.slots ∙ c.loop-row.invariant.slots;
+      comes = comes-more st paths c.loop-row.kept.table c.pack_document.new.kept.table c.loop-row.come.items c.push.new.self.items (record { id = c.in-Some.id.now; rows = c.in_ok-rows.rows }) row
           c.loop-row.row-iterator.a.rest.now c.next.new.self.a.rest.now c.in-Some.id.now.0 (map (λ id. id.0) c.loop-row.row-iterator.b.rest.now) (map (λ id. id.0) c.next.new.self.b.rest.now) all
-          c.packed_rows.ensures.keeps c.in_ok-rows.ensures.within (c.in_ok-rows.ensures.rows ∙ ap (λ d. rows_of d paths c.as_slice-ranks.result.now) c.in_ok-document.ensures ∙ ap (rows_of row.document paths) (c.as_slice-ranks.ensures.value ∙ c.in_ok-ranks.ensures.ranks)) refl
+          c.pack_document.ensures.keeps c.in_ok-rows.ensures.within (c.in_ok-rows.ensures.rows ∙ ap (λ d. rows_of d paths c.as_slice-ranks.result.now) c.in_ok-document.ensures ∙ ap (rows_of row.document paths) (c.as_slice-ranks.ensures.value ∙ c.in_ok-ranks.ensures.ranks)) refl
           c.in_ok-push.ensures.items first number c.loop-row.invariant.comes;
     }
 

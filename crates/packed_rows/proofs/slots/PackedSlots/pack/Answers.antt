@@ -1,7 +1,7 @@
 use Rattle.std.proofs.Common.{ap, ◌∙◌}
-use Rattle.index_core.specs.Packed.{KeptView}
-use Rattle.index_core.proofs.Packing.{slots-kept}
-use Rattle.index_core.proofs.kept.Kept.pack.Goals as goal
+use Rattle.packed_rows.specs.Packed.{KeptView}
+use Rattle.packed_rows.proofs.Packing.{slots-kept}
+use Rattle.packed_rows.proofs.slots.PackedSlots.pack.Goals as goal
 
 pub invariant_of-self : goal.invariant_of-self
 invariant_of-self c = (slots-kept c.self.inside.table c.pack.new.self c.self.inside.slots.items c.pack.ensures.keeps c.self.invariant).1

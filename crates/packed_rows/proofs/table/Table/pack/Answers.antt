@@ -1,7 +1,7 @@
 use Rattle.std.proofs.Common.{◌≡◌, ◌+◌, ◌∷◌, ◌++◌, [], take, ap, sym, ◌∙◌, subst, arith}
 use Rattle.std.proofs.lemmas.List.{take_more}
-use Rattle.index_core.proofs.Packing.{Packs, packs-none, packs-more, keeps-more}
-use Rattle.index_core.proofs.table.Table.pack.Goals as goal
+use Rattle.packed_rows.proofs.Packing.{Packs, packs-none, packs-more, keeps-more}
+use Rattle.packed_rows.proofs.table.Table.pack.Goals as goal
 
 pub loop-place-init : goal.loop-place-init
 loop-place-init c = subst (λ v. Packs c.args.self.now c.args.self.now v []) (sym c.in_ok-packed.ensures.items) (packs-none c.args.self.now)

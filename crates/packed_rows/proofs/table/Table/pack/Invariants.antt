@@ -1,6 +1,6 @@
 use Rattle.std.proofs.Common.{take}
-use Rattle.index_core.proofs.Packing.{Packs}
-use Rattle.index_core.proofs.table.Table.pack.Given as goal
+use Rattle.packed_rows.proofs.Packing.{Packs}
+use Rattle.packed_rows.proofs.table.Table.pack.Given as goal
 
 -- the places so far are packed
 abbrev pub invariant-loop-place : goal.invariant-loop-place

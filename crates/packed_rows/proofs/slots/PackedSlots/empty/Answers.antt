@@ -2,8 +2,8 @@ use Rattle.std.proofs.Common.{ap, ◌∙◌, None}
 use Rattle.std.proofs.Math.ListN.{set}
 use Rattle.std.proofs.lemmas.List.{map-set}
 use Rattle.std.specs.Option.{option_map}
-use Rattle.index_core.specs.Packed.{KeptView, rows_read}
-use Rattle.index_core.proofs.kept.Kept.empty.Goals as goal
+use Rattle.packed_rows.specs.Packed.{KeptView, rows_read}
+use Rattle.packed_rows.proofs.slots.PackedSlots.empty.Goals as goal
 
 pub returns : goal.returns
 returns c =

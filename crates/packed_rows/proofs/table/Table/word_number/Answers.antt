@@ -4,9 +4,9 @@ use Rattle.std.specs.Option.{option_copied}
 use Rattle.std.specs.BTreeMap.{UpdatesBy}
 use Rattle.std.specs.Cmp.Lexicographic.{slice_cmp}
 use Rattle.std.specs.Ordering.{nat_cmp}
-use Rattle.index_core.specs.Packed.{TableView, AreNumbers}
-use Rattle.index_core.proofs.Packing.{numbers-behind, numbers-more, got-last}
-use Rattle.index_core.proofs.table.Table.word_number.Goals as goal
+use Rattle.packed_rows.specs.Packed.{TableView, AreNumbers}
+use Rattle.packed_rows.proofs.Packing.{numbers-behind, numbers-more, got-last}
+use Rattle.packed_rows.proofs.table.Table.word_number.Goals as goal
 
 pub returns-in-Some-clause-number : goal.returns-in-Some-clause-number
 returns-in-Some-clause-number c =

@@ -1,6 +1,6 @@
 use Rattle.std.proofs.Common.{◌≡◌, map, take}
-use Rattle.index_core.specs.Packed.{place_read}
-use Rattle.index_core.proofs.table.Table.unpack.Given as goal
+use Rattle.packed_rows.specs.Packed.{place_read}
+use Rattle.packed_rows.proofs.table.Table.unpack.Given as goal
 
 -- the places so far are read
 abbrev pub invariant-loop-place : goal.invariant-loop-place

@@ -7,8 +7,8 @@ use Rattle.std.specs.Cmp.Lexicographic.{slice_cmp}
 use Rattle.std.specs.Ordering.{nat_cmp}
 use Rattle.search_base.specs.declared.document.Place.{Place}
 use Rattle.search_base.specs.RowsView.{RowsView}
-use Rattle.index_core.specs.declared.table.KeptPlace.{KeptPlace}
-use Rattle.index_core.specs.declared.table.RankedPath.{RankedPath}
+use Rattle.packed_rows.specs.declared.table.KeptPlace.{KeptPlace}
+use Rattle.packed_rows.specs.declared.table.RankedPath.{RankedPath}
 
 -- the words and the searched paths, each under its place as its number
 pub record TableView : Type 0 where

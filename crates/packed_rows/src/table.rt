@@ -1,5 +1,5 @@
 ghost use Rattle.std.specs.Prelude.{◌≡◌, map, slice_get, Some, IfOk, IfSome, OnErr};
-ghost use Rattle.index_core.specs.Packed.{empty_table, IsWithin, AreWithin, Keeps, place_read, rows_read};
+ghost use Rattle.packed_rows.specs.Packed.{empty_table, IsWithin, AreWithin, Keeps, place_read, rows_read};
 
 use search_base::{DocRows, NoMemory, PathId, Place, Word};
 use std::alloc::Global;
@@ -8,14 +8,14 @@ use std::marker::Model;
 
 /// A path with its rank among the searchable ones.
 #[derive(Clone, Copy, Drop, PartialEq, Eq)]
-pub(crate) struct RankedPath {
+pub struct RankedPath {
     path: PathId,
     rank: u16,
 }
 
 /// A word of a document: the numbers that its path and the word have in a table, and its position in the path.
 #[derive(Clone, Copy, Drop)]
-pub(crate) struct KeptPlace {
+pub struct KeptPlace {
     path: u16,
     position: u16,
     word: u32,
@@ -23,13 +23,13 @@ pub(crate) struct KeptPlace {
 
 /// The words of a document, by their numbers in a table, in 8 bytes each. Seen as their list.
 #[derive(Drop)]
-pub(crate) struct PackedRows {
+pub struct PackedRows {
     places: Vec<KeptPlace>,
 }
 
 impl Model for PackedRows {
     ghost use Rattle.std.specs.Prelude.{List};
-    ghost use Rattle.index_core.specs.declared.table.KeptPlace.{KeptPlace};
+    ghost use Rattle.packed_rows.specs.declared.table.KeptPlace.{KeptPlace};
 
     ghost Value = { List KeptPlace };
 
@@ -39,14 +39,14 @@ impl Model for PackedRows {
 /// The words and the searched paths of the documents of an index, each once and with a number, which is its place. A table
 /// only grows. Seen as the two lists.
 #[derive(Drop)]
-pub(crate) struct Table {
+pub struct Table {
     words: Vec<Word>,
     numbers: BTreeMap<Word, u32>,
     paths: Vec<RankedPath>,
 }
 
 impl Model for Table {
-    ghost use Rattle.index_core.specs.Packed.{TableView, AreNumbers};
+    ghost use Rattle.packed_rows.specs.Packed.{TableView, AreNumbers};
 
     ghost Value = { TableView };
 

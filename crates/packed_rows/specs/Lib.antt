@@ -1,0 +1,2 @@
+-- Rows of documents, packed as numbers in a table.
+pub mod Packed
