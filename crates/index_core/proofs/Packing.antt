@@ -13,7 +13,7 @@ use Rattle.index_core.specs.Putting.{rows_come, rows_new, AreNewWithin}
 pub new-kept : (t u : TableView) (come : List NewRows) → Keeps t u → AreNewWithin t come → (rows_new u come ≡ rows_new t come) × AreNewWithin u come
 new-kept t u [] keeps h = (refl, tt)
 new-kept t u (one ∷ come) keeps h =
-    let both = rows-kept t u one.rows keeps h.0 in
+    let both = rows-kept t u one.rows.own one.rows.places keeps h.0 in
     let rest = new-kept t u come keeps h.1 in
     (ap₂ (λ x xs. kept_at one.id.0 (record { places = x; leaves = []; marks = [] }) ∷ xs) both.0 rest.0, (both.1, rest.1))
 

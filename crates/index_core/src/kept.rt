@@ -50,19 +50,19 @@ pub(crate) fn rows_of_new(
     let mut come = Vec::with_capacity(alloc, documents.len())?;
     for (row, id) in documents.iter().zip(ids) {
         let document = row.document.document(alloc)?;
-        let external = Some(&row.external);
-        let rows = pack_document(alloc, &document, external, paths, ranks, kept)?;
+        let own = Some(row.external.clone()?);
+        let rows = pack_document(alloc, &document, own, paths, ranks, kept)?;
         come.push(NewRows { id: *id, rows })?;
     }
     Ok(come)
 }
 
-/// The rows of a document in an index with these paths and their ranks. What is kept stays. A new word shares the text of
-/// `external`, where it is spelled so.
+/// The rows of a document in an index with these paths and their ranks. What is kept stays. A word that is spelled as `own`
+/// shares its text.
 pub(crate) fn pack_document(
     alloc: Global,
     document: &Document,
-    external: Option<&Word>,
+    own: Option<Word>,
     paths: &[Word],
     ranks: &[Option<u16>],
     kept: &mut PackedSlots,
@@ -75,7 +75,7 @@ pub(crate) fn pack_document(
     ensures rows { IfOk result (λ rows. rows_read kept.new.table rows ≡ rows_of document.now paths.now ranks.now) }
 {
     let rows = rows(alloc, document, paths, ranks)?;
-    kept.pack(alloc, rows.places.as_slice(), external)
+    kept.pack(alloc, rows.places.as_slice(), own)
 }
 
 /// Puts rows, one after the other, each into the slot of its internal id, or into a new one. Takes no memory.

@@ -1,6 +1,6 @@
-ghost use Rattle.std.specs.Prelude.{◌≡◌, ◌+◌, ◌<◌, ◌≤◌, ◌++◌, ◌∷◌, [], length, map, slice_set, slice_index_or, None, Some, IfOk, OnOk, OnErr};
+ghost use Rattle.std.specs.Prelude.{◌≡◌, ◌+◌, ◌<◌, ◌≤◌, ◌++◌, ◌∷◌, [], length, slice_set, slice_index_or, None, Some, IfOk, OnOk, OnErr};
 ghost use Rattle.std.specs.Option.{is_some, option_map};
-ghost use Rattle.packed_rows.specs.Packed.{AreWithin, Keeps, place_read, rows_read, IsSlotWithin};
+ghost use Rattle.packed_rows.specs.Packed.{AreWithin, Keeps, places_read, rows_read, IsSlotWithin};
 
 use crate::table::{PackedRows, Table};
 use search_base::{DocId, DocRows, NoMemory, Place, Word};
@@ -55,20 +55,20 @@ impl PackedSlots {
         Ok(())
     }
 
-    /// Packs the words of a document, and puts them nowhere. What is kept stays, also where memory is wanting. A new word
-    /// shares the text of `spelled`, where it is spelled so.
+    /// Packs the words of a document, and puts them nowhere. What is kept stays, also where memory is wanting. A word that
+    /// is spelled as `own`, the word that the document has for itself, shares its text and stands in no table.
     pub fn pack(
         &mut self,
         alloc: Global,
         places: &[Place],
-        spelled: Option<&Word>,
+        own: Option<Word>,
     ) -> Result<PackedRows, NoMemory>
         ensures keeps { Keeps self.old.table self.new.table }
         ensures slots { self.new.slots ≡ self.old.slots }
         ensures within { IfOk result (λ rows. AreWithin self.new.table rows) }
-        ensures places { IfOk result (λ rows. map (place_read self.new.table) rows ≡ places.now) }
+        ensures places { IfOk result (λ rows. places_read self.new.table rows ≡ places.now) }
     {
-        self.table.pack(alloc, places, spelled)
+        self.table.pack(alloc, places, own)
     }
 
     /// Puts rows into the slot of an internal id that was given, in place of what is there. Takes no memory.

@@ -1,5 +1,6 @@
-ghost use Rattle.std.specs.Prelude.{◌≡◌, map, slice_get, Some, IfOk, IfSome, OnErr};
-ghost use Rattle.packed_rows.specs.Packed.{empty_table, IsWithin, AreWithin, Keeps, place_read, rows_read};
+ghost use Rattle.std.specs.Prelude.{◌≡◌, ◌<◌, map, slice_get, Some, IfOk, IfSome};
+ghost use Rattle.std.specs.List.{AllByRecursion};
+ghost use Rattle.packed_rows.specs.Packed.{empty_table, own_number, IsWordWithin, word_read, IsWithin, AreWithin, Keeps, place_read, places_read, rows_read};
 
 use search_base::{DocRows, NoMemory, PathId, Place, Word};
 use std::alloc::Global;
@@ -13,6 +14,9 @@ pub struct RankedPath {
     rank: u16,
 }
 
+// The number that stands for a document's own word, and for no word of a table.
+const OWN: u32 = u32::MAX;
+
 /// A word of a document: the numbers that its path and the word have in a table, and its position in the path.
 #[derive(Clone, Copy, Drop)]
 pub struct KeptPlace {
@@ -21,19 +25,20 @@ pub struct KeptPlace {
     word: u32,
 }
 
-/// The words of a document, by their numbers in a table, in 8 bytes each. Seen as their list.
+/// The words of a document, by their numbers in a table, in 8 bytes each. One word that the document may have for itself,
+/// as its id is, stands here and not in the table. Seen as that word and the list.
 #[derive(Drop)]
 pub struct PackedRows {
+    own: Option<Word>,
     places: Vec<KeptPlace>,
 }
 
 impl Model for PackedRows {
-    ghost use Rattle.std.specs.Prelude.{List};
-    ghost use Rattle.packed_rows.specs.declared.table.KeptPlace.{KeptPlace};
+    ghost use Rattle.packed_rows.specs.Packed.{PackedView};
 
-    ghost Value = { List KeptPlace };
+    ghost Value = { PackedView };
 
-    ghost view = { λ rows. rows.places.items };
+    ghost view = { λ rows. record { own = rows.own; places = rows.places.items } };
 }
 
 /// The words and the searched paths of the documents of an index, each once and with a number, which is its place. A table
@@ -67,27 +72,41 @@ impl Table {
         }
     }
 
-    /// The places as numbers. Words and paths that are new get numbers, which they keep also if memory is wanting. A new
-    /// word shares the text of `spelled`, where it is spelled so. More words than 2^32 - 1, or more paths than 2^16,
-    /// count as want of memory.
+    /// The places as numbers. Words and paths that are new get numbers, which they keep also if memory is wanting. A word that
+    /// is spelled as `own` is kept as that, and takes no number. More words than 2^32 - 1, or more paths than 2^16, count as
+    /// want of memory.
     pub(crate) fn pack(
         &mut self,
         alloc: Global,
         places: &[Place],
-        spelled: Option<&Word>,
+        own: Option<Word>,
     ) -> Result<PackedRows, NoMemory>
         ensures keeps { Keeps self.old self.new }
         ensures within { IfOk result (λ rows. AreWithin self.new rows) }
-        ensures places { IfOk result (λ rows. map (place_read self.new) rows ≡ places.now) }
+        ensures places { IfOk result (λ rows. places_read self.new rows ≡ places.now) }
+    {
+        let places = self.pack_places(alloc, places, &own)?;
+        Ok(PackedRows { own, places })
+    }
+
+    fn pack_places(
+        &mut self,
+        alloc: Global,
+        places: &[Place],
+        own: &Option<Word>,
+    ) -> Result<Vec<KeptPlace>, NoMemory>
+        ensures keeps { Keeps self.old self.new }
+        ensures within { IfOk result (λ packed. AllByRecursion (IsWithin self.new own.now) packed.items) }
+        ensures places { IfOk result (λ packed. map (place_read self.new own.now) packed.items ≡ places.now) }
     {
         let mut packed = Vec::with_capacity(alloc, places.len())?;
         let mut path = 0;
         for place in places {
-            let one = self.pack_place(place, path, spelled)?;
+            let one = self.pack_place(place, path, own)?;
             path = one.path;
             packed.push(one)?;
         }
-        Ok(PackedRows { places: packed })
+        Ok(packed)
     }
 
     // One place, of which the path is looked for from a number on.
@@ -95,23 +114,36 @@ impl Table {
         &mut self,
         place: &Place,
         first: u16,
-        spelled: Option<&Word>,
+        own: &Option<Word>,
     ) -> Result<KeptPlace, NoMemory>
         ensures keeps { Keeps self.old self.new }
-        ensures within { IfOk result (λ one. IsWithin self.new one) }
-        ensures place { IfOk result (λ one. place_read self.new one ≡ place.now) }
+        ensures within { IfOk result (λ one. IsWithin self.new own.now one) }
+        ensures place { IfOk result (λ one. place_read self.new own.now one ≡ place.now) }
     {
         let path = RankedPath {
             path: place.path,
             rank: place.rank,
         };
         let path = self.path_number(path, first)?;
-        let word = self.word_number(&place.word, spelled)?;
+        let word = self.number_of(&place.word, own)?;
         Ok(KeptPlace {
             path,
             position: place.position,
             word,
         })
+    }
+
+    // The number of a word, which is `OWN` for the document's own.
+    fn number_of(&mut self, word: &Word, own: &Option<Word>) -> Result<u32, NoMemory>
+        ensures keeps { Keeps self.old self.new }
+        ensures paths { self.new.paths ≡ self.old.paths }
+        ensures within { IfOk result (λ number. IsWordWithin self.new own.now number) }
+        ensures word { IfOk result (λ number. word_read self.new own.now number ≡ word.now) }
+    {
+        match own {
+            Some(own) if own == word => Ok(OWN),
+            _ => self.word_number(word),
+        }
     }
 
     fn path_number(&mut self, path: RankedPath, first: u16) -> Result<u16, NoMemory>
@@ -126,21 +158,23 @@ impl Table {
         Ok(number)
     }
 
-    fn word_number(&mut self, word: &Word, spelled: Option<&Word>) -> Result<u32, NoMemory>
+    fn word_number(&mut self, word: &Word) -> Result<u32, NoMemory>
         ensures keeps { Keeps self.old self.new }
         ensures paths { self.new.paths ≡ self.old.paths }
         ensures number { IfOk result (λ number. slice_get self.new.words number ≡ Some word.now) }
+        ensures low { IfOk result (λ number. number < own_number) }
     {
         if let Some(number) = self.numbers.get(word) {
             return Ok(*number);
         }
         let number = self.words.len();
-        if number >= u32::MAX as usize {
+        if number >= OWN as usize {
             return Err(NoMemory);
         }
-        let word = word_spelled(word, spelled)?;
-        self.words.push(word.clone()?)?;
-        self.numbers.insert(word, number as u32)?;
+        let kept = word.clone()?;
+        let named = word.clone()?;
+        self.words.push(kept)?;
+        self.numbers.insert(named, number as u32)?;
         Ok(number as u32)
     }
 
@@ -149,9 +183,10 @@ impl Table {
         requires { AreWithin self.now rows.now }
         ensures { IfOk result (λ unpacked. unpacked ≡ rows_read self.now rows.now) }
     {
+        let own = &rows.own;
         let mut places = Vec::with_capacity(alloc, rows.places.len())?;
         for place in &rows.places {
-            places.push(self.place(*place)?)?;
+            places.push(self.place(*place, own)?)?;
         }
         Ok(DocRows {
             places,
@@ -160,17 +195,30 @@ impl Table {
         })
     }
 
-    fn place(&self, one: KeptPlace) -> Result<Place, NoMemory>
-        requires { IsWithin self.now one }
-        ensures { IfOk result (λ place. place ≡ place_read self.now one) }
+    fn place(&self, one: KeptPlace, own: &Option<Word>) -> Result<Place, NoMemory>
+        requires { IsWithin self.now own.now one }
+        ensures { IfOk result (λ place. place ≡ place_read self.now own.now one) }
     {
         let RankedPath { path, rank } = self.paths[one.path as usize];
         Ok(Place {
             path,
             rank,
             position: one.position,
-            word: self.words[one.word as usize].clone()?,
+            word: self.word(one.word, own)?,
         })
+    }
+
+    fn word(&self, number: u32, own: &Option<Word>) -> Result<Word, NoMemory>
+        requires { IsWordWithin self.now own.now number }
+        ensures { IfOk result (λ word. word ≡ word_read self.now own.now number) }
+    {
+        if number == OWN {
+            return match own {
+                Some(own) => Ok(own.clone()?),
+                None => unreachable!(),
+            };
+        }
+        Ok(self.words[number as usize].clone()?)
     }
 }
 
@@ -199,14 +247,4 @@ fn narrow(number: usize) -> Result<u16, NoMemory>
         return Err(NoMemory);
     }
     Ok(number as u16)
-}
-
-// The word, with the text of the other one where both are spelled the same.
-fn word_spelled(word: &Word, other: Option<&Word>) -> Result<Word, NoMemory>
-    ensures { IfOk result (λ spelled. spelled ≡ word.now) }
-{
-    match other {
-        Some(other) if other == word => Ok(other.clone()?),
-        _ => Ok(word.clone()?),
-    }
 }

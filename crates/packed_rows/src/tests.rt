@@ -51,7 +51,7 @@ fn packed_rows_are_read_back(rt: HostRuntime) -> Result<(), Fail> {
     let alloc = rt.alloc();
     let mut slots = PackedSlots::new(alloc);
     let id = Word::new(alloc, "42")?;
-    let first = slots.pack(alloc, places(alloc, FIRST)?.as_slice(), Some(&id))?;
+    let first = slots.pack(alloc, places(alloc, FIRST)?.as_slice(), Some(id))?;
     slots.push(Some(first))?;
     slots.push(None)?;
     let second = slots.pack(alloc, places(alloc, SECOND)?.as_slice(), None)?;
