@@ -66,11 +66,16 @@ def no_words():
     return b"PATCH /indexes/shop/settings HTTP/1.1\r\ncontent-length: %d\r\n\r\n" % len(body) + body
 
 
+def send(pipe, data):
+    pipe.write(data)
+    pipe.flush()
+
+
 def run(binary, requests):
     """(seconds, peak bytes) until the last of the replies has come."""
     server = subprocess.Popen([binary, "pipe"], stdin=subprocess.PIPE, stdout=subprocess.PIPE)
     begun = time.monotonic()
-    writer = threading.Thread(target=server.stdin.write, args=(b"".join(requests),))
+    writer = threading.Thread(target=send, args=(server.stdin, b"".join(requests)))
     writer.start()
     replies = b""
     while replies.count(b"HTTP/1.1 ") < len(requests) or not replies.endswith(b"}"):
