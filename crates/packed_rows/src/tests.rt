@@ -75,8 +75,8 @@ fn packed_rows_are_read_back(rt: HostRuntime) -> Result<(), Fail> {
 fn a_slot_for_which_room_was_made(rt: HostRuntime) -> Result<(), Fail> {
     let alloc = rt.alloc();
     let mut slots = PackedSlots::new(alloc);
-    slots.reserve(1)?;
     let rows = slots.pack(alloc, places(alloc, FIRST)?.as_slice(), None)?;
+    slots.reserve(1)?;
     slots.append(rows);
     assert_eq!(rt;
         told(alloc, &slots, 0)?.as_str(),
