@@ -24,12 +24,12 @@ abbrev pub store_code : Coded Store
 store_code = code_by (List (List ℕ) × (ℕ × List Row)) (coded× texts_code (coded× coded_ℕ (coded_list row_code))) (λ s. (s.paths, (s.next_id, s.rows))) (λ p. record { paths = p.0; next_id = p.1.0; rows = p.1.1 }) (λ _. refl)
 
 abbrev pub view_code : Coded StoreView
-view_code = code_by (Store × (ℕ × (Names × (ℕ × Names)))) (coded× store_code (coded× coded_ℕ (coded× names_code (coded× coded_ℕ names_code))))
-    (λ v. (v.content, (v.row_room, (v.ids, (v.path_room, v.path_places)))))
-    (λ p. record { content = p.0; row_room = p.1.0; ids = p.1.1.0; path_room = p.1.1.1.0; path_places = p.1.1.1.1 }) (λ _. refl)
+view_code = code_by (Store × (List StoreRow × (Names × (ℕ × Names)))) (coded× store_code (coded× (coded_list store_row_code) (coded× names_code (coded× coded_ℕ names_code))))
+    (λ v. (v.content, (v.staged, (v.ids, (v.path_room, v.path_places)))))
+    (λ p. record { content = p.0; staged = p.1.0; ids = p.1.1.0; path_room = p.1.1.1.0; path_places = p.1.1.1.1 }) (λ _. refl)
 
 abbrev pub plan_code : Coded PlanView
-plan_code = code_by (List StoreRow × (List ℕ × List (List ℕ))) (coded× (coded_list store_row_code) (coded× (coded_list coded_ℕ) texts_code)) (λ p. (p.rows, (p.ids, p.added))) (λ p. record { rows = p.0; ids = p.1.0; added = p.1.1 }) (λ _. refl)
+plan_code = code_by (List ℕ × List (List ℕ)) (coded× (coded_list coded_ℕ) texts_code) (λ p. (p.ids, p.added)) (λ p. record { ids = p.0; added = p.1 }) (λ _. refl)
 
 abbrev pub admission_code : Coded AdmissionView
 admission_code = code_by (List ℕ × List (List ℕ)) (coded× (coded_list coded_ℕ) texts_code) (λ a. (a.ids, a.added)) (λ p. record { ids = p.0; added = p.1 }) (λ _. refl)

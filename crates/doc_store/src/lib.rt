@@ -2,11 +2,11 @@
 //!
 //! Promises that a document keeps its internal id while it is there, that the id is never given again, and that each
 //! path of a document is in the registry. Documents are admitted, which tries the limits; then prepared, which takes all
-//! memory and changes no answer; and then committed, which takes none and cannot be refused. A removal takes steps in
-//! proportion to the logarithm of the store, and a list of ids passes over the documents before it by their counts.
-//! Contracts see a `DocStore` as its content (paths, next internal id, rows) and the room that it has for more, and a
-//! `StorePlan` as the documents that come with their ids and the paths that are new.
-//! Stands on `doc_values`, which has documents and their walk, and on `search_base`.
+//! memory, stages them and changes no answer; and then committed, which takes none and cannot be refused. A removal takes
+//! steps in proportion to the logarithm of the store, and a list of ids passes over the documents before it by their counts.
+//! Contracts see a `DocStore` as its content (paths, next internal id, rows), the documents that are staged and the room that
+//! it has for more, and a `StorePlan` as the ids of the documents that are staged and the paths that are new.
+//! Stands on `doc_values`, which has documents and their walk, on `staged_slots` and on `search_base`.
 #![tactic(auto)]
 
 mod changes;

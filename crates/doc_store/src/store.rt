@@ -1,12 +1,13 @@
-ghost use Rattle.std.specs.Prelude.{◌≡◌, ◌≢◌, ◌↔◌, ◌+◌, [], Some, map, length, take, drop, IsTrue, IfOk, IfErr};
+ghost use Rattle.std.specs.Prelude.{◌≡◌, ◌≢◌, ◌↔◌, ◌+◌, ◌≤◌, [], Some, map, length, take, drop, IsTrue, IfOk, OnOk, OnErr, IfErr};
 ghost use Rattle.std.specs.Option.{option_map, is_some};
 ghost use Rattle.doc_store.specs.declared.rows.StoreFault.TheVariants.{NoMemory as Memory};
-ghost use Rattle.doc_store.specs.Store.{all_stored, id_of, spent, row_at, removed};
+ghost use Rattle.doc_store.specs.Names.{AreKept};
+ghost use Rattle.doc_store.specs.Store.{all_stored, externals, id_of, spent, row_at, removed};
 ghost use Rattle.doc_store.specs.Sound.{IsSound};
 ghost use Rattle.doc_store.specs.Restored.{restored};
 ghost use Rattle.doc_store.specs.StoreView.{IsAdmitted, IsPlanFor};
 
-use crate::changes::{push_paths, put_rows, reserve, take_row};
+use crate::changes::{push_paths, put_rows, stage_rows, take_row};
 use crate::counts::{Counts, count_new, counts_of, no_counts, uncount};
 use crate::given::give_ids;
 use crate::listing::listed_ids;
@@ -14,10 +15,11 @@ use crate::places::Places;
 use crate::registry::Registry;
 use crate::restore::put_back;
 use crate::rows::{StoreFault, StoreRow, StoredRow};
-use crate::slots::{Slots, document_at};
+use crate::slots::{Slots, document_at, external_at};
 use crate::walked::new_paths;
 use doc_values::DocumentText;
 use search_base::{DocId, NoMemory, Steps, Word};
+use staged_slots::StagedSlots;
 use std::alloc::Global;
 use std::marker::Model;
 
@@ -32,8 +34,6 @@ pub struct DocStore {
 }
 
 impl Model for DocStore {
-    ghost use Rattle.std.specs.Prelude.{◌-◌};
-    ghost use Rattle.std.specs.Vec.{vec_len, vec_capacity};
     ghost use Rattle.doc_store.specs.StoreView.{StoreView};
     ghost use Rattle.doc_store.specs.Codes.{view_code};
     ghost use Rattle.doc_store.specs.Slots.{content_of, IsStore};
@@ -42,9 +42,9 @@ impl Model for DocStore {
 
     ghost coded = { view_code };
 
-    ghost view = { λ s. record { content = content_of s.paths.paths s.slots.items; row_room = vec_capacity s.slots - vec_len s.slots; ids = s.ids; path_room = s.paths.room; path_places = s.paths.places } };
+    ghost view = { λ s. record { content = content_of s.paths.paths s.slots.slots; staged = s.slots.staged; ids = s.ids; path_room = s.paths.room; path_places = s.paths.places } };
 
-    ghost invariant = { λ s. IsStore s.ids s.slots.items s.paths.paths s.count s.counts.items };
+    ghost invariant = { λ s. IsStore s.ids s.slots.slots s.paths.paths s.count s.counts.items };
 }
 
 /// What documents that come take of a store: the internal id of each, and the paths that the registry gains.
@@ -66,10 +66,10 @@ impl Model for Admission {
     ghost view = { λ a. record { ids = map (λ id. id.0) a.ids.items; added = a.added.items } };
 }
 
-/// Documents to store, for which all memory is there. A plan is for the store as it was when the plan was made.
+/// What documents that are staged take of a store, for which all memory is there. A plan is for the store as it was when the
+/// plan was made.
 #[derive(Drop)]
 pub struct StorePlan {
-    rows: Vec<StoreRow>,
     ids: Vec<DocId>,
     added: Vec<Word>,
 }
@@ -83,7 +83,7 @@ impl Model for StorePlan {
 
     ghost coded = { plan_code };
 
-    ghost view = { λ p. record { rows = p.rows.items; ids = map (λ id. id.0) p.ids.items; added = p.added.items } };
+    ghost view = { λ p. record { ids = map (λ id. id.0) p.ids.items; added = p.added.items } };
 }
 
 impl DocStore {
@@ -93,7 +93,7 @@ impl DocStore {
     {
         Ok(DocStore {
             ids: Places::new(alloc),
-            slots: Vec::new(alloc),
+            slots: StagedSlots::new(alloc),
             paths: Registry::new(alloc),
             count: 0,
             counts: no_counts(alloc)?,
@@ -117,7 +117,7 @@ impl DocStore {
         put_back(&mut ids, &mut slots, next_id, documents)?;
         Ok(DocStore {
             ids,
-            slots,
+            slots: StagedSlots::from_slots(slots),
             paths: Registry::from_paths(alloc, paths)?,
             count,
             counts,
@@ -171,6 +171,13 @@ impl DocStore {
         document_at(self.slots.as_slice(), id)
     }
 
+    /// The external id of the document with an internal id. It takes no memory.
+    pub fn external(&self, id: DocId) -> Option<&Word>
+        ensures { option_map (λ external. external.now) result ≡ option_map (λ row. row.external) (row_at id.0 self.now.content.rows) }
+    {
+        external_at(self.slots.as_slice(), id)
+    }
+
     /// Whether there is a document with an internal id. It takes no memory.
     pub fn holds(&self, id: DocId) -> bool
         ensures { result ≡ is_some (row_at id.0 self.now.content.rows) }
@@ -204,8 +211,8 @@ impl DocStore {
         Ok(Admission { ids, added })
     }
 
-    /// Takes all memory that it takes to store documents that were admitted to the store as it is, and changes nothing of
-    /// what the store holds. A refusal changes nothing either.
+    /// Takes all memory that it takes to store documents that were admitted to the store as it is, and stages them, in place of
+    /// what was staged. What the store holds stays. Where memory is wanting, nothing is staged.
     pub fn prepare(
         &mut self,
         rows: Vec<StoreRow>,
@@ -213,32 +220,62 @@ impl DocStore {
     ) -> Result<StorePlan, NoMemory>
         requires { IsAdmitted self.old.content rows.items admission }
         ensures content { self.new.content ≡ self.old.content }
-        ensures rows { IfOk result (λ plan. plan.rows ≡ rows.items) }
+        ensures staged { OnOk result (self.new.staged ≡ rows.items) }
         ensures plan { IfOk result (λ plan. IsPlanFor self.new plan) }
+        ensures starved { OnErr result (self.new.staged ≡ []) }
     {
         let Admission { ids, added } = admission;
-        let come = rows.as_slice();
-        reserve(&mut self.ids, &mut self.slots, come)?;
-        self.paths.reserve(added.as_slice())?;
-        Ok(StorePlan { rows, ids, added })
+        match self.stage(rows, added.as_slice()) {
+            Ok(()) => Ok(StorePlan { ids, added }),
+            Err(refused) => {
+                self.slots.unstage();
+                Err(refused)
+            }
+        }
     }
 
-    /// Stores the documents of a plan that was made for the store as it is. It takes no memory.
-    pub fn commit(&mut self, plan: StorePlan)
-        requires { IsPlanFor self.old plan }
-        ensures { self.new.content ≡ all_stored plan.rows self.old.content }
+    // Stages documents, and takes the memory for paths.
+    fn stage(&mut self, rows: Vec<StoreRow>, added: &[Word]) -> Result<(), NoMemory>
+        ensures content { self.new.content ≡ self.old.content }
+        ensures staged { OnOk result (self.new.staged ≡ rows.items) }
+        ensures ids { OnOk result (AreKept (externals rows.items) self.new.ids) }
+        ensures paths { OnOk result (length added.now ≤ self.new.path_room) }
+        ensures path_places { OnOk result (AreKept added.now self.new.path_places) }
     {
-        let StorePlan {
-            rows,
-            ids: _,
-            added,
-        } = plan;
+        stage_rows(&mut self.ids, &mut self.slots, rows)?;
+        self.paths.reserve(added)
+    }
+
+    /// The documents that are staged, in order; each is there. It takes no memory.
+    pub fn staged(&self) -> &[Option<StoreRow>]
+        ensures { result.now ≡ map Some self.now.staged }
+    {
+        self.slots.staged()
+    }
+
+    /// Lets go the documents that are staged. It takes no memory.
+    pub fn unstage(&mut self)
+        ensures content { self.new.content ≡ self.old.content }
+        ensures staged { self.new.staged ≡ [] }
+    {
+        self.slots.unstage();
+    }
+
+    /// Stores the documents that are staged, by the plan that was made for them and the store as it is, and gives the internal
+    /// id of each, in order. It takes no memory.
+    pub fn commit(&mut self, plan: StorePlan) -> Vec<DocId>
+        requires { IsPlanFor self.old plan }
+        ensures content { self.new.content ≡ all_stored self.old.staged self.old.content }
+        ensures ids { map (λ id. id.0) result.items ≡ plan.ids }
+    {
+        let StorePlan { ids, added } = plan;
         let first = self.slots.len();
-        put_rows(&mut self.ids, &mut self.slots, rows);
+        put_rows(&mut self.ids, &mut self.slots);
         let end = self.slots.len();
         self.count += (end - first) as u64;
         count_new(&mut self.counts, first, end);
         push_paths(&mut self.paths, added);
+        ids
     }
 
     /// Takes a document out, and tells whether it was there. Its internal id is never given again. It takes no memory.
@@ -256,22 +293,6 @@ impl DocStore {
 }
 
 impl Admission {
-    /// The internal id of each document, in order.
-    pub fn ids(&self) -> &[DocId]
-        ensures { map (λ id. id.0) result.now ≡ self.now.ids }
-    {
-        self.ids.as_slice()
-    }
-
-    /// The paths that the registry gains, in order.
-    pub fn added(&self) -> &[Word]
-        ensures { result.now ≡ self.now.added }
-    {
-        self.added.as_slice()
-    }
-}
-
-impl StorePlan {
     /// The internal id of each document, in order.
     pub fn ids(&self) -> &[DocId]
         ensures { map (λ id. id.0) result.now ≡ self.now.ids }

@@ -31,9 +31,10 @@ fn store_all(
     let ids = Vec::from_slice(alloc, admission.ids()).expect(rt, "memory");
     let added = admission.added().len();
     let plan = store.prepare(come, admission).expect(rt, "a plan");
-    assert_eq!(rt; (plan.ids().len(), plan.added().len()), (ids.len(), added));
-    store.commit(plan);
-    (ids, added)
+    assert_eq!(rt; store.staged().len(), ids.len());
+    let stored = store.commit(plan);
+    assert_eq!(rt; stored.len(), ids.len());
+    (stored, added)
 }
 
 fn id_of(rt: &impl Abort, alloc: Global, store: &DocStore, external: &str) -> Option<DocId> {

@@ -1,12 +1,11 @@
 -- The rows that an index keeps, as a change of documents puts them.
-use Rattle.std.specs.Prelude.{◌≡◌, ◌<◌, ◌⊎◌, ℕ, ◌==◌, List, [], ◌∷◌, map, if◌then◌else◌}
-use Rattle.std.specs.List.{AllByRecursion}
+use Rattle.std.specs.Prelude.{◌≡◌, ◌<◌, ◌⊎◌, ℕ, ◌==◌, List, [], ◌∷◌, Option, None, Some, if◌then◌else◌}
+use Rattle.search_base.specs.RowsView.{RowsView}
+use Rattle.doc_rows.specs.Rows.{rows_of}
 use Rattle.index_settings.specs.View.{SettingsView}
 use Rattle.doc_store.specs.declared.rows.StoreRow.{StoreRow}
 use Rattle.index_core.specs.Kept.{KeptRows, kept_at}
 use Rattle.index_core.specs.Matching.{rows_with}
-use Rattle.index_core.specs.declared.kept.NewRows.{NewRows}
-use Rattle.packed_rows.specs.Packed.{TableView, AreWithin, rows_read}
 
 -- the rows in place of those of their internal id, or else behind the others
 abbrev pub put_kept : KeptRows → List KeptRows → List KeptRows
@@ -32,9 +31,14 @@ rows_come settings paths [] ids = []
 rows_come settings paths (r ∷ rows) [] = []
 rows_come settings paths (r ∷ rows) (id ∷ ids) = kept_at id (rows_with settings paths r.document) ∷ rows_come settings paths rows ids
 
--- the rows that come, read through the table
-abbrev pub rows_new : TableView → List NewRows → List KeptRows
-rows_new t come = map (λ one. kept_at one.id.0 (rows_read t one.rows)) come
+-- rows, each with an internal id
+abbrev pub rows_given : List ℕ → List RowsView → List KeptRows
+rows_given [] rows = []
+rows_given (id ∷ ids) [] = []
+rows_given (id ∷ ids) (one ∷ rows) = kept_at id one ∷ rows_given ids rows
 
-abbrev pub AreNewWithin : TableView → List NewRows → Type 0
-AreNewWithin t come = AllByRecursion (λ one. AreWithin t one.rows) come
+-- the rows of documents that are staged, in an index with these paths and their ranks
+abbrev pub rows_shown : List (Option ℕ) → List (List ℕ) → List (Option StoreRow) → List RowsView
+rows_shown ranks paths [] = []
+rows_shown ranks paths (None ∷ slots) = rows_shown ranks paths slots
+rows_shown ranks paths (Some r ∷ slots) = rows_of r.document paths ranks ∷ rows_shown ranks paths slots

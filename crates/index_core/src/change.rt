@@ -10,7 +10,7 @@ ghost use Rattle.index_core.specs.Removing.{removed_under};
 ghost use Rattle.index_core.specs.declared.fault.CoreFault.TheVariants.{NoMemory as Memory};
 
 use crate::fault::CoreFault;
-use crate::kept::{put_all, rows_of_new};
+use crate::kept::{put_all, stage_rows};
 use doc_store::{DocStore, StoreRow};
 use index_settings::Settings;
 use packed_rows::PackedSlots;
@@ -35,19 +35,19 @@ pub(crate) fn store_documents(
 {
     let admission = store.admit(alloc, documents.as_slice())?;
     let paths = joined(alloc, store.paths(), admission.added())?;
-    let come = rows_of_new(
-        alloc,
-        settings,
-        paths.as_slice(),
-        documents.as_slice(),
-        admission.ids(),
-        kept,
-    )?;
-    kept.reserve(come.len())?;
     let plan = store.prepare(documents, admission)?;
-    store.commit(plan);
-    put_all(kept, come);
-    Ok(())
+    match stage_rows(alloc, settings, paths.as_slice(), store.staged(), kept) {
+        Ok(()) => {
+            let ids = store.commit(plan);
+            put_all(kept, ids.as_slice());
+            Ok(())
+        }
+        Err(_refused) => {
+            store.unstage();
+            kept.unstage();
+            Err(CoreFault::NoMemory)
+        }
+    }
 }
 
 // The registry with the paths that it gains.

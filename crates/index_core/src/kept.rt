@@ -1,25 +1,19 @@
-ghost use Rattle.std.specs.Prelude.{◌≡◌, ◌+◌, ◌<◌, ◌≤◌, suc, max, length, map, take, drop, IfOk};
+ghost use Rattle.std.specs.Prelude.{◌≡◌, ◌+◌, ◌<◌, ◌≤◌, ◌++◌, ◌∷◌, [], List, suc, max, length, map, take, drop, OnOk, OnErr};
+ghost use Rattle.search_base.specs.RowsView.{RowsView};
 ghost use Rattle.doc_rows.specs.Rows.{rows_of};
 ghost use Rattle.index_core.specs.Kept.{kept_at};
-ghost use Rattle.packed_rows.specs.Packed.{AreWithin, Keeps, rows_read};
-ghost use Rattle.index_core.specs.Putting.{put_kept as kept_with, put_all as kept_with_all, HasPlace, HavePlaces, rows_come, rows_new, AreNewWithin};
+ghost use Rattle.index_core.specs.Matching.{ranks_from};
+ghost use Rattle.index_core.specs.Putting.{put_kept as kept_with, put_all as kept_with_all, HasPlace, HavePlaces, rows_shown, rows_given};
 ghost use Rattle.index_core.specs.Slots.{kept_from, HaveSlots, slots_after};
 
 use crate::settle::ranks_of;
 use doc_rows::rows;
 use doc_store::StoreRow;
-use doc_values::Document;
+use doc_values::DocumentText;
 use index_settings::Settings;
-use packed_rows::{PackedRows, PackedSlots};
+use packed_rows::PackedSlots;
 use search_base::{DocId, NoMemory, Word};
 use std::alloc::Global;
-
-/// What a search sees of a document that comes, packed, with its internal id.
-#[derive(Drop)]
-pub(crate) struct NewRows {
-    pub(crate) id: DocId,
-    pub(crate) rows: PackedRows,
-}
 
 /// The list without the first `offset` of its elements, and at most `limit` of the rest.
 pub(crate) fn part<T>(list: &[T], offset: u64, limit: u64) -> &[T]
@@ -31,82 +25,91 @@ pub(crate) fn part<T>(list: &[T], offset: u64, limit: u64) -> &[T]
     &list[start as usize..end as usize]
 }
 
-/// The rows of documents that come with these internal ids, in an index with these settings and paths. What is kept stays.
-pub(crate) fn rows_of_new(
+/// Stages the rows of documents that come, in an index with these settings and paths, in place of what was staged. What is
+/// kept stays. A refusal may stage a part of them.
+pub(crate) fn stage_rows(
     alloc: Global,
     settings: &Settings,
     paths: &[Word],
-    documents: &[StoreRow],
-    ids: &[DocId],
+    documents: &[Option<StoreRow>],
     kept: &mut PackedSlots,
-) -> Result<Vec<NewRows>, NoMemory>
+) -> Result<(), NoMemory>
     requires few { length paths.now ≤ 1000 }
     ensures slots { kept.new.slots ≡ kept.old.slots }
-    ensures within { IfOk result (λ come. AreNewWithin kept.new.table come.items) }
-    ensures rows { IfOk result (λ come. rows_new kept.new.table come.items ≡ rows_come settings.now paths.now documents.now (map (λ id. id.0) ids.now)) }
+    ensures staged { OnOk result (kept.new.staged ≡ rows_shown (ranks_from settings.now 0 paths.now) paths.now documents.now) }
 {
     let ranks = ranks_of(alloc, settings, paths)?;
-    let ranks = ranks.as_slice();
-    let mut come = Vec::with_capacity(alloc, documents.len())?;
-    for (row, id) in documents.iter().zip(ids) {
-        let document = row.document.document(alloc)?;
-        let own = Some(row.external.clone()?);
-        let rows = pack_document(alloc, &document, own, paths, ranks, kept)?;
-        come.push(NewRows { id: *id, rows })?;
+    kept.unstage();
+    kept.reserve(documents.len())?;
+    for row in documents {
+        stage_row(alloc, paths, ranks.as_slice(), row, kept)?;
     }
-    Ok(come)
+    Ok(())
 }
 
-/// The rows of a document in an index with these paths and their ranks. What is kept stays. A word that is spelled as `own`
-/// shares its text.
-pub(crate) fn pack_document(
+// Stages the rows of one document, where there is one.
+fn stage_row(
     alloc: Global,
-    document: &Document,
-    own: Option<Word>,
+    paths: &[Word],
+    ranks: &[Option<u16>],
+    row: &Option<StoreRow>,
+    kept: &mut PackedSlots,
+) -> Result<(), NoMemory>
+    requires few { length paths.now ≤ 1000 }
+    requires ranks { length ranks.now ≡ length paths.now }
+    ensures slots { kept.new.slots ≡ kept.old.slots }
+    ensures staged { OnOk result (kept.new.staged ≡ kept.old.staged ++ rows_shown ranks.now paths.now (row.now ∷ [])) }
+{
+    match row {
+        Some(row) => stage_document(alloc, &row.document, &row.external, paths, ranks, kept),
+        None => Ok(()),
+    }
+}
+
+/// Stages the rows of a document in an index with these paths and their ranks. The document is read back from its text and let
+/// go again. What is kept stays, and a refusal changes nothing.
+pub(crate) fn stage_document(
+    alloc: Global,
+    text: &DocumentText,
+    external: &Word,
     paths: &[Word],
     ranks: &[Option<u16>],
     kept: &mut PackedSlots,
-) -> Result<PackedRows, NoMemory>
+) -> Result<(), NoMemory>
     requires few { length paths.now ≤ 1000 }
     requires ranks { length ranks.now ≡ length paths.now }
-    ensures keeps { Keeps kept.old.table kept.new.table }
     ensures slots { kept.new.slots ≡ kept.old.slots }
-    ensures within { IfOk result (λ rows. AreWithin kept.new.table rows) }
-    ensures rows { IfOk result (λ rows. rows_read kept.new.table rows ≡ rows_of document.now paths.now ranks.now) }
+    ensures staged { OnOk result (kept.new.staged ≡ kept.old.staged ++ rows_of text.now paths.now ranks.now ∷ []) }
+    ensures stays { OnErr result (kept.new.staged ≡ kept.old.staged) }
 {
-    let rows = rows(alloc, document, paths, ranks)?;
-    kept.pack(alloc, rows.places.as_slice(), own)
+    let document = text.document(alloc)?;
+    let rows = rows(alloc, &document, paths, ranks)?;
+    kept.stage(alloc, rows.places.as_slice(), external)
 }
 
-/// Puts rows, one after the other, each into the slot of its internal id, or into a new one. Takes no memory.
-pub(crate) fn put_all(kept: &mut PackedSlots, come: Vec<NewRows>)
-    requires places { HavePlaces (rows_new kept.old.table come.items) (kept_from 0 kept.old.slots) }
-    requires slots { HaveSlots (rows_new kept.old.table come.items) (length kept.old.slots) }
-    requires within { AreNewWithin kept.old.table come.items }
-    requires room { length come.items ≤ kept.old.room }
-    ensures rows { kept_from 0 kept.new.slots ≡ kept_with_all (rows_new kept.old.table come.items) (kept_from 0 kept.old.slots) }
-    ensures slots { length kept.new.slots ≡ slots_after (rows_new kept.old.table come.items) (length kept.old.slots) }
+/// Puts the rows that are staged, one after the other, each into the slot of its internal id, or into a new one. Takes no
+/// memory.
+pub(crate) fn put_all(kept: &mut PackedSlots, ids: &[DocId])
+    requires many { length ids.now ≡ length kept.old.staged }
+    requires places { HavePlaces (rows_given (map (λ id. id.0) ids.now) kept.old.staged) (kept_from 0 kept.old.slots) }
+    requires slots { HaveSlots (rows_given (map (λ id. id.0) ids.now) kept.old.staged) (length kept.old.slots) }
+    ensures rows { kept_from 0 kept.new.slots ≡ kept_with_all (rows_given (map (λ id. id.0) ids.now) kept.old.staged) (kept_from 0 kept.old.slots) }
+    ensures slots { length kept.new.slots ≡ slots_after (rows_given (map (λ id. id.0) ids.now) kept.old.staged) (length kept.old.slots) }
 {
-    for one in come {
-        put(kept, one);
+    for id in ids {
+        put(kept, *id);
     }
+    kept.unstage();
 }
 
-/// Puts rows into the slot of their internal id, or into a new one. Takes no memory.
-fn put(kept: &mut PackedSlots, one: NewRows)
-    requires place { HasPlace one.id.0 (kept_from 0 kept.old.slots) }
-    requires slot { one.id.0 ≤ length kept.old.slots }
-    requires within { AreWithin kept.old.table one.rows }
-    requires room { 0 < kept.old.room }
-    ensures table { kept.new.table ≡ kept.old.table }
-    ensures rows { kept_from 0 kept.new.slots ≡ kept_with (kept_at one.id.0 (rows_read kept.old.table one.rows)) (kept_from 0 kept.old.slots) }
-    ensures slots { length kept.new.slots ≡ max (length kept.old.slots) (suc one.id.0) }
-    ensures room { kept.old.room ≤ kept.new.room + 1 }
+/// Puts the first rows that are staged into the slot of their internal id, or into a new one. Takes no memory.
+fn put(kept: &mut PackedSlots, id: DocId)
+    requires staged { 0 < length kept.old.staged }
+    requires place { HasPlace id.0 (kept_from 0 kept.old.slots) }
+    requires slot { id.0 ≤ length kept.old.slots }
+    ensures rows { (first : RowsView) (rest : List RowsView) → kept.old.staged ≡ first ∷ rest
+        → (kept.new.staged ≡ rest) × (kept_from 0 kept.new.slots ≡ kept_with (kept_at id.0 first) (kept_from 0 kept.old.slots)) }
+    ensures slots { length kept.new.slots ≡ max (length kept.old.slots) (suc id.0) }
 {
-    let NewRows { id, rows } = one;
-    if (id.0 as usize) < kept.len() {
-        kept.fill(id, rows);
-    } else {
-        kept.append(rows);
-    }
+    kept.settle(id);
 }

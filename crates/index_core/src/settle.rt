@@ -9,7 +9,7 @@ ghost use Rattle.index_core.specs.Kept.{AreOf, kept_of};
 ghost use Rattle.index_core.specs.Slots.{AreInSlots, kept_from, rows_at, anew};
 ghost use Rattle.index_core.specs.Matching.{ranks_from, stop_words_of};
 
-use crate::kept::pack_document;
+use crate::kept::stage_document;
 use crate::stops::stop_words;
 use doc_store::DocStore;
 use index_settings::{Settings, patch, rank_of};
@@ -184,8 +184,11 @@ fn add_slot<F>(
 ) -> Result<(), NoMemory>
     requires few { length store.now.content.paths ≤ 1000 }
     requires ranks { length ranks.now ≡ length store.now.content.paths }
+    requires staged { all.old.staged ≡ [] }
+    requires place { length all.old.slots ≡ id.0 }
     ensures rows { OnOk result (all.new.slots
         ≡ all.old.slots ++ anew id.0 ranks.now store.now.content (slice_index_or kept.now.slots id.0 None) ∷ []) }
+    ensures staged { OnOk result (all.new.staged ≡ []) }
     ensures fetches { OnOk result (fetches.new
         ≡ fetches.old + length (kept_from id.0 (slice_index_or kept.now.slots id.0 None ∷ []))) }
     ensures at_most { fetches.new
@@ -194,7 +197,7 @@ fn add_slot<F>(
     if kept.has(id) {
         return add_rows(alloc, store, ranks, id, all, fetches);
     }
-    all.push(None)
+    all.push_empty()
 }
 
 // The rows of the document with an internal id, where there is one.
@@ -208,15 +211,19 @@ fn add_rows<F>(
 ) -> Result<(), NoMemory>
     requires few { length store.now.content.paths ≤ 1000 }
     requires ranks { length ranks.now ≡ length store.now.content.paths }
+    requires staged { all.old.staged ≡ [] }
+    requires place { length all.old.slots ≡ id.0 }
     ensures rows { OnOk result (all.new.slots ≡ all.old.slots ++ rows_at id.0 ranks.now store.now.content ∷ []) }
+    ensures staged { OnOk result (all.new.staged ≡ []) }
     ensures fetches { fetches.new ≡ fetches.old + 1 }
 {
-    let Some(text) = store.fetch(id, fetches) else {
-        return all.push(None);
+    let text = store.fetch(id, fetches);
+    let (Some(text), Some(external)) = (text, store.external(id)) else {
+        return all.push_empty();
     };
-    let document = text.document(alloc)?;
-    let rows = pack_document(alloc, &document, None, store.paths(), ranks, all)?;
-    all.push(Some(rows))
+    stage_document(alloc, text, external, store.paths(), ranks, all)?;
+    all.settle(id);
+    Ok(())
 }
 
 /// The rank of each path of a registry, in its order. None is that of a path that is not searched.

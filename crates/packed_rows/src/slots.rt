@@ -1,40 +1,42 @@
-ghost use Rattle.std.specs.Prelude.{◌≡◌, ◌+◌, ◌<◌, ◌≤◌, ◌++◌, ◌∷◌, [], length, slice_set, slice_index_or, None, Some, IfOk, OnOk, OnErr};
-ghost use Rattle.std.specs.Option.{is_some, option_map};
-ghost use Rattle.packed_rows.specs.Packed.{AreWithin, Keeps, places_read, rows_read, IsSlotWithin};
+ghost use Rattle.std.specs.Prelude.{◌≡◌, ◌<◌, ◌≤◌, ◌++◌, ◌∷◌, List, [], length, slice_set, slice_index_or, None, IfOk, OnOk, OnErr};
+ghost use Rattle.std.specs.Option.{is_some};
+ghost use Rattle.search_base.specs.RowsView.{RowsView};
+ghost use Rattle.staged_slots.specs.Staged.{settled};
+ghost use Rattle.packed_rows.specs.Packed.{rows_shown};
 
 use crate::table::{PackedRows, Table};
 use search_base::{DocId, DocRows, NoMemory, Place, Word};
+use staged_slots::StagedSlots;
 use std::alloc::Global;
 use std::marker::Model;
 
-/// What a search sees of each document, by its internal id, and None where the document is gone. Seen as the list of
-/// these rows, with the table in which they are packed and the number of documents for which memory was taken.
+/// What a search sees of each document, by its internal id, and None where the document is gone; and behind these the rows
+/// that are staged. Seen as the two lists.
 #[derive(Drop)]
 pub struct PackedSlots {
     table: Table,
-    slots: Vec<Option<PackedRows>>,
+    slots: StagedSlots<PackedRows>,
 }
 
 impl Model for PackedSlots {
-    ghost use Rattle.std.specs.Prelude.{◌-◌, vec_len};
-    ghost use Rattle.std.specs.Vec.{vec_capacity};
-    ghost use Rattle.packed_rows.specs.Packed.{KeptView, slots_read, AreSlotsWithin};
+    ghost use Rattle.packed_rows.specs.Packed.{KeptView, kept_view, AreKeptWithin};
 
     ghost Value = { KeptView };
 
-    ghost view = { λ kept. record { table = kept.table; slots = slots_read kept.table kept.slots.items; room = vec_capacity kept.slots - vec_len kept.slots } };
+    ghost view = { λ kept. kept_view kept.table kept.slots };
 
-    ghost invariant = { λ kept. AreSlotsWithin kept.table kept.slots.items };
+    ghost invariant = { λ kept. AreKeptWithin kept.table kept.slots };
 }
 
 impl PackedSlots {
-    /// Nothing kept. Takes no memory.
+    /// Nothing kept, and nothing staged. Takes no memory.
     pub fn new(alloc: Global) -> PackedSlots
-        ensures { result.slots ≡ [] }
+        ensures slots { result.slots ≡ [] }
+        ensures staged { result.staged ≡ [] }
     {
         PackedSlots {
             table: Table::new(alloc),
-            slots: Vec::new(alloc),
+            slots: StagedSlots::new(alloc),
         }
     }
 
@@ -45,77 +47,68 @@ impl PackedSlots {
         self.slots.len()
     }
 
-    /// Takes the memory in which `append` keeps the rows of some more documents.
+    /// Takes the memory in which the rows of some more documents can be staged, so that they are not moved as they come.
+    /// Nothing changes.
     pub fn reserve(&mut self, more: usize) -> Result<(), NoMemory>
-        ensures room { OnOk result (more ≤ self.new.room) }
-        ensures table { self.new.table ≡ self.old.table }
         ensures slots { self.new.slots ≡ self.old.slots }
+        ensures staged { self.new.staged ≡ self.old.staged }
     {
-        self.slots.reserve(more)?;
-        Ok(())
+        self.slots.reserve(more)
     }
 
-    /// Packs the words of a document, and puts them nowhere. What is kept stays, also where memory is wanting. A word that
-    /// is spelled as `own`, the word that the document has for itself, shares its text and stands in no table.
-    pub fn pack(
-        &mut self,
-        alloc: Global,
-        places: &[Place],
-        own: Option<Word>,
-    ) -> Result<PackedRows, NoMemory>
-        ensures keeps { Keeps self.old.table self.new.table }
+    /// Packs the words of a document, and stages them behind the others. The slots stay, and a refusal changes nothing. A
+    /// word that is spelled as `own`, the document's own word, shares its text and stands in no table.
+    pub fn stage(&mut self, alloc: Global, places: &[Place], own: &Word) -> Result<(), NoMemory>
         ensures slots { self.new.slots ≡ self.old.slots }
-        ensures within { IfOk result (λ rows. AreWithin self.new.table rows) }
-        ensures places { IfOk result (λ rows. places_read self.new.table rows ≡ places.now) }
+        ensures staged { OnOk result (self.new.staged ≡ self.old.staged ++ rows_shown places.now ∷ []) }
+        ensures stays { OnErr result (self.new.staged ≡ self.old.staged) }
     {
-        self.table.pack(alloc, places, own)
+        let rows = self.table.pack(alloc, places, own.clone()?)?;
+        self.slots.stage(rows)
     }
 
-    /// Puts rows into the slot of an internal id that was given, in place of what is there. Takes no memory.
-    pub fn fill(&mut self, id: DocId, rows: PackedRows)
-        requires slot { id.0 < length self.old.slots }
-        requires within { AreWithin self.old.table rows }
-        ensures table { self.new.table ≡ self.old.table }
-        ensures slots { self.new.slots ≡ slice_set self.old.slots id.0 (Some (rows_read self.old.table rows)) }
-        ensures room { self.new.room ≡ self.old.room }
+    /// Lets go what is staged. The slots stay. Takes no memory.
+    pub fn unstage(&mut self)
+        ensures slots { self.new.slots ≡ self.old.slots }
+        ensures staged { self.new.staged ≡ [] }
     {
-        self.slots[id.0 as usize] = Some(rows);
+        self.slots.unstage();
     }
 
-    /// Puts rows into a new slot behind the others, for which there is room. Takes no memory.
-    pub fn append(&mut self, rows: PackedRows)
-        requires within { AreWithin self.old.table rows }
-        requires room { 0 < self.old.room }
-        ensures table { self.new.table ≡ self.old.table }
-        ensures slots { self.new.slots ≡ self.old.slots ++ Some (rows_read self.old.table rows) ∷ [] }
-        ensures room { self.old.room ≤ self.new.room + 1 }
+    /// Moves the first rows that are staged into the slot of an internal id, in place of what is there, or into a new one
+    /// behind the others. Takes no memory.
+    pub fn settle(&mut self, id: DocId)
+        requires staged { 0 < length self.old.staged }
+        requires slot { id.0 ≤ length self.old.slots }
+        ensures { (first : RowsView) (rest : List RowsView) → self.old.staged ≡ first ∷ rest
+            → (self.new.staged ≡ rest) × (self.new.slots ≡ settled id.0 first self.old.slots) }
     {
-        self.slots.push_reserved(Some(rows));
+        self.slots.settle(id.0 as usize);
     }
 
-    /// Puts rows into a new slot behind the others, or leaves that slot empty. A refusal changes nothing.
-    pub fn push(&mut self, rows: Option<PackedRows>) -> Result<(), NoMemory>
-        requires { IsSlotWithin self.old.table rows }
-        ensures slots { OnOk result (self.new.slots ≡ self.old.slots ++ option_map (rows_read self.old.table) rows ∷ []) }
+    /// Adds an empty slot behind the others, and lets go what is staged. A refusal leaves the slots.
+    pub fn push_empty(&mut self) -> Result<(), NoMemory>
+        ensures slots { OnOk result (self.new.slots ≡ self.old.slots ++ None ∷ []) }
         ensures stays { OnErr result (self.new.slots ≡ self.old.slots) }
+        ensures staged { self.new.staged ≡ [] }
     {
-        self.slots.push(rows)?;
-        Ok(())
+        self.slots.push(None)
     }
 
     /// Empties the slot of an internal id. Takes no memory.
     pub fn empty(&mut self, id: DocId)
         requires { id.0 < length self.old.slots }
-        ensures { self.new.slots ≡ slice_set self.old.slots id.0 None }
+        ensures slots { self.new.slots ≡ slice_set self.old.slots id.0 None }
+        ensures staged { self.new.staged ≡ self.old.staged }
     {
-        self.slots[id.0 as usize] = None;
+        let _rows = self.slots.take(id.0 as usize);
     }
 
     /// Whether something is kept of the document with an internal id. Takes no memory.
     pub fn has(&self, id: DocId) -> bool
         ensures { result ≡ is_some (slice_index_or self.now.slots id.0 None) }
     {
-        match self.slots.get(id.0 as usize) {
+        match self.slots.as_slice().get(id.0 as usize) {
             Some(slot) => slot.is_some(),
             None => false,
         }
@@ -125,7 +118,7 @@ impl PackedSlots {
     pub fn rows(&self, alloc: Global, id: DocId) -> Result<Option<DocRows>, NoMemory>
         ensures { IfOk result (λ rows. rows ≡ slice_index_or self.now.slots id.0 None) }
     {
-        match self.slots.get(id.0 as usize) {
+        match self.slots.as_slice().get(id.0 as usize) {
             Some(Some(rows)) => Ok(Some(self.table.unpack(alloc, rows)?)),
             _ => Ok(None),
         }

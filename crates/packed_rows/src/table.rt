@@ -9,7 +9,7 @@ use std::marker::Model;
 
 /// A path with its rank among the searchable ones.
 #[derive(Clone, Copy, Drop, PartialEq, Eq)]
-pub struct RankedPath {
+pub(crate) struct RankedPath {
     path: PathId,
     rank: u16,
 }
@@ -19,17 +19,17 @@ const OWN: u32 = u32::MAX;
 
 /// A word of a document: the numbers that its path and the word have in a table, and its position in the path.
 #[derive(Clone, Copy, Drop)]
-pub struct KeptPlace {
+pub(crate) struct KeptPlace {
     path: u16,
     position: u16,
     word: u32,
 }
 
-/// The words of a document, by their numbers in a table, in 8 bytes each. One word that the document may have for itself,
-/// as its id is, stands here and not in the table. Seen as that word and the list.
+/// The words of a document, by their numbers in a table, in 8 bytes each. One word that the document has for itself, its
+/// external id, stands here and not in the table. Seen as that word and the list.
 #[derive(Drop)]
-pub struct PackedRows {
-    own: Option<Word>,
+pub(crate) struct PackedRows {
+    own: Word,
     places: Vec<KeptPlace>,
 }
 
@@ -44,7 +44,7 @@ impl Model for PackedRows {
 /// The words and the searched paths of the documents of an index, each once and with a number, which is its place. A table
 /// only grows. Seen as the two lists.
 #[derive(Drop)]
-pub struct Table {
+pub(crate) struct Table {
     words: Vec<Word>,
     numbers: BTreeMap<Word, u32>,
     paths: Vec<RankedPath>,
@@ -79,7 +79,7 @@ impl Table {
         &mut self,
         alloc: Global,
         places: &[Place],
-        own: Option<Word>,
+        own: Word,
     ) -> Result<PackedRows, NoMemory>
         ensures keeps { Keeps self.old self.new }
         ensures within { IfOk result (λ rows. AreWithin self.new rows) }
@@ -93,10 +93,10 @@ impl Table {
         &mut self,
         alloc: Global,
         places: &[Place],
-        own: &Option<Word>,
+        own: &Word,
     ) -> Result<Vec<KeptPlace>, NoMemory>
         ensures keeps { Keeps self.old self.new }
-        ensures within { IfOk result (λ packed. AllByRecursion (IsWithin self.new own.now) packed.items) }
+        ensures within { IfOk result (λ packed. AllByRecursion (IsWithin self.new) packed.items) }
         ensures places { IfOk result (λ packed. map (place_read self.new own.now) packed.items ≡ places.now) }
     {
         let mut packed = Vec::with_capacity(alloc, places.len())?;
@@ -110,14 +110,9 @@ impl Table {
     }
 
     // One place, of which the path is looked for from a number on.
-    fn pack_place(
-        &mut self,
-        place: &Place,
-        first: u16,
-        own: &Option<Word>,
-    ) -> Result<KeptPlace, NoMemory>
+    fn pack_place(&mut self, place: &Place, first: u16, own: &Word) -> Result<KeptPlace, NoMemory>
         ensures keeps { Keeps self.old self.new }
-        ensures within { IfOk result (λ one. IsWithin self.new own.now one) }
+        ensures within { IfOk result (λ one. IsWithin self.new one) }
         ensures place { IfOk result (λ one. place_read self.new own.now one ≡ place.now) }
     {
         let path = RankedPath {
@@ -134,16 +129,16 @@ impl Table {
     }
 
     // The number of a word, which is `OWN` for the document's own.
-    fn number_of(&mut self, word: &Word, own: &Option<Word>) -> Result<u32, NoMemory>
+    fn number_of(&mut self, word: &Word, own: &Word) -> Result<u32, NoMemory>
         ensures keeps { Keeps self.old self.new }
         ensures paths { self.new.paths ≡ self.old.paths }
-        ensures within { IfOk result (λ number. IsWordWithin self.new own.now number) }
+        ensures within { IfOk result (λ number. IsWordWithin self.new number) }
         ensures word { IfOk result (λ number. word_read self.new own.now number ≡ word.now) }
     {
-        match own {
-            Some(own) if own == word => Ok(OWN),
-            _ => self.word_number(word),
+        if own == word {
+            return Ok(OWN);
         }
+        self.word_number(word)
     }
 
     fn path_number(&mut self, path: RankedPath, first: u16) -> Result<u16, NoMemory>
@@ -195,8 +190,8 @@ impl Table {
         })
     }
 
-    fn place(&self, one: KeptPlace, own: &Option<Word>) -> Result<Place, NoMemory>
-        requires { IsWithin self.now own.now one }
+    fn place(&self, one: KeptPlace, own: &Word) -> Result<Place, NoMemory>
+        requires { IsWithin self.now one }
         ensures { IfOk result (λ place. place ≡ place_read self.now own.now one) }
     {
         let RankedPath { path, rank } = self.paths[one.path as usize];
@@ -208,15 +203,12 @@ impl Table {
         })
     }
 
-    fn word(&self, number: u32, own: &Option<Word>) -> Result<Word, NoMemory>
-        requires { IsWordWithin self.now own.now number }
+    fn word(&self, number: u32, own: &Word) -> Result<Word, NoMemory>
+        requires { IsWordWithin self.now number }
         ensures { IfOk result (λ word. word ≡ word_read self.now own.now number) }
     {
         if number == OWN {
-            return match own {
-                Some(own) => Ok(own.clone()?),
-                None => unreachable!(),
-            };
+            return Ok(own.clone()?);
         }
         Ok(self.words[number as usize].clone()?)
     }

@@ -51,11 +51,13 @@ fn packed_rows_are_read_back(rt: HostRuntime) -> Result<(), Fail> {
     let alloc = rt.alloc();
     let mut slots = PackedSlots::new(alloc);
     let id = Word::new(alloc, "42")?;
-    let first = slots.pack(alloc, places(alloc, FIRST)?.as_slice(), Some(id))?;
-    slots.push(Some(first))?;
-    slots.push(None)?;
-    let second = slots.pack(alloc, places(alloc, SECOND)?.as_slice(), None)?;
-    slots.fill(DocId(1), second);
+    slots.stage(alloc, places(alloc, FIRST)?.as_slice(), &id)?;
+    slots.settle(DocId(0));
+    slots.push_empty()?;
+    slots.reserve(1)?;
+    slots.stage(alloc, places(alloc, SECOND)?.as_slice(), &id)?;
+    assert_eq!(rt; told(alloc, &slots, 1)?.as_str(), "none");
+    slots.settle(DocId(1));
     assert_eq!(rt; slots.len(), 2);
     assert_eq!(rt;
         told(alloc, &slots, 0)?.as_str(),
@@ -72,12 +74,14 @@ fn packed_rows_are_read_back(rt: HostRuntime) -> Result<(), Fail> {
 }
 
 #[test]
-fn a_slot_for_which_room_was_made(rt: HostRuntime) -> Result<(), Fail> {
+fn rows_that_are_let_go(rt: HostRuntime) -> Result<(), Fail> {
     let alloc = rt.alloc();
     let mut slots = PackedSlots::new(alloc);
-    let rows = slots.pack(alloc, places(alloc, FIRST)?.as_slice(), None)?;
-    slots.reserve(1)?;
-    slots.append(rows);
+    let id = Word::new(alloc, "42")?;
+    slots.stage(alloc, places(alloc, SECOND)?.as_slice(), &id)?;
+    slots.unstage();
+    slots.stage(alloc, places(alloc, FIRST)?.as_slice(), &id)?;
+    slots.settle(DocId(0));
     assert_eq!(rt;
         told(alloc, &slots, 0)?.as_str(),
         "0 0 0 dark;0 0 1 knight;3 65535 65535 42;"
