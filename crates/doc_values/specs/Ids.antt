@@ -23,6 +23,10 @@ number_id (unsigned n) = Some (decimal n)
 number_id (negative z) = Some (signed_decimal z)
 number_id (float x) = None
 
+-- the uid of an index
+abbrev pub is_uid : List ℕ → Bool
+is_uid text = nat_lt 0 (length text) && nat_le (length text) 400 && list_all is_id_byte text
+
 -- the external id that a value gives
 abbrev pub id_in : Data → Option (List ℕ)
 id_in null = None

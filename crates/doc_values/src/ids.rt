@@ -1,7 +1,7 @@
 ghost use Rattle.std.specs.Prelude.{◌≡◌, ◌≢◌, Ok, Err, IfOk, MatchResult};
 ghost use Rattle.std.specs.List.{list_all};
 ghost use Rattle.serde_json.specs.View.{view};
-ghost use Rattle.doc_values.specs.Ids.{external_id_of, id_in, is_id as is_id_text, is_id_byte};
+ghost use Rattle.doc_values.specs.Ids.{external_id_of, id_in, is_id as is_id_text, is_id_byte, is_uid as is_uid_text};
 ghost use Rattle.doc_values.specs.declared.ids.IdFault.TheVariants.{NoMemory as Memory};
 
 use crate::document::Document;
@@ -63,6 +63,13 @@ pub fn id_of(alloc: Global, value: &Value) -> Result<Option<Word>, NoMemory>
         },
         _ => Ok(None),
     }
+}
+
+/// Whether a text is the uid of an index: 1 to 400 bytes that are ASCII letters, digits, `-` or `_`. Takes no memory.
+pub fn is_uid(text: &str) -> bool
+    ensures { result ≡ is_uid_text text.now }
+{
+    !text.is_empty() && text.len() <= 400 && are_id_bytes(text.as_bytes())
 }
 
 fn is_id(text: &str) -> bool

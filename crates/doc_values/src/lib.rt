@@ -23,7 +23,7 @@ mod walk;
 pub use bodies::{BodyFault, documents_of};
 pub use change::{Change, ChangeKind};
 pub use document::{Document, DocumentFault};
-pub use ids::{IdFault, external_id, id_of};
+pub use ids::{IdFault, external_id, id_of, is_uid};
 pub use keys::{KeyFault, infer_key};
 pub use laws::rows_say_the_walk;
 pub use merge::merged;

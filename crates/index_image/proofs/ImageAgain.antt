@@ -4,6 +4,7 @@ use Rattle.std.proofs.lemmas.Bool.{lt-ltb}
 use Rattle.std.specs.Int.{w32, to_le_bytes}
 use Rattle.std.specs.Prelude.{unwrap_or}
 use Rattle.serde_json.specs.Written.{compact_text}
+use Rattle.doc_values.specs.Ids.{is_uid}
 use Rattle.index_settings.specs.View.{SettingsView}
 use Rattle.index_image.specs.declared.rows.ImageDocument.{ImageDocument}
 use Rattle.index_image.specs.Change.{or_spot}
@@ -12,7 +13,7 @@ use Rattle.index_image.specs.Image.{counted_list_at, uid_at, key_at, path_at, se
 use Rattle.index_image.specs.Layout.{long, settings_text, document_bytes, list_bytes, index_bytes, image_bytes}
 use Rattle.index_image.specs.Rows.{IndexData, ImageData}
 use Rattle.index_image.specs.Spelling.{text, optional}
-use Rattle.index_image.specs.State.{is_uid, is_above, most_documents, IsPrimaryKey, IsNew, IsPlaced, IsIndex, IsState}
+use Rattle.index_image.specs.State.{is_above, most_documents, IsPrimaryKey, IsNew, IsPlaced, IsIndex, IsState}
 use Rattle.index_image.proofs.Again.{number_again, text_again, optional_again}
 use Rattle.index_image.proofs.Lists.{up_to_again, counted_again}
 use Rattle.index_image.proofs.Numbers.{changes_again, long_again}

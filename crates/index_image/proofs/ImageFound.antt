@@ -9,6 +9,7 @@ use Rattle.serde_json.specs.Data.{Data}
 use Rattle.serde_json.specs.Read.{read}
 use Rattle.serde_json.specs.Written.{compact_text}
 use Rattle.doc_values.specs.Stored.{document_at}
+use Rattle.doc_values.specs.Ids.{is_uid}
 use Rattle.index_settings.specs.View.{SettingsView}
 use Rattle.index_settings.specs.Patch.{patch_of}
 use Rattle.index_settings.specs.Table.{defaults}
@@ -23,7 +24,7 @@ use Rattle.index_image.specs.Layout.{long, settings_text, document_bytes, list_b
 use Rattle.index_image.specs.Names.{has_name}
 use Rattle.index_image.specs.Rows.{IndexData, ImageData, image_view}
 use Rattle.index_image.specs.Spelling.{text, optional}
-use Rattle.index_image.specs.State.{is_uid, is_above, settings_of, printed_at, if_printed, accepted, is_next, external_ids, fits, most_documents, IsPrimaryKey, IsNew, IsPlaced, IsIndex, IsState}
+use Rattle.index_image.specs.State.{is_above, settings_of, printed_at, if_printed, accepted, is_next, external_ids, fits, most_documents, IsPrimaryKey, IsNew, IsPlaced, IsIndex, IsState}
 use Rattle.index_image.proofs.Found.{IsBytes, IsBytes-rest, Takes, Takes-then, bind_ok, guard_ended, ok_is, if_some, some_is, then_some, held_ok, number_takes, text_takes, optional_takes, document_own, nil_from_length}
 use Rattle.index_image.proofs.Lists.{up_to_takes, counted_takes}
 use Rattle.index_image.proofs.Numbers.{changes_take, long_takes}

@@ -2,6 +2,7 @@
 use Rattle.std.specs.Prelude.{ℕ, zero, suc, ◌+◌, ◌&&◌, ◌==◌, not, Bool, List, [], ◌∷◌, ◌++◌, length, nat_lt, if◌then◌else◌, Option, None, Some, option_and_then, unwrap_or, Result, Ok, Err}
 use Rattle.std.specs.Int.{Width, w32, w64}
 use Rattle.serde_json.specs.Data.{Data}
+use Rattle.doc_values.specs.Ids.{is_uid}
 use Rattle.doc_values.specs.Stored.{document_at}
 use Rattle.index_settings.specs.View.{SettingsView}
 use Rattle.index_image.specs.declared.rows.ImageDocument.{ImageDocument}
@@ -9,7 +10,7 @@ use Rattle.index_image.specs.Change.{Spot, or_spot}
 use Rattle.index_image.specs.Fields.{◌>>=◌, byte_at, number_at, piece_at, held_or, text_at, optional_at}
 use Rattle.index_image.specs.Names.{has_name}
 use Rattle.index_image.specs.Rows.{IndexData, ImageData}
-use Rattle.index_image.specs.State.{is_uid, is_above, settings_of, is_next, external_ids, fits, most_documents}
+use Rattle.index_image.specs.State.{is_above, settings_of, is_next, external_ids, fits, most_documents}
 
 -- a number that is not above another
 unfoldable pub up_to_at : Width → ℕ → List ℕ → Result (ℕ × List ℕ) ℕ

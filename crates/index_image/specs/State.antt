@@ -1,13 +1,12 @@
 -- Which states an image may hold.
 use Rattle.std.specs.Prelude.{◌≡◌, ℕ, ◌<◌, ◌≤◌, List, [], ◌∷◌, ◌++◌, length, Bool, true, false, ◌&&◌, ◌||◌, ◌==◌, not, nat_lt, nat_le, Option, Some, None, option_and_then, unwrap_or, Result, Ok, Err, if◌then◌else◌, bytes_eq}
-use Rattle.std.specs.Char.{is_ascii_alphanumeric}
 use Rattle.std.specs.Cmp.Lexicographic.{slice_cmp}
 use Rattle.std.specs.List.{list_all}
 use Rattle.std.specs.Ordering.{nat_cmp, is_lt}
 use Rattle.std.specs.Str.{is_utf8}
 use Rattle.serde_json.specs.Data.{Data}
 use Rattle.serde_json.specs.Read.{read}
-use Rattle.doc_values.specs.Ids.{external_id_of}
+use Rattle.doc_values.specs.Ids.{external_id_of, is_uid}
 use Rattle.doc_values.specs.Walk.{paths_of}
 use Rattle.doc_values.specs.declared.ids.IdFault.{IdFault}
 use Rattle.index_settings.specs.View.{SettingsView}
@@ -25,12 +24,6 @@ EachAfter P before [] = Unit {0}
 EachAfter P before (x ∷ xs) = P before x × EachAfter P (before ++ x ∷ []) xs
 
 -- ---- uids
-
-abbrev pub is_uid_byte : ℕ → Bool
-is_uid_byte byte = is_ascii_alphanumeric byte || byte == 45 || byte == 95
-
-abbrev pub is_uid : List ℕ → Bool
-is_uid uid = nat_lt 0 (length uid) && nat_le (length uid) 400 && list_all is_uid_byte uid
 
 -- the uid is above that of the last index, by bytes
 abbrev pub is_above : List IndexData → List ℕ → Bool

@@ -1,6 +1,5 @@
 ghost use Rattle.std.specs.Prelude.{◌≡◌, ℕ, [], ◌∷◌, ◌++◌, List, map, true, unwrap_or, IfOk, IfSome};
 ghost use Rattle.std.specs.Int.{w32};
-ghost use Rattle.std.specs.List.{list_all};
 ghost use Rattle.serde_json.specs.View.{view as data_of};
 ghost use Rattle.index_settings.specs.Patch.{patch_of};
 ghost use Rattle.index_settings.specs.Table.{defaults};
@@ -8,13 +7,13 @@ ghost use Rattle.index_image.specs.Answers.{Gives};
 ghost use Rattle.index_image.specs.Image.{counted_list_at, list_at, uid_at, key_at, path_at, settings_at, id_at, fitting, fitting_at, image_document_at, index_at};
 ghost use Rattle.index_image.specs.Names.{has_name, SameNames};
 ghost use Rattle.index_image.specs.Rows.{index_view};
-ghost use Rattle.index_image.specs.State.{is_uid as is_uid_text, is_uid_byte, is_above as is_above_last, accepted, if_printed, settings_of, is_next as is_next_id, id_under as external_under, external_ids, are_registered as all_registered, fits as fits_in, most_documents as most_in};
+ghost use Rattle.index_image.specs.State.{is_above as is_above_last, accepted, if_printed, settings_of, is_next as is_next_id, id_under as external_under, external_ids, are_registered as all_registered, fits as fits_in, most_documents as most_in};
 
 use crate::fault::ReadFault;
 use crate::fields::{long_piece, optional, text, u32_at, u32_up_to};
 use crate::names::NameSet;
 use crate::rows::{ImageDocument, ImageIndex};
-use doc_values::{Document, DocumentText, IdFault, external_id, paths};
+use doc_values::{Document, DocumentText, IdFault, external_id, is_uid, paths};
 use index_settings::{Settings, SettingsFault, patch, to_json};
 use search_base::{DocId, NoMemory, Word};
 use serde_json::Value;
@@ -67,21 +66,6 @@ fn next_uid<'a>(
     } else {
         Err(ReadFault::Left(uid.as_str().len() + rest.len()))
     }
-}
-
-/// Whether a text is a uid: 1 to 400 bytes of ASCII letters, digits, `-` and `_`.
-fn is_uid(text: &str) -> bool
-    ensures { result ≡ is_uid_text text.now }
-{
-    !text.is_empty() && text.len() <= 400 && are_uid_bytes(text.as_bytes())
-}
-
-fn are_uid_bytes(bytes: &[u8]) -> bool
-    ensures { result ≡ list_all is_uid_byte bytes.now }
-{
-    bytes
-        .iter()
-        .all(|b| b.is_ascii_alphanumeric() || *b == b'-' || *b == b'_')
 }
 
 /// Whether a uid is above that of the last index, by bytes.

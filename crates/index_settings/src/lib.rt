@@ -26,4 +26,5 @@ pub use patching::patch;
 pub use paths::{is_covered, is_displayed, rank_of};
 pub use rule::{RankingRule, ranking_rule};
 pub use settings::Settings;
+pub use shape::check_patch;
 pub use synonyms::SynonymList;

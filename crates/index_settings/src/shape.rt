@@ -50,8 +50,9 @@ pub(crate) fn shape_of(name: &str) -> Option<Shape>
     }
 }
 
-/// Tries the members of a patch in byte order of their names.
-pub(crate) fn check_patch(alloc: Global, patch: &Value) -> Result<(), SettingsFault>
+/// Tries a patch of settings, member by member in byte order of their names; whether it is accepted does not depend on the
+/// settings that it changes. Each fault is that of the first member that is not acceptable, or of the patch that is no object.
+pub fn check_patch(alloc: Global, patch: &Value) -> Result<(), SettingsFault>
     ensures { MatchResult result (λ _. patch_fault (data_of patch.now) ≡ None)
         (λ fault. fault ≢ Memory → patch_fault (data_of patch.now) ≡ Some fault) }
 {

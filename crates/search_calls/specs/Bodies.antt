@@ -12,6 +12,7 @@ use Rattle.index_settings.specs.Table.{patch_fault}
 use Rattle.index_settings.specs.Values.{is_null, are_texts, texts_in}
 use Rattle.doc_values.specs.Bodies as doc
 use Rattle.doc_values.specs.Ids as ids
+use Rattle.doc_values.specs.Ids.{is_uid}
 use Rattle.doc_values.specs.declared.bodies.BodyFault.{BodyFault}
 use Rattle.doc_values.specs.declared.bodies.BodyFault.TheVariants as body
 use Rattle.search_calls.specs.declared.refusal.Refusal.{Refusal}
@@ -20,7 +21,6 @@ use Rattle.search_calls.specs.declared.search.Member.{Member}
 use Rattle.search_calls.specs.declared.search.Member.TheVariants.{Query, Count, Names, Later}
 use Rattle.search_calls.specs.Asked.{SearchData}
 use Rattle.search_calls.specs.Trying.{◌>>=◌, ◌>>◌, first_of, or_refuse}
-use Rattle.search_calls.specs.Routes.{is_uid}
 
 -- the JSON value that a body is
 abbrev pub json_of : List ℕ → Option Data

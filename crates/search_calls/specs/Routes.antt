@@ -1,9 +1,9 @@
 -- The routes, and which of them a request takes.
-use Rattle.std.specs.Prelude.{ℕ, List, [], ◌∷◌, length, filter, find, Bool, true, false, ◌&&◌, ◌||◌, ◌==◌, nat_lt, nat_le, codes, Option, Some, None, Result, Ok, Err, if◌then◌else◌}
-use Rattle.std.specs.List.{list_all, before_first, after_first}
+use Rattle.std.specs.Prelude.{ℕ, List, [], ◌∷◌, length, filter, find, Bool, true, false, ◌&&◌, ◌==◌, nat_lt, codes, Option, Some, None, Result, Ok, Err, if◌then◌else◌}
+use Rattle.std.specs.List.{before_first, after_first}
 use Rattle.std.specs.Str.{bytes_eq}
-use Rattle.std.specs.Char.{is_ascii_alphanumeric}
 use Rattle.form_urlencoded.specs.Form.{split}
+use Rattle.doc_values.specs.Ids.{is_uid}
 use Rattle.search_calls.specs.declared.refusal.Refusal.{Refusal}
 use Rattle.search_calls.specs.declared.refusal.Refusal.TheVariants.{NoRoute, MethodNotAllowed, InvalidUid}
 use Rattle.search_calls.specs.declared.routes.Route.{Route}
@@ -127,15 +127,6 @@ route_of method parts = do
   Ok (record { route = r.route; uid = uid_in r.path parts; id = id_in r.path parts })
 
 -- ---- the uid
-
-abbrev pub most_uid : ℕ
-most_uid = 400
-
-abbrev pub is_uid_byte : ℕ → Bool
-is_uid_byte b = is_ascii_alphanumeric b || b == 45 || b == 95
-
-abbrev pub is_uid : List ℕ → Bool
-is_uid uid = nat_lt 0 (length uid) && nat_le (length uid) most_uid && list_all is_uid_byte uid
 
 -- a uid that a path names (no named part is empty)
 abbrev pub uid_fault : List ℕ → Option Refusal

@@ -1,10 +1,9 @@
 ghost use Rattle.std.specs.Prelude.{◌≡◌, map};
-ghost use Rattle.std.specs.List.{list_all};
 ghost use Rattle.std.specs.Map.{lookup};
 ghost use Rattle.std.specs.Str.{bytes_eq};
 ghost use Rattle.search_calls.specs.Gives.{Gives};
 ghost use Rattle.search_calls.specs.Held.{given_by, methods};
-ghost use Rattle.search_calls.specs.Routes.{path_of, query_of, parts_of as parts_in, route_of, is_uid as is_uid_text, is_uid_byte};
+ghost use Rattle.search_calls.specs.Routes.{path_of, query_of, parts_of as parts_in, route_of};
 
 use crate::path::{Place, place_of};
 use crate::refusal::{Fault, Refusal};
@@ -129,19 +128,4 @@ fn route_at(method: &str, place: Place) -> Option<Route>
             _ => None,
         },
     }
-}
-
-/// Whether a text is a uid: 1 to 400 bytes of ASCII letters, digits, `-` and `_`. Takes no memory.
-pub(crate) fn is_uid(text: &str) -> bool
-    ensures { result ≡ is_uid_text text.now }
-{
-    !text.is_empty() && text.len() <= 400 && are_uid_bytes(text.as_bytes())
-}
-
-fn are_uid_bytes(bytes: &[u8]) -> bool
-    ensures { result ≡ list_all is_uid_byte bytes.now }
-{
-    bytes
-        .iter()
-        .all(|b| b.is_ascii_alphanumeric() || *b == b'-' || *b == b'_')
 }

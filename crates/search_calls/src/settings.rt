@@ -5,7 +5,7 @@ ghost use Rattle.search_calls.specs.Held.{settings_fault_of};
 
 use crate::body::read_json;
 use crate::refusal::{Fault, Refusal};
-use index_settings::{Settings, SettingsFault, patch};
+use index_settings::{SettingsFault, check_patch};
 use search_base::{NoMemory, Word};
 use serde_json::Value;
 use std::alloc::Global;
@@ -15,17 +15,15 @@ pub(crate) fn read_patch(alloc: Global, body: &[u8]) -> Result<Value, Fault>
     ensures { Gives view result (patch_in body.now) }
 {
     let value = read_json(alloc, body)?;
-    check_patch(alloc, &value)?;
+    try_patch(alloc, &value)?;
     Ok(value)
 }
 
-// Which patches are accepted does not depend on the settings that they change.
-fn check_patch(alloc: Global, value: &Value) -> Result<(), Fault>
-    ensures { Checks result (patch_refusal (view value.now)) }
+fn try_patch(alloc: Global, patch: &Value) -> Result<(), Fault>
+    ensures { Checks result (patch_refusal (view patch.now)) }
 {
-    let defaults = Settings::defaults(alloc)?;
-    match patch(alloc, &defaults, value) {
-        Ok(_) => Ok(()),
+    match check_patch(alloc, patch) {
+        Ok(()) => Ok(()),
         Err(fault) => Err(settings_fault(alloc, fault)),
     }
 }
