@@ -1,5 +1,5 @@
 -- A list of slots, and values that are staged for it.
-use Rattle.std.specs.Prelude.{◌≡◌, ◌≤◌, ℕ, List, [], ◌∷◌, ◌++◌, map, drop, length, nat_lt, slice_set, Option, None, Some, refl, if◌then◌else◌}
+use Rattle.std.specs.Prelude.{◌≡◌, ◌≤◌, ℕ, List, [], ◌∷◌, ◌++◌, map, drop, length, nat_lt, slice_set, Option, Some, refl, if◌then◌else◌}
 use Rattle.std.specs.List.{filter_map}
 use Rattle.std.specs.Coded.{Coded, code_by, coded×, coded_list, coded_option}
 
