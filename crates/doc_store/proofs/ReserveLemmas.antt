@@ -1,5 +1,5 @@
 -- Names that are put in one after the other, to wait for their numbers.
-use Rattle.std.proofs.Common.{◌≡◌, ℕ, suc, ◌+◌, ◌<◌, true, List, [], ◌∷◌, length, drop, get_or, refl, sym, ap, subst, ◌∙◌, add-one, drop-cons}
+use Rattle.std.proofs.Common.{◌≡◌, ℕ, suc, ◌+◌, ◌<◌, true, List, [], ◌∷◌, ◌++◌, length, drop, get_or, refl, sym, ap, subst, ◌∙◌, add-one, drop-cons, append_assoc, append-nil}
 use Rattle.doc_store.specs.declared.rows.StoreRow.{StoreRow}
 use Rattle.doc_store.specs.Names.{Names, number_at, is_kept, AreKept}
 use Rattle.doc_store.specs.Store.{externals}
@@ -33,7 +33,27 @@ pub reserved_item : (all : List (List ℕ)) (i : ℕ) (name text : List ℕ) (ol
 reserved_item all i name text old now new within is same h numbers more here =
     reserved_one all name (drop (i + 1) all) old now new (subst (λ left. Reserved all left old now) (drop-item all i name within is) h) numbers more (ap (λ v. is_kept v new) (sym same) ∙ here)
 
-pub reserved_row : (rows : List StoreRow) (i : ℕ) (r : StoreRow) (text : List ℕ) (old now new : Names) → i < length rows → r ≡ get_or rows i r → text ≡ r.external → Reserved (externals rows) (externals (drop i rows)) old now
-    → ((q : List ℕ) → number_at q new ≡ number_at q now) → ((q : List ℕ) → is_kept q now ≡ true → is_kept q new ≡ true) → is_kept text new ≡ true → Reserved (externals rows) (externals (drop (i + 1) rows)) old new
-reserved_row rows i r text old now new within is same h numbers more here =
-    reserved_one (externals rows) r.external (externals (drop (i + 1) rows)) old now new (subst (λ left. Reserved (externals rows) (externals left) old now) (drop-item rows i r within is) h) numbers more (ap (λ v. is_kept v new) (sym same) ∙ here)
+-- Documents that are staged one after the other: all of them come to the staged ones and those that are left, and each
+-- that is staged has a place for its external id.
+pub record Staging (all left staged : List StoreRow) (old now : Names) : Type 0 where
+  pub joined : staged ++ left ≡ all
+  pub numbers : (q : List ℕ) → number_at q now ≡ number_at q old
+  pub kept : AreKept (externals staged) now
+
+-- the external ids stay there, and one more is
+kept-behind : (rs : List StoreRow) (r : StoreRow) (now new : Names) → ((q : List ℕ) → is_kept q now ≡ true → is_kept q new ≡ true) → is_kept r.external new ≡ true → AreKept (externals rs) now → AreKept (externals (rs ++ r ∷ [])) new
+kept-behind [] r now new more here k = (here, tt)
+kept-behind (s ∷ rs) r now new more here k = (more s.external k.0, kept-behind rs r now new more here k.1)
+
+-- one document staged
+pub staging_one : (all : List StoreRow) (r : StoreRow) (left rest staged staged' : List StoreRow) (old now new : Names) → left ≡ r ∷ rest → Staging all left staged old now → staged' ≡ staged ++ r ∷ []
+    → ((q : List ℕ) → number_at q new ≡ number_at q now) → ((q : List ℕ) → is_kept q now ≡ true → is_kept q new ≡ true) → is_kept r.external new ≡ true → Staging all rest staged' old new
+staging_one all r left rest staged staged' old now new is h more numbers kept here = record {
+  joined = ap (λ v. v ++ rest) more ∙ append_assoc staged (r ∷ []) rest ∙ ap (λ v. staged ++ v) (sym is) ∙ h.joined;
+  numbers = λ q. numbers q ∙ h.numbers q;
+  kept = subst (λ rs. AreKept (externals rs) new) (sym more) (kept-behind staged r now new kept here h.kept);
+}
+
+-- all documents are staged
+pub staging_all : (all left staged : List StoreRow) (old now : Names) → left ≡ [] → Staging all left staged old now → staged ≡ all
+staging_all all left staged old now none h = sym (append-nil staged) ∙ ap (λ v. staged ++ v) (sym none) ∙ h.joined
