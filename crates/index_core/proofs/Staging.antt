@@ -1,7 +1,8 @@
 -- Rows that are staged, and then put one after the other.
 use Rattle.std.proofs.Common.{◌≡◌, ℕ, suc, ◌+◌, ◌<◌, ◌≤◌, List, [], ◌∷◌, ◌++◌, length, map, take, get_or, slice_set, Option, None, Some, refl, sym, ap, subst, ◌∙◌, arith}
 use Rattle.std.specs.Prelude.{max, nat_lt}
-use Rattle.std.proofs.lemmas.Bool.{cond_both, ltb-true, ltb-false}
+use Rattle.std.specs.Option.{option_map}
+use Rattle.std.proofs.lemmas.Bool.{cond_both, cond-false, le-ltb, ltb-true, ltb-false}
 use Rattle.std.proofs.lemmas.Bool.Decides.{nat_tests}
 use Rattle.std.proofs.lemmas.Grind.{common_steps}
 use Rattle.std.proofs.lemmas.List.{take_more}
@@ -10,14 +11,15 @@ use Rattle.staged_slots.specs.Staged.{settled}
 use Rattle.packed_rows.specs.Packed.{KeptView}
 use Rattle.doc_rows.specs.Rows.{rows_of}
 use Rattle.doc_store.specs.declared.rows.StoreRow.{StoreRow}
-use Rattle.doc_store.specs.Store.{Store, all_stored, ids_given, stored}
+use Rattle.serde_json.specs.Data.{Data}
+use Rattle.doc_store.specs.Store.{Row, Store, all_stored, ids_given, row_at, stored}
 use Rattle.doc_store.specs.StoreView.{AdmissionView, IsAdmitted}
 use Rattle.doc_store.proofs.SoundLemmas.{IsWhole}
 use Rattle.index_settings.specs.View.{SettingsView}
 use Rattle.index_core.specs.Kept.{AreKept, KeptRows, kept_at}
 use Rattle.index_core.specs.Matching.{ranks_from}
 use Rattle.index_core.specs.Putting.{put_kept, put_all, HasPlace, HavePlaces, rows_given, rows_shown}
-use Rattle.index_core.specs.Slots.{kept_from, AreInSlots, HaveSlots, slots_after}
+use Rattle.index_core.specs.Slots.{kept_from, AreInSlots, HaveSlots, slots_after, rows_at}
 use Rattle.index_core.proofs.KeptSlots.{slot-put, slot-pushed, come-slots}
 use Rattle.index_core.proofs.Putting.{admitted-puts, rows_come}
 
@@ -132,3 +134,16 @@ admitted-stores st rs s admission slots ids staged paths h admitted is given sho
       becomes = puts.becomes;
       many = ap (λ v. slots_after v (length slots)) comes ∙ ap (slots_after (rows_come st paths rs (ids_given rs s))) h.many ∙ come.1;
     }
+
+-- ---- a document settled behind the others
+
+pub settled-behind : (id : ℕ) (slots : List (Option RowsView)) (rows : RowsView) → length slots ≡ id → settled id rows slots ≡ slots ++ Some rows ∷ []
+settled-behind id slots rows is = cond-false (nat_lt id (length slots)) _ _ (le-ltb id (length slots) (omega arith))
+
+-- what a search sees of a document that is there
+pub rows-found : (id : ℕ) (ranks : List (Option ℕ)) (s : Store) (document : Data) → option_map (λ r. r.document) (row_at id s.rows) ≡ Some document → rows_at id ranks s ≡ Some (rows_of document s.paths ranks)
+rows-found id ranks s document h = by (row_at id s.rows) h
+  where
+    by : (o : Option Row) → option_map (λ r. r.document) o ≡ Some document → option_map (λ r. rows_of r.document s.paths ranks) o ≡ Some (rows_of document s.paths ranks)
+    by None e = absurd (cc)
+    by (Some r) e = ap (option_map (λ (d : Data). rows_of d s.paths ranks)) e
