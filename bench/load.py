@@ -5,7 +5,7 @@
 
 Small documents (about 80 bytes) in bodies of 1,000: 1,000, 10,000 and 100,000 of them; then one body of nearly 16 MiB
 of catalogue-like documents (about 1 KiB), and one of nearly 16 MiB of small ones. For each it prints documents a second, the time a document against that of the
-first load, and the peak memory against the bytes of JSON sent, whole and without what the process takes before any document. With `--no-words` the index searches no path, so that it keeps the documents
+first load, and the peak memory against the bytes of JSON sent, whole and beside what the process takes that has stored one document. With `--no-words` the index searches no path, so that it keeps the documents
 alone. The best of the rounds counts. Nothing tests these numbers.
 """
 import argparse
@@ -101,9 +101,9 @@ def measure(binary, rounds, name, count, sent, first):
     return name, count, size, best[0], best[1]
 
 
-def idle_bytes(binary):
-    """The peak of a process that has stored no document."""
-    return run(binary, [request(b"[]")])[1]
+def process_bytes(binary):
+    """The peak of a process that has stored one document."""
+    return run(binary, [request(body) for body in bodies(1, 1)])[1]
 
 
 def main():
@@ -119,12 +119,12 @@ def main():
         count, body = large_body(make)
         loads.append(measure(asked.binary, asked.rounds, name, count, [body], first))
     base = loads[0][3] / loads[0][1]
-    idle = idle_bytes(asked.binary)
-    print(f"the process itself: {idle / 1e6:.2f} MB")
+    process = process_bytes(asked.binary)
+    print(f"the process itself: {process / 1e6:.2f} MB")
     print(f"{'load':>18} {'documents':>10} {'MB':>7} {'docs/s':>9} {'MB/s':>7} {'time/doc':>9} {'peak/JSON':>10} {'beside':>7}")
     for name, count, size, seconds, peak in loads:
         print(f"{name:>18} {count:>10} {size / 1e6:>7.2f} {count / seconds:>9.0f} {size / 1e6 / seconds:>7.1f}"
-              f" {seconds / count / base:>9.2f} {peak / size:>10.2f} {(peak - idle) / size:>7.2f}")
+              f" {seconds / count / base:>9.2f} {peak / size:>10.2f} {(peak - process) / size:>7.2f}")
 
 
 if __name__ == "__main__":
