@@ -1,5 +1,5 @@
 -- Rows that are packed in a table, which grows.
-use Rattle.std.proofs.Common.{◌≡◌, ◌<◌, ◌≤◌, arith, ℕ, zero, suc, Bool, true, false, cond, List, [], ◌∷◌, ◌++◌, length, map, Option, None, Some, refl, sym, ap, ap₂, subst, ◌∙◌}
+use Rattle.std.proofs.Common.{◌≡◌, ◌<◌, ◌≤◌, arith, ℕ, zero, suc, Bool, true, false, cond, ltb, List, [], ◌∷◌, ◌++◌, length, map, set, Option, None, Some, Result, Ok, Err, OnOk, OnErr, refl, sym, ap, ap₂, subst, ◌∙◌}
 use Rattle.std.specs.Prelude.{bytes_eq, slice_get}
 use Rattle.std.specs.Option.{option_map}
 use Rattle.std.specs.List.{AllByRecursion}
@@ -9,28 +9,40 @@ use Rattle.std.specs.Cmp.Lexicographic.{slice_cmp}
 use Rattle.std.specs.Ordering.{nat_cmp}
 use Rattle.std.proofs.lemmas.Map.Text.{is_eq-slice_cmp}
 use Rattle.std.proofs.lemmas.Bool.{cond-true, cond-false}
-use Rattle.std.proofs.lemmas.List.{map_push}
+use Rattle.std.proofs.lemmas.List.{map-set, map_push, length-map}
 use Rattle.search_base.specs.declared.document.Place.{Place}
 use Rattle.std.proofs.lemmas.Slice.Eq.{bytes_eq-Decides}
 use Rattle.packed_rows.specs.declared.table.KeptPlace.{KeptPlace}
-use Rattle.packed_rows.specs.Packed.{TableView, PackedView, own_number, AreNumbers, IsWithin, place_read, rows_read, Keeps, slots_read, IsSlotWithin, AreSlotsWithin}
+use Rattle.search_base.specs.RowsView.{RowsView}
+use Rattle.staged_slots.specs.Staged.{StagedView, settled}
+use Rattle.packed_rows.specs.Packed.{TableView, PackedView, KeptView, own_number, AreNumbers, IsWithin, AreWithin, place_read, rows_shown, rows_read, Keeps, kept_view, IsSlotWithin, AreKeptWithin}
 
 -- ---- each element
 
+-- with one more element of which P holds, it holds of each
 pub all-push : {A : Type 0} (P : A → Type 0) (xs : List A) (x : A) → AllByRecursion P xs → P x → AllByRecursion P (xs ++ x ∷ [])
 all-push P [] x h is = (is, tt)
 all-push P (y ∷ xs) x h is = (h.0, all-push P xs x h.1 is)
 
+-- with an element replaced by one of which P holds, it holds of each
+all-set : {A : Type 0} (P : A → Type 0) (xs : List A) (at : ℕ) (x : A) → AllByRecursion P xs → P x → AllByRecursion P (set xs at x)
+all-set P [] at x h is = tt
+all-set P (y ∷ xs) zero x h is = (is, h.1)
+all-set P (y ∷ xs) (suc at) x h is = (h.0, all-set P xs at x h.1 is)
+
+-- where an element is, there is a place
 pub got-within : {A : Type 0} (xs : List A) (at : ℕ) (x : A) → slice_get xs at ≡ Some x → at < length xs
 got-within [] at x h = absurd (cc)
 got-within (y ∷ xs) zero x h = omega arith
 got-within (y ∷ xs) (suc at) x h = let less = got-within xs at x h in omega arith
 
+-- an element stays where it is, whatever is put behind
 got-behind : {A : Type 0} (xs ys : List A) (at : ℕ) (x : A) → slice_get xs at ≡ Some x → slice_get (xs ++ ys) at ≡ Some x
 got-behind [] ys at x h = absurd (cc)
 got-behind (y ∷ xs) ys zero x h = h
 got-behind (y ∷ xs) ys (suc at) x h = got-behind xs ys at x h
 
+-- the element that is put behind is the last
 pub got-last : {A : Type 0} (xs : List A) (x : A) → slice_get (xs ++ x ∷ []) (length xs) ≡ Some x
 got-last [] x = refl
 got-last (y ∷ xs) x = got-last xs x
@@ -41,6 +53,7 @@ got-last (y ∷ xs) x = got-last xs x
 pub numbers-behind : (old new : BTreeMap (List ℕ) ℕ) (words more : List (List ℕ)) → new.entries ≡ old.entries → length (words ++ more) ≤ own_number → AreNumbers old words → AreNumbers new (words ++ more)
 numbers-behind old new words more same few h = record { few = few; each = λ word number found. got-behind words more number word (h.each word number (sym (ap (lookup (is_at (slice_cmp nat_cmp word))) same) ∙ found)) }
 
+-- of a map with one more word, whose number is its place
 pub numbers-more : (old new : BTreeMap (List ℕ) ℕ) (key : List ℕ) (words : List (List ℕ)) (w : List ℕ) → length (words ++ w ∷ []) ≤ own_number → AreNumbers old words → key ≡ w → UpdatesBy (slice_cmp nat_cmp) (slice_cmp nat_cmp key) old new (Some (length words)) → AreNumbers new (words ++ w ∷ [])
 numbers-more old new key words w few h is puts = record { few = few; each = λ word number found. by word number (bytes_eq w word) refl found }
   where
@@ -58,47 +71,173 @@ numbers-more old new key words w few h is puts = record { few = few; each = λ w
 
 -- ---- a table that grows
 
+-- a table keeps what is in it
 pub keeps-same : (t : TableView) → Keeps t t
-keeps-same t = record { within = λ own p h. h; same = λ own p h. refl }
+keeps-same t = record { within = λ p h. h; same = λ own p h. refl }
 
+-- what is kept twice is kept
 pub keeps-more : (t u v : TableView) → Keeps t u → Keeps u v → Keeps t v
-keeps-more t u v a b = record { within = λ own p h. b.within own p (a.within own p h); same = λ own p h. b.same own p (a.within own p h) ∙ a.same own p h }
+keeps-more t u v a b = record { within = λ p h. b.within p (a.within p h); same = λ own p h. b.same own p (a.within p h) ∙ a.same own p h }
 
-pub rows-kept : (t u : TableView) (own : Option (List ℕ)) (places : List KeptPlace) → Keeps t u → AllByRecursion (IsWithin t own) places
-    → (map (place_read u own) places ≡ map (place_read t own) places) × AllByRecursion (IsWithin u own) places
-rows-kept t u own [] keeps h = (refl, tt)
-rows-kept t u own (p ∷ places) keeps h =
-    let rest = rows-kept t u own places keeps h.1 in
-    (ap₂ (λ x xs. x ∷ xs) (keeps.same own p h.0) rest.0, (keeps.within own p h.0, rest.1))
+-- places read in a table that grew are the same, and within it
+pub places-kept : (t u : TableView) (own : List ℕ) (places : List KeptPlace) → Keeps t u → AllByRecursion (IsWithin t) places
+    → (map (place_read u own) places ≡ map (place_read t own) places) × AllByRecursion (IsWithin u) places
+places-kept t u own [] keeps h = (refl, tt)
+places-kept t u own (p ∷ places) keeps h =
+    let rest = places-kept t u own places keeps h.1 in
+    (ap₂ (λ x xs. x ∷ xs) (keeps.same own p h.0) rest.0, (keeps.within p h.0, rest.1))
 
+-- the same of the rows of a document
+rows-kept : (t u : TableView) (rows : PackedView) → Keeps t u → AreWithin t rows → (rows_read u rows ≡ rows_read t rows) × AreWithin u rows
+rows-kept t u rows keeps h = let both = places-kept t u rows.own rows.places keeps h in (ap rows_shown both.0, both.1)
+
+-- the same of a slot
 slot-kept : (t u : TableView) (slot : Option PackedView) → Keeps t u → IsSlotWithin t slot → (option_map (rows_read u) slot ≡ option_map (rows_read t) slot) × IsSlotWithin u slot
 slot-kept t u None keeps h = (refl, tt)
-slot-kept t u (Some rows) keeps h =
-    let both = rows-kept t u rows.own rows.places keeps h in
-    (ap (λ v. Some (record { places = v; leaves = []; marks = [] })) both.0, both.1)
+slot-kept t u (Some rows) keeps h = let both = rows-kept t u rows keeps h in (ap (λ v. Some v) both.0, both.1)
 
-pub slots-kept : (t u : TableView) (slots : List (Option PackedView)) → Keeps t u → AreSlotsWithin t slots → (slots_read u slots ≡ slots_read t slots) × AreSlotsWithin u slots
+-- the same of all slots
+slots-kept : (t u : TableView) (slots : List (Option PackedView)) → Keeps t u → AllByRecursion (IsSlotWithin t) slots
+    → (map (λ slot. option_map (rows_read u) slot) slots ≡ map (λ slot. option_map (rows_read t) slot) slots) × AllByRecursion (IsSlotWithin u) slots
 slots-kept t u [] keeps h = (refl, tt)
 slots-kept t u (slot ∷ slots) keeps h =
     let one = slot-kept t u slot keeps h.0 in
     let rest = slots-kept t u slots keeps h.1 in
     (ap₂ (λ x xs. x ∷ xs) one.0 rest.0, (one.1, rest.1))
 
+-- the same of all rows that are staged
+staged-kept : (t u : TableView) (staged : List PackedView) → Keeps t u → AllByRecursion (AreWithin t) staged
+    → (map (rows_read u) staged ≡ map (rows_read t) staged) × AllByRecursion (AreWithin u) staged
+staged-kept t u [] keeps h = (refl, tt)
+staged-kept t u (rows ∷ staged) keeps h =
+    let one = rows-kept t u rows keeps h.0 in
+    let rest = staged-kept t u staged keeps h.1 in
+    (ap₂ (λ x xs. x ∷ xs) one.0 rest.0, (one.1, rest.1))
+
+-- what is kept is seen as before, and is within the table that grew
+pub all-kept : (t u : TableView) (kept : StagedView PackedView) → Keeps t u → AreKeptWithin t kept → (kept_view u kept ≡ kept_view t kept) × AreKeptWithin u kept
+all-kept t u kept keeps h =
+    let slots = slots-kept t u kept.slots keeps h.slots in
+    let staged = staged-kept t u kept.staged keeps h.staged in
+    (ap₂ (λ a b. record { slots = a; staged = b }) slots.0 staged.0, record { slots = slots.1; staged = staged.1 })
+
+-- ---- rows that are staged, and settled
+
+-- what holds anyway holds on a refusal
+pub on-err : {V E P : Type 0} (result : Result V E) → P → OnErr result P
+on-err (Ok value) p = tt
+on-err (Err error) p = p
+
+-- what is seen where rows are staged or refused: the slots as before, and behind the others the rows, or nothing
+pub record AreStaged {V E : Type 0} (u : TableView) (old : KeptView) (new : StagedView PackedView) (result : Result V E) (places : List Place) : Type 0 where
+  pub within : AreKeptWithin u new
+  pub slots : (kept_view u new).slots ≡ old.slots
+  pub staged : OnOk result ((kept_view u new).staged ≡ old.staged ++ rows_shown places ∷ [])
+  pub stays : OnErr result ((kept_view u new).staged ≡ old.staged)
+
+-- rows that were packed are staged in a table that grew, or refused
+pub kept-staged : {V E : Type 0} (t u : TableView) (old new : StagedView PackedView) (view : KeptView) (result : Result V E) (rows : PackedView) (places : List Place)
+    → kept_view t old ≡ view → Keeps t u → AreKeptWithin t old → AreWithin u rows → map (place_read u rows.own) rows.places ≡ places
+    → new.slots ≡ old.slots → OnOk result (new.staged ≡ old.staged ++ rows ∷ []) → OnErr result (new.staged ≡ old.staged) → AreStaged u view new result places
+kept-staged t u old new view (Ok value) rows places seen keeps h within read slots staged stays =
+    let both = all-kept t u old keeps h in
+    record {
+      within = record {
+        slots = subst (AllByRecursion (IsSlotWithin u)) (sym slots) both.1.slots;
+        staged = subst (AllByRecursion (AreWithin u)) (sym staged) (all-push (AreWithin u) old.staged rows both.1.staged within);
+      };
+      slots = ap (map (λ slot. option_map (rows_read u) slot)) slots ∙ ap (λ (v : KeptView). v.slots) (both.0 ∙ seen);
+      staged =
+          ap (map (rows_read u)) staged ∙ map_push (rows_read u) old.staged rows
+          ∙ ap₂ (λ (v : KeptView) (shown : List Place). v.staged ++ rows_shown shown ∷ []) (both.0 ∙ seen) read;
+      stays = tt;
+    }
+kept-staged t u old new view (Err error) rows places seen keeps h within read slots staged stays =
+    let both = all-kept t u old keeps h in
+    record {
+      within = record {
+        slots = subst (AllByRecursion (IsSlotWithin u)) (sym slots) both.1.slots;
+        staged = subst (AllByRecursion (AreWithin u)) (sym stays) both.1.staged;
+      };
+      slots = ap (map (λ slot. option_map (rows_read u) slot)) slots ∙ ap (λ (v : KeptView). v.slots) (both.0 ∙ seen);
+      staged = tt;
+      stays = ap (map (rows_read u)) stays ∙ ap (λ (v : KeptView). v.staged) (both.0 ∙ seen);
+    }
+
+-- slots with rows settled in one of them show these rows there, and are within the table
+slots-settled : (t : TableView) (at : ℕ) (rows : PackedView) (slots : List (Option PackedView)) (b : Bool) → ltb at (length slots) ≡ b → AllByRecursion (IsSlotWithin t) slots → AreWithin t rows
+    → (map (λ slot. option_map (rows_read t) slot) (settled at rows slots) ≡ settled at (rows_read t rows) (map (λ slot. option_map (rows_read t) slot) slots))
+    × AllByRecursion (IsSlotWithin t) (settled at rows slots)
+slots-settled t at rows slots true e h within =
+    rw e rw (length-map slots (λ slot. option_map (rows_read t) slot)) rw e
+    (map-set (λ slot. option_map (rows_read t) slot) slots at (Some rows), all-set (IsSlotWithin t) slots at (Some rows) h within)
+slots-settled t at rows slots false e h within =
+    rw e rw (length-map slots (λ slot. option_map (rows_read t) slot)) rw e
+    (map_push (λ slot. option_map (rows_read t) slot) slots (Some rows), all-push (IsSlotWithin t) slots (Some rows) h within)
+
+-- the first elements of equal lists are equal
+first_is : {A : Type 0} (x y : A) (xs ys : List A) → x ∷ xs ≡ y ∷ ys → x ≡ y
+first_is x y xs ys e = cc
+
+-- and so are the others
+others_are : {A : Type 0} (x y : A) (xs ys : List A) → x ∷ xs ≡ y ∷ ys → xs ≡ ys
+others_are x y xs ys e = cc
+
+-- the first of the rows that were staged is in its slot, and the others wait
+pub record AreSettled (t : TableView) (old : KeptView) (new : StagedView PackedView) (at : ℕ) : Type 0 where
+  pub within : AreKeptWithin t new
+  pub told : (first : RowsView) (rest : List RowsView) → old.staged ≡ first ∷ rest
+      → ((kept_view t new).staged ≡ rest) × ((kept_view t new).slots ≡ settled at first old.slots)
+
+-- what `settle` of the slots ensures, where the list of the rows that were staged is at hand
+settled_of : (t : TableView) (old new : StagedView PackedView) (at : ℕ) (staged : List PackedView) → old.staged ≡ staged → AreKeptWithin t old
+    → ((first : PackedView) (rest : List PackedView) → old.staged ≡ first ∷ rest → (new.staged ≡ rest) × (new.slots ≡ settled at first old.slots))
+    → 0 < length old.staged → AreSettled t (kept_view t old) new at
+settled_of t old new at [] e h s some = absurd (omega (arith, ap length e))
+settled_of t old new at (rows ∷ others) e h s some =
+    let to = s rows others e in
+    let within = subst (AllByRecursion (AreWithin t)) e h.staged in
+    let slots = slots-settled t at rows old.slots (ltb at (length old.slots)) refl h.slots within.0 in
+    record {
+      within = record {
+        slots = subst (AllByRecursion (IsSlotWithin t)) (sym to.1) slots.1;
+        staged = subst (AllByRecursion (AreWithin t)) (sym to.0) within.1;
+      };
+      told = λ first rest is.
+          let both = sym (ap (map (rows_read t)) e) ∙ is in (
+            ap (map (rows_read t)) to.0 ∙ others_are (rows_read t rows) first (map (rows_read t) others) rest both,
+            ap (map (λ slot. option_map (rows_read t) slot)) to.1 ∙ slots.0
+                ∙ ap (λ v. settled at v (map (λ slot. option_map (rows_read t) slot) old.slots)) (first_is (rows_read t rows) first (map (rows_read t) others) rest both),
+          );
+    }
+
+-- what `settle` of the slots ensures, of the rows that are seen
+pub settled-kept : (t : TableView) (old new : StagedView PackedView) (view : KeptView) (at : ℕ) → kept_view t old ≡ view → AreKeptWithin t old
+    → ((first : PackedView) (rest : List PackedView) → old.staged ≡ first ∷ rest → (new.staged ≡ rest) × (new.slots ≡ settled at first old.slots))
+    → 0 < length view.staged → AreSettled t view new at
+settled-kept t old new view at seen h s some =
+    let size = ap (λ (v : KeptView). length v.staged) seen in
+    let same = length-map old.staged (rows_read t) in
+    subst (λ v. AreSettled t v new at) seen (settled_of t old new at old.staged refl h s (omega arith))
+
 -- ---- the places of a document, packed one after the other
 
-pub record Packs (t u : TableView) (own : Option (List ℕ)) (packed : List KeptPlace) (places : List Place) : Type 0 where
+-- the places are packed as numbers of a table that grew
+pub record Packs (t u : TableView) (own : List ℕ) (packed : List KeptPlace) (places : List Place) : Type 0 where
   pub keeps : Keeps t u
-  pub within : AllByRecursion (IsWithin u own) packed
+  pub within : AllByRecursion (IsWithin u) packed
   pub told : map (place_read u own) packed ≡ places
 
-pub packs-more : (t u v : TableView) (own : Option (List ℕ)) (packed more : List KeptPlace) (one : KeptPlace) (places next : List Place) (place : Place) → Keeps u v → IsWithin v own one → place_read v own one ≡ place → more ≡ packed ++ one ∷ [] → next ≡ places ++ place ∷ [] → Packs t u own packed places → Packs t v own more next
+-- with one more place packed, all are
+pub packs-more : (t u v : TableView) (own : List ℕ) (packed more : List KeptPlace) (one : KeptPlace) (places next : List Place) (place : Place) → Keeps u v → IsWithin v one → place_read v own one ≡ place → more ≡ packed ++ one ∷ [] → next ≡ places ++ place ∷ [] → Packs t u own packed places → Packs t v own more next
 packs-more t u v own packed more one places next place keeps within is grown longer h =
-    let both = rows-kept u v own packed keeps h.within in
+    let both = places-kept u v own packed keeps h.within in
     record {
       keeps = keeps-more t u v h.keeps keeps;
-      within = subst (AllByRecursion (IsWithin v own)) (sym grown) (all-push (IsWithin v own) packed one both.1 within);
+      within = subst (AllByRecursion (IsWithin v)) (sym grown) (all-push (IsWithin v) packed one both.1 within);
       told = ap (map (place_read v own)) grown ∙ map_push (place_read v own) packed one ∙ ap₂ (λ xs x. xs ++ x ∷ []) (both.0 ∙ h.told) is ∙ sym longer;
     }
 
-pub packs-none : (t : TableView) (own : Option (List ℕ)) → Packs t t own [] []
+-- no places are packed
+pub packs-none : (t : TableView) (own : List ℕ) → Packs t t own [] []
 packs-none t own = record { keeps = keeps-same t; within = tt; told = refl }
