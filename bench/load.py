@@ -4,13 +4,16 @@
     bench/load.py [BIN] [--rounds N] [--no-words]
 
 Small documents (about 80 bytes) in bodies of 1,000: 1,000, 10,000 and 100,000 of them; then one body of nearly 16 MiB
-of catalogue-like documents (about 1 KiB), and one of nearly 16 MiB of small ones. For each it prints documents a second, the time a document against that of the
-first load, and the peak memory against the bytes of JSON sent, whole and without what the process takes before any document. With `--no-words` the index searches no path, so that it keeps the documents
-alone. The best of the rounds counts. Nothing tests these numbers.
+of catalogue-like documents (about 1 KiB), and one of nearly 16 MiB of small ones. For each it prints documents a second,
+the time a document against that of the first load, and the peak memory against the bytes of JSON sent, whole and beside
+what a process takes that has stored one document. With `--no-words` the index searches no path, so that it keeps the
+documents alone. The shortest time of the rounds counts, and the median of the peaks: between two runs the same process
+differs by up to 0.2 MB. Nothing tests these numbers.
 """
 import argparse
 import os
 import random
+import statistics
 import subprocess
 import sys
 import threading
@@ -94,22 +97,22 @@ def run(binary, requests):
     return seconds, peak
 
 
+def runs(binary, rounds, requests):
+    """(least seconds, median peak bytes) of some runs."""
+    seconds, peaks = zip(*(run(binary, requests) for _ in range(rounds)))
+    return min(seconds), statistics.median(peaks)
+
+
 def measure(binary, rounds, name, count, sent, first):
     size = sum(len(body) for body in sent)
     requests = first + [request(body) for body in sent]
-    best = min(run(binary, requests) for _ in range(rounds))
-    return name, count, size, best[0], best[1]
-
-
-def idle_bytes(binary):
-    """The peak of a process that has stored no document."""
-    return run(binary, [request(b"[]")])[1]
+    return name, count, size, *runs(binary, rounds, requests)
 
 
 def main():
     parser = argparse.ArgumentParser()
     parser.add_argument("binary", nargs="?", default=BINARY)
-    parser.add_argument("--rounds", type=int, default=3)
+    parser.add_argument("--rounds", type=int, default=9)
     parser.add_argument("--no-words", action="store_true")
     asked = parser.parse_args()
     first = [no_words()] if asked.no_words else []
@@ -119,12 +122,12 @@ def main():
         count, body = large_body(make)
         loads.append(measure(asked.binary, asked.rounds, name, count, [body], first))
     base = loads[0][3] / loads[0][1]
-    idle = idle_bytes(asked.binary)
-    print(f"the process itself: {idle / 1e6:.2f} MB")
+    process = runs(asked.binary, asked.rounds, [request(body) for body in bodies(1, 1)])[1]
+    print(f"the process itself: {process / 1e6:.2f} MB")
     print(f"{'load':>18} {'documents':>10} {'MB':>7} {'docs/s':>9} {'MB/s':>7} {'time/doc':>9} {'peak/JSON':>10} {'beside':>7}")
     for name, count, size, seconds, peak in loads:
         print(f"{name:>18} {count:>10} {size / 1e6:>7.2f} {count / seconds:>9.0f} {size / 1e6 / seconds:>7.1f}"
-              f" {seconds / count / base:>9.2f} {peak / size:>10.2f} {(peak - idle) / size:>7.2f}")
+              f" {seconds / count / base:>9.2f} {peak / size:>10.2f} {(peak - process) / size:>7.2f}")
 
 
 if __name__ == "__main__":

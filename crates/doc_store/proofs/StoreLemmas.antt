@@ -89,6 +89,3 @@ plan-made old new plan admission come is same admitted ids added kept path_room 
 pub paths-spent : (s : Store) (rows come : List StoreRow) → come ≡ rows → (all_stored come s).next_id ≤ MAX_IDS → MAX_PATHS < length (paths_after come s.paths) → spent (all_stored rows s) ≡ Some PathsSpent
 paths-spent s rows come is within h =
     ap (λ rs. spent (all_stored rs s)) (sym is) ∙ spent_paths (all_stored come s) within (subst (λ ps. MAX_PATHS < length ps) (sym (paths-all_stored come s)) h)
-
-pub ids-spent : (s : Store) (rows come : List StoreRow) → come ≡ rows → MAX_IDS < (all_stored come s).next_id → spent (all_stored rows s) ≡ Some IdsSpent
-ids-spent s rows come is h = ap (λ rs. spent (all_stored rs s)) (sym is) ∙ spent_ids (all_stored come s) h
