@@ -1,4 +1,4 @@
-use Rattle.std.proofs.Common.{◌≡◌, ◌++◌, length, sym, ap, ap₂, ◌∙◌, subst, map, Some}
+use Rattle.std.proofs.Common.{◌≡◌, ◌++◌, sym, ap, ap₂, ◌∙◌, subst, map, Some}
 use Rattle.std.proofs.lemmas.List.{length-map}
 use Rattle.search_base.specs.declared.document.DocId.{DocId}
 use Rattle.doc_store.specs.Store.{all_stored, ids_given}
