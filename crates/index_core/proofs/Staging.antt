@@ -32,8 +32,8 @@ shown-append ranks paths (None ∷ xs) ys = shown-append ranks paths xs ys
 shown-append ranks paths (Some r ∷ xs) ys = ap (λ v. rows_of r.document paths ranks ∷ v) (shown-append ranks paths xs ys)
 
 -- the rows of one document more
-pub shown-more : (ranks : List (Option ℕ)) (paths : List (List ℕ)) (documents : List (Option StoreRow)) (at : ℕ) (row : Option StoreRow) (before after : List RowsView) → at < length documents → row ≡ get_or documents at row → before ≡ rows_shown ranks paths (take at documents)
-    → after ≡ before ++ rows_shown ranks paths (row ∷ []) → after ≡ rows_shown ranks paths (take (at + 1) documents)
+pub shown-more : (ranks : List (Option ℕ)) (paths : List (List ℕ)) (documents : List (Option StoreRow)) (at : ℕ) (row : Option StoreRow) (before after : List RowsView) → at < length documents → row ≡ get_or documents at row
+    → before ≡ rows_shown ranks paths (take at documents) → after ≡ before ++ rows_shown ranks paths (row ∷ []) → after ≡ rows_shown ranks paths (take (at + 1) documents)
 shown-more ranks paths documents at row before after less is so_far staged =
     staged ∙ ap (λ v. v ++ rows_shown ranks paths (row ∷ [])) so_far ∙ sym (shown-append ranks paths (take at documents) (row ∷ []))
     ∙ ap (rows_shown ranks paths) (sym (take_more documents at row less ∙ ap (λ v. take at documents ++ v ∷ []) (sym is)))
@@ -46,8 +46,10 @@ shown-counted ranks paths (r ∷ rs) s = ap suc (shown-counted ranks paths rs (s
 -- ---- one document settled
 
 -- rows in the slot of their internal id, or in a new one, are put among the rows
-pub slot-settled : (id : ℕ) (slots : List (Option RowsView)) (rows : RowsView) → id ≤ length slots → HasPlace id (kept_from 0 slots) → kept_from 0 (settled id rows slots) ≡ put_kept (kept_at id rows) (kept_from 0 slots)
-slot-settled id slots rows within h = cond_both (nat_lt id (length slots)) (slice_set slots id (Some rows)) (slots ++ Some rows ∷ []) (λ v. kept_from 0 v ≡ put_kept (kept_at id rows) (kept_from 0 slots))
+pub slot-settled : (id : ℕ) (slots : List (Option RowsView)) (rows : RowsView) → id ≤ length slots → HasPlace id (kept_from 0 slots)
+    → kept_from 0 (settled id rows slots) ≡ put_kept (kept_at id rows) (kept_from 0 slots)
+slot-settled id slots rows within h =
+    cond_both (nat_lt id (length slots)) (slice_set slots id (Some rows)) (slots ++ Some rows ∷ []) (λ v. kept_from 0 v ≡ put_kept (kept_at id rows) (kept_from 0 slots))
     (λ e. let less = ltb-true id (length slots) e in slot-put id 0 id slots rows (omega arith) less h)
     (λ e. let past = ltb-false id (length slots) e in slot-pushed id 0 slots rows (omega arith))
 
@@ -60,13 +62,14 @@ abbrev pub Settles : KeptView → KeptView → ℕ → Type 0
 Settles old new id = (first : RowsView) (rest : List RowsView) → old.staged ≡ first ∷ rest → (new.staged ≡ rest) × (new.slots ≡ settled id first old.slots)
 
 -- what `settle` says of the number of slots
-pub settles-slots : (staged : List RowsView) (old new : KeptView) (id : ℕ) → Settles old new id → old.staged ≡ staged → 0 < length old.staged → id ≤ length old.slots → length new.slots ≡ max (length old.slots) (suc id)
+pub settles-slots : (staged : List RowsView) (old new : KeptView) (id : ℕ) → Settles old new id → old.staged ≡ staged → 0 < length old.staged
+    → id ≤ length old.slots → length new.slots ≡ max (length old.slots) (suc id)
 settles-slots [] old new id h e some within = absurd (omega (arith, ap length e))
 settles-slots (first ∷ rest) old new id h e some within = ap length (h first rest e).1 ∙ slots-settled id old.slots first within
 
 -- ---- all that are staged
 
--- The rows that are staged have internal ids, places and slots. With them put, these are the rows, and so many slots there are
+-- the rows that are staged have internal ids, places and slots; with them put, these are all rows, and there are so many slots
 pub record ArePut (ids : List ℕ) (staged : List RowsView) (slots : List (Option RowsView)) (all : List KeptRows) (many : ℕ) : Type 0 where
   pub counted : length ids ≡ length staged
   pub places : HavePlaces (rows_given ids staged) (kept_from 0 slots)
@@ -74,21 +77,13 @@ pub record ArePut (ids : List ℕ) (staged : List RowsView) (slots : List (Optio
   pub rows : put_all (rows_given ids staged) (kept_from 0 slots) ≡ all
   pub after : slots_after (rows_given ids staged) (length slots) ≡ many
 
--- the first has a place and a slot
-pub put-first : (ids more : List ℕ) (id : ℕ) (staged : List RowsView) (slots : List (Option RowsView)) (all : List KeptRows) (many : ℕ) → ids ≡ id ∷ more → ArePut ids staged slots all many
-    → (0 < length staged) × (HasPlace id (kept_from 0 slots) × (id ≤ length slots))
-put-first ids more id [] slots all many is h = absurd (omega (arith, h.counted, ap length is))
-put-first ids more id (first ∷ rest) slots all many is h =
-    let k = subst (λ v. ArePut v (first ∷ rest) slots all many) is h in
-    (omega arith, (k.places.0, k.have.0))
-
 -- what `put` says of the rows that are staged first
 abbrev pub PutsFirst : KeptView → KeptView → ℕ → Type 0
 PutsFirst old new id = (first : RowsView) (rest : List RowsView) → old.staged ≡ first ∷ rest → (new.staged ≡ rest) × (kept_from 0 new.slots ≡ put_kept (kept_at id first) (kept_from 0 old.slots))
 
 -- with the first put, the others are as before
-put-next : (ids more : List ℕ) (id : ℕ) (staged : List RowsView) (old new : KeptView) (all : List KeptRows) (many : ℕ) → ids ≡ id ∷ more → old.staged ≡ staged → PutsFirst old new id → length new.slots ≡ max (length old.slots) (suc id)
-    → ArePut ids staged old.slots all many → ArePut more new.staged new.slots all many
+put-next : (ids more : List ℕ) (id : ℕ) (staged : List RowsView) (old new : KeptView) (all : List KeptRows) (many : ℕ) → ids ≡ id ∷ more → old.staged ≡ staged → PutsFirst old new id
+    → length new.slots ≡ max (length old.slots) (suc id) → ArePut ids staged old.slots all many → ArePut more new.staged new.slots all many
 put-next ids more id [] old new all many is e puts size h = absurd (omega (arith, h.counted, ap length is))
 put-next ids more id (first ∷ rest) old new all many is e puts size h =
     let p = puts first rest e in
@@ -101,13 +96,10 @@ put-next ids more id (first ∷ rest) old new all many is e puts size h =
       after = ap (slots_after (rows_given more rest)) size ∙ k.after;
     })
 
+-- the same, whatever list the rows that are staged are
 pub put-more : (ids more : List ℕ) (id : ℕ) (old new : KeptView) (all : List KeptRows) (many : ℕ) → ids ≡ id ∷ more → PutsFirst old new id → length new.slots ≡ max (length old.slots) (suc id)
     → ArePut ids old.staged old.slots all many → ArePut more new.staged new.slots all many
 put-more ids more id old new all many is puts size h = put-next ids more id old.staged old new all many is refl puts size h
-
--- where none is left, all are put
-pub put-end : (ids : List ℕ) (staged : List RowsView) (slots : List (Option RowsView)) (all : List KeptRows) (many : ℕ) → ids ≡ [] → ArePut ids staged slots all many → (kept_from 0 slots ≡ all) × (length slots ≡ many)
-put-end ids staged slots all many none h = let k = subst (λ v. ArePut v staged slots all many) none h in (k.rows, k.after)
 
 -- ---- documents that were admitted
 
@@ -119,8 +111,10 @@ pub record Stores (st : SettingsView) (slots : List (Option RowsView)) (ids : Li
   pub becomes : AreKept (put_all (rows_given ids staged) (kept_from 0 slots)) st after
   pub many : slots_after (rows_given ids staged) (length slots) ≡ after.next_id
 
-pub admitted-stores : (st : SettingsView) (rs : List StoreRow) (s : Store) (admission : AdmissionView) (slots : List (Option RowsView)) (ids : List ℕ) (staged : List RowsView) (paths : List (List ℕ)) → AreInSlots slots st s → IsAdmitted s rs admission
-    → paths ≡ s.paths ++ admission.added → ids ≡ ids_given rs s → staged ≡ rows_shown (ranks_from st 0 paths) paths (map Some rs) → Stores st slots ids staged (all_stored rs s)
+-- documents that were admitted, with the ids that they are given and their rows
+pub admitted-stores : (st : SettingsView) (rs : List StoreRow) (s : Store) (admission : AdmissionView) (slots : List (Option RowsView)) (ids : List ℕ) (staged : List RowsView) (paths : List (List ℕ))
+    → AreInSlots slots st s → IsAdmitted s rs admission → paths ≡ s.paths ++ admission.added → ids ≡ ids_given rs s
+    → staged ≡ rows_shown (ranks_from st 0 paths) paths (map Some rs) → Stores st slots ids staged (all_stored rs s)
 admitted-stores st rs s admission slots ids staged paths h admitted is given shown =
     let sound = h.kept.sound in
     let whole : IsWhole s = record { increase = sound.increase; apart = sound.apart; once = sound.once; cover = sound.cover } in
@@ -137,11 +131,13 @@ admitted-stores st rs s admission slots ids staged paths h admitted is given sho
 
 -- ---- a document settled behind the others
 
+-- rows in the slot behind the others stand behind them
 pub settled-behind : (id : ℕ) (slots : List (Option RowsView)) (rows : RowsView) → length slots ≡ id → settled id rows slots ≡ slots ++ Some rows ∷ []
 settled-behind id slots rows is = cond-false (nat_lt id (length slots)) _ _ (le-ltb id (length slots) (omega arith))
 
 -- what a search sees of a document that is there
-pub rows-found : (id : ℕ) (ranks : List (Option ℕ)) (s : Store) (document : Data) → option_map (λ r. r.document) (row_at id s.rows) ≡ Some document → rows_at id ranks s ≡ Some (rows_of document s.paths ranks)
+pub rows-found : (id : ℕ) (ranks : List (Option ℕ)) (s : Store) (document : Data) → option_map (λ r. r.document) (row_at id s.rows) ≡ Some document
+    → rows_at id ranks s ≡ Some (rows_of document s.paths ranks)
 rows-found id ranks s document h = by (row_at id s.rows) h
   where
     by : (o : Option Row) → option_map (λ r. r.document) o ≡ Some document → option_map (λ r. rows_of r.document s.paths ranks) o ≡ Some (rows_of document s.paths ranks)
