@@ -159,6 +159,12 @@ part-read st s kept ids offset limit h is =
     ∙ reads-all s.rows (take limit (drop offset s.rows)) (rows-take (IsThere s.rows) limit (drop offset s.rows) (rows-drop (IsThere s.rows) offset s.rows (rows-there s h.sound)))
     ∙ sym (ap (take limit) (drop-map (λ r. r.document) offset s.rows) ∙ take-map (λ r. r.document) limit (drop offset s.rows))
 
+same-lengths : {A B : Type 0} (f : A → ℕ) (g : B → ℕ) (xs : List A) (ys : List B) → map f xs ≡ map g ys → length xs ≡ length ys
+same-lengths f g [] [] e = refl
+same-lengths f g [] (y ∷ ys) e = absurd (cc)
+same-lengths f g (x ∷ xs) [] e = absurd (cc)
+same-lengths f g (x ∷ xs) (y ∷ ys) e = let rest : map f xs ≡ map g ys = cc in ap suc (same-lengths f g xs ys rest)
+
 -- ---- hits are documents that are there
 
 kept-rise : (st : SettingsView) (s : Store) (low : ℕ) (rows : List Row) (high : ℕ) → Increase low rows high → RiseFrom low (map (λ r. kept_at r.id (rows_with st s.paths r.document)) rows)
