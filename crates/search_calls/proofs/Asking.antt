@@ -1,15 +1,15 @@
 -- The steps from a request to its call, of which each may be refused.
 use Rattle.std.proofs.Common.{◌≡◌, ℕ, List, Option, Some, None, Result, Ok, Err, refl, sym, ap, subst, ◌∙◌}
 use Rattle.http_wire.specs.Stream.{Request}
-use Rattle.search_calls.specs.declared.refusal.Refusal.{Refusal}
-use Rattle.search_calls.specs.declared.refusal.Fault.{Fault}
-use Rattle.search_calls.specs.declared.refusal.Fault.TheVariants.{Refused, NoMemory}
+use Rattle.request_refusals.specs.declared.refusal.Refusal.{Refusal}
+use Rattle.request_refusals.specs.declared.refusal.Fault.{Fault}
+use Rattle.request_refusals.specs.declared.refusal.Fault.TheVariants.{Refused, NoMemory}
+use Rattle.request_refusals.specs.Gives.{Fails, Gives, Checks}
+use Rattle.request_refusals.specs.Trying.{◌>>=◌, ◌>>◌}
+use Rattle.request_routes.specs.Query.{Pair, query_for}
+use Rattle.request_routes.specs.Routes.{Found, path_of, query_of, parts_of, route_of, uid_fault}
 use Rattle.search_calls.specs.Asked.{CallData}
 use Rattle.search_calls.specs.Calls.{call_at, call_of}
-use Rattle.search_calls.specs.Gives.{Fails, Gives, Checks}
-use Rattle.search_calls.specs.Query.{Pair, query_for}
-use Rattle.search_calls.specs.Routes.{Found, path_of, query_of, parts_of, route_of, uid_fault}
-use Rattle.search_calls.specs.Trying.{◌>>=◌, ◌>>◌}
 
 fails_bind : {A B : Type 0} (f : Fault) (r : Result A Refusal) (g : A → Result B Refusal) → Fails f r → Fails f (r >>= g)
 fails_bind NoMemory r g is = tt

@@ -10,9 +10,9 @@ use Rattle.doc_values.specs.declared.bodies.BodyFault.TheVariants as whole
 use Rattle.document_stream.specs.Bodies.{or_error, documents_in_json, documents_read}
 use Rattle.document_stream.specs.declared.fault.BodyError.{BodyError}
 use Rattle.document_stream.specs.declared.fault.BodyError.TheVariants as stream
-use Rattle.search_calls.specs.declared.refusal.Refusal.{Refusal}
-use Rattle.search_calls.specs.declared.refusal.Refusal.TheVariants.{NotJson, NotList, NotObject, NumberNotWhole}
-use Rattle.search_calls.specs.Trying.{◌>>=◌, or_refuse}
+use Rattle.request_refusals.specs.declared.refusal.Refusal.{Refusal}
+use Rattle.request_refusals.specs.declared.refusal.Refusal.TheVariants.{NotJson, NotList, NotObject, NumberNotWhole}
+use Rattle.request_refusals.specs.Trying.{◌>>=◌, or_refuse}
 use Rattle.search_calls.specs.Bodies.{json_of, json_in, documents_or, documents_in}
 
 pub json_read : (body : List ℕ) (d : Data) → IsUtf8 body → read body ≡ Some d → json_in body ≡ Ok d

@@ -1,11 +1,5 @@
-pub mod Splits
 pub mod JsonBodies
 pub mod Listed
-pub mod Rows
-pub mod Literals
-pub mod Paths
-pub mod Masks
-pub mod Numbers
 pub mod Patches
 pub mod Asking
 pub mod Unquoted

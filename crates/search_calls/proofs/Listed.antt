@@ -1,6 +1,6 @@
 -- The ids of a list, from the first of them on.
 use Rattle.std.proofs.Common.{ℕ, List, ◌++◌, Result, Ok, Err}
-use Rattle.search_calls.specs.declared.refusal.Refusal.{Refusal}
+use Rattle.request_refusals.specs.declared.refusal.Refusal.{Refusal}
 
 -- these ids, and then those that are left, where each of them is one
 abbrev pub after_these : List (List ℕ) → Result (List (List ℕ)) Refusal → Result (List (List ℕ)) Refusal

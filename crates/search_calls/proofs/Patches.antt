@@ -4,11 +4,11 @@ use Rattle.serde_json.specs.Data.{Data}
 use Rattle.index_settings.specs.Table.{patch_fault}
 use Rattle.index_settings.specs.declared.fault.SettingsFault.{SettingsFault}
 use Rattle.index_settings.specs.declared.fault.SettingsFault.TheVariants as settings
-use Rattle.search_calls.specs.declared.refusal.Refusal.{Refusal}
-use Rattle.search_calls.specs.declared.refusal.Fault.{Fault}
-use Rattle.search_calls.specs.declared.refusal.Fault.TheVariants.{Refused, NoMemory}
+use Rattle.request_refusals.specs.declared.refusal.Refusal.{Refusal}
+use Rattle.request_refusals.specs.declared.refusal.Fault.{Fault}
+use Rattle.request_refusals.specs.declared.refusal.Fault.TheVariants.{Refused, NoMemory}
+use Rattle.request_refusals.specs.Gives.{Checks, Turns}
 use Rattle.search_calls.specs.Bodies.{settings_refusal, patch_refusal}
-use Rattle.search_calls.specs.Gives.{Checks, Turns}
 use Rattle.search_calls.specs.Held.{settings_fault_of}
 
 refused : (d : Data) (f : SettingsFault) → patch_fault d ≡ Some f → patch_refusal d ≡ Some (settings_refusal f)

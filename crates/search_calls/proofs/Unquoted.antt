@@ -11,14 +11,14 @@ use Rattle.serde_json.specs.Find.{get_member}
 use Rattle.index_settings.specs.declared.fault.SettingsFault.{SettingsFault}
 use Rattle.index_settings.specs.Table.{patch_fault}
 use Rattle.http_wire.specs.Stream.{Request}
-use Rattle.search_calls.specs.declared.refusal.Refusal.{Refusal}
-use Rattle.search_calls.specs.declared.refusal.Refusal.TheVariants.{NotBuilt}
-use Rattle.search_calls.specs.declared.routes.Route.{Route}
-use Rattle.search_calls.specs.declared.routes.Route.TheVariants.{Health, CreateIndex, ListIndexes, ShowIndex, DropIndex, AddDocuments, UpdateDocuments, ListDocuments, ClearDocuments, ShowDocument, RemoveDocument, RemoveDocuments, ShowSettings, PatchSettings, ResetSettings, Search}
-use Rattle.search_calls.specs.Trying.{◌>>=◌, ◌>>◌, first_of}
+use Rattle.request_refusals.specs.declared.refusal.Refusal.{Refusal}
+use Rattle.request_refusals.specs.declared.refusal.Refusal.TheVariants.{NotBuilt}
+use Rattle.request_refusals.specs.Trying.{◌>>=◌, ◌>>◌, first_of}
+use Rattle.request_routes.specs.declared.routes.Route.{Route}
+use Rattle.request_routes.specs.declared.routes.Route.TheVariants.{Health, CreateIndex, ListIndexes, ShowIndex, DropIndex, AddDocuments, UpdateDocuments, ListDocuments, ClearDocuments, ShowDocument, RemoveDocument, RemoveDocuments, ShowSettings, PatchSettings, ResetSettings, Search}
+use Rattle.request_routes.specs.Routes.{path_of, query_of, parts_of, route_of, uid_fault}
+use Rattle.request_routes.specs.Query.{Pair, query_for}
 use Rattle.search_calls.specs.Asked.{SearchData, CallData, write, read}
-use Rattle.search_calls.specs.Routes.{path_of, query_of, parts_of, route_of, uid_fault}
-use Rattle.search_calls.specs.Query.{Pair, query_for}
 use Rattle.search_calls.specs.Bodies.{index_in, documents_in, ids_in, patch_in, patch_from, json_in, settings_refusal, object_in, members_of, members_fault, member_fault, is_query_or_null, is_unquoted, as_text, text_or_none, text_or_empty, text_at, search_in, search_from, search_from_members, search_of}
 use Rattle.search_calls.specs.Calls.{call_at, call_of, IsUnquotedRead, IsAcceptedKind}
 

@@ -15,12 +15,12 @@ use Rattle.doc_values.specs.Ids as ids
 use Rattle.doc_values.specs.Ids.{is_uid}
 use Rattle.doc_values.specs.declared.bodies.BodyFault.{BodyFault}
 use Rattle.doc_values.specs.declared.bodies.BodyFault.TheVariants as body
-use Rattle.search_calls.specs.declared.refusal.Refusal.{Refusal}
-use Rattle.search_calls.specs.declared.refusal.Refusal.TheVariants.{InvalidUid, Unknown, NotBuilt, NotJson, NotList, NotObject, NumberNotWhole, BadListedId, MissingUid, BadSettings, BadRankingRule}
+use Rattle.request_refusals.specs.declared.refusal.Refusal.{Refusal}
+use Rattle.request_refusals.specs.declared.refusal.Refusal.TheVariants.{InvalidUid, Unknown, NotBuilt, NotJson, NotList, NotObject, NumberNotWhole, BadListedId, MissingUid, BadSettings, BadRankingRule}
+use Rattle.request_refusals.specs.Trying.{◌>>=◌, ◌>>◌, first_of, or_refuse}
 use Rattle.search_calls.specs.declared.search.Member.{Member}
 use Rattle.search_calls.specs.declared.search.Member.TheVariants.{Query, Count, Names, Later}
 use Rattle.search_calls.specs.Asked.{SearchData}
-use Rattle.search_calls.specs.Trying.{◌>>=◌, ◌>>◌, first_of, or_refuse}
 
 -- the JSON value that a body is
 abbrev pub json_of : List ℕ → Option Data

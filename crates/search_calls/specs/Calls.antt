@@ -4,15 +4,15 @@ use Rattle.index_settings.specs.Table.{patch_fault}
 use Rattle.doc_values.specs.Changes.{KindData, kind_view, change_view, create, drop_index, replace, update, remove, clear, patch, reset}
 use Rattle.http_wire.specs.Stream.{Request}
 use Rattle.http_wire.specs.Sent.{IsSentAs}
-use Rattle.search_calls.specs.declared.refusal.Refusal.{Refusal}
-use Rattle.search_calls.specs.declared.routes.Route.{Route}
-use Rattle.search_calls.specs.declared.routes.Route.TheVariants.{Health, CreateIndex, ListIndexes, ShowIndex, DropIndex, AddDocuments, UpdateDocuments, ListDocuments, ClearDocuments, ShowDocument, RemoveDocument, RemoveDocuments, ShowSettings, PatchSettings, ResetSettings, Search}
+use Rattle.request_refusals.specs.declared.refusal.Refusal.{Refusal}
+use Rattle.request_refusals.specs.Trying.{◌>>=◌, ◌>>◌}
+use Rattle.request_refusals.specs.Refusals.{refused}
+use Rattle.request_routes.specs.declared.routes.Route.{Route}
+use Rattle.request_routes.specs.declared.routes.Route.TheVariants.{Health, CreateIndex, ListIndexes, ShowIndex, DropIndex, AddDocuments, UpdateDocuments, ListDocuments, ClearDocuments, ShowDocument, RemoveDocument, RemoveDocuments, ShowSettings, PatchSettings, ResetSettings, Search}
+use Rattle.request_routes.specs.Routes.{path_of, query_of, parts_of, route_of, uid_fault}
+use Rattle.request_routes.specs.Query.{Pair, query_for, value_of, count_in, fields_in}
 use Rattle.search_calls.specs.declared.call.Call.{Call}
 use Rattle.search_calls.specs.declared.call.Call.TheVariants as call
-use Rattle.search_calls.specs.Trying.{◌>>=◌, ◌>>◌}
-use Rattle.search_calls.specs.Refusals.{refused}
-use Rattle.search_calls.specs.Routes.{path_of, query_of, parts_of, route_of, uid_fault}
-use Rattle.search_calls.specs.Query.{Pair, query_for, value_of, count_in, fields_in}
 use Rattle.search_calls.specs.Bodies.{index_in, documents_in, ids_in, patch_in, search_of, is_unquoted}
 use Rattle.search_calls.specs.Asked.{ReadData, CallData, write, read, read_view}
 use Rattle.search_calls.specs.Asked as asked

@@ -1,11 +1,4 @@
-pub mod Refusals
-pub mod Trying
-pub mod Gives
-pub mod Routes
-pub mod Query
 pub mod Bodies
 pub mod Asked
 pub mod Calls
 pub mod Held
-pub mod Masked
-pub mod Laws

@@ -3,13 +3,13 @@ ghost use Rattle.serde_json.specs.Data.{depth};
 ghost use Rattle.serde_json.specs.Read.{max_depth};
 ghost use Rattle.serde_json.specs.Find.{get};
 ghost use Rattle.serde_json.specs.View.{view, members_view, items_view};
-ghost use Rattle.search_calls.specs.Gives.{Gives, Checks};
+ghost use Rattle.request_refusals.specs.Gives.{Gives, Checks};
 ghost use Rattle.search_calls.specs.Held.{new_index};
 ghost use Rattle.search_calls.specs.Bodies.{json_in, documents_in as documents_of_body, index_in, index_from, index_member_fault, index_members_fault, is_key_or_null as key_or_null, is_uid_text, as_text, text_or_none, ids_in, ids_from};
 
-use crate::refusal::{Fault, Refusal};
 use doc_values::{DocumentText, id_of, is_uid};
 use document_stream::BodyError;
+use request_refusals::{Fault, Refusal};
 use search_base::{NoMemory, Word};
 use serde_json::{Map, Value};
 use std::alloc::Global;

@@ -1,21 +1,23 @@
 ghost use Rattle.std.specs.Prelude.{◌≡◌, [], IfOk, map, Ok};
 ghost use Rattle.doc_values.specs.Changes.{kind_view};
 ghost use Rattle.http_wire.specs.Wire.{request_of};
+ghost use Rattle.request_refusals.specs.Gives.{Gives};
+ghost use Rattle.request_routes.specs.Held.{pair_of};
+ghost use Rattle.request_routes.specs.declared.routes.Route.TheVariants.{CreateIndex, ListIndexes, AddDocuments, UpdateDocuments, ListDocuments, ShowDocument, RemoveDocument, RemoveDocuments, PatchSettings, Search};
 ghost use Rattle.search_calls.specs.Asked.{write};
 ghost use Rattle.search_calls.specs.Calls.{call_of, call_at, IsCall, IsAccepted, IsUnquoted};
-ghost use Rattle.search_calls.specs.Gives.{Gives, Checks};
-ghost use Rattle.search_calls.specs.Held.{pair_of, call_data};
-ghost use Rattle.search_calls.specs.declared.routes.Route.TheVariants.{CreateIndex, ListIndexes, AddDocuments, UpdateDocuments, ListDocuments, ShowDocument, RemoveDocument, RemoveDocuments, PatchSettings, Search};
-ghost use Rattle.search_calls.specs.Routes.{uid_fault};
+ghost use Rattle.search_calls.specs.Held.{call_data};
 
 use crate::body::{NewIndex, read_documents, read_ids, read_index};
-use crate::query::{Pair, count_in, fields_in, read_query, text_in};
-use crate::refusal::{Fault, Refusal, refusal_reply};
-use crate::routes::{Found, Route, find_route, split_target};
 use crate::search::read_search;
 use crate::settings::read_patch;
-use doc_values::{Change, ChangeKind, is_uid};
+use doc_values::{Change, ChangeKind};
 use http_wire::{Reply, Wire};
+use request_refusals::{Fault, refusal_reply};
+use request_routes::{
+    Found, Pair, Route, check_uid, count_in, fields_in, find_route, read_query, split_target,
+    text_in,
+};
 use search_base::{NoMemory, Word};
 use std::alloc::Global;
 
@@ -114,16 +116,6 @@ fn ask(alloc: Global, wire: &Wire) -> Result<Request, Fault>
     check_uid(found.uid)?;
     let pairs = read_query(alloc, found.route, query)?;
     ask_at(alloc, found, &pairs, &wire.body)
-}
-
-fn check_uid(uid: &str) -> Result<(), Fault>
-    ensures { Checks result (uid_fault uid.now) }
-{
-    if uid.is_empty() || is_uid(uid) {
-        Ok(())
-    } else {
-        Err(Fault::from(Refusal::InvalidUid))
-    }
 }
 
 // What a route makes of what its path names, of the query string and of the body.

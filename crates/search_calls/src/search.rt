@@ -3,13 +3,13 @@ ghost use Rattle.std.specs.List.{list_any};
 ghost use Rattle.serde_json.specs.Find.{get};
 ghost use Rattle.serde_json.specs.View.{view, items_view, members_view};
 ghost use Rattle.index_settings.specs.Values.{items_are_texts, item_texts, texts_in};
+ghost use Rattle.request_refusals.specs.Gives.{Gives, Checks};
 ghost use Rattle.search_calls.specs.Asked.{search_view};
-ghost use Rattle.search_calls.specs.Gives.{Gives, Checks};
 ghost use Rattle.search_calls.specs.Bodies.{object_in, member_named, is_built as is_built_value, is_query_or_null as query_or_null, is_count_or_null as count_or_null, are_texts_or_null as texts_or_null, names_or_all, member_fault, members_fault, count_or, text_or_none, text_or_empty, search_from, search_of};
 
 use crate::body::read_json;
 use crate::call::SearchCall;
-use crate::refusal::{Fault, Refusal};
+use request_refusals::{Fault, Refusal};
 use search_base::{NoMemory, Word};
 use serde_json::{Map, Value};
 use std::alloc::Global;

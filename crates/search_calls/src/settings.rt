@@ -1,11 +1,11 @@
 ghost use Rattle.serde_json.specs.View.{view};
+ghost use Rattle.request_refusals.specs.Gives.{Gives, Checks, Turns};
 ghost use Rattle.search_calls.specs.Bodies.{patch_in, patch_refusal};
-ghost use Rattle.search_calls.specs.Gives.{Gives, Checks, Turns};
 ghost use Rattle.search_calls.specs.Held.{settings_fault_of};
 
 use crate::body::read_json;
-use crate::refusal::{Fault, Refusal};
 use index_settings::{SettingsFault, check_patch};
+use request_refusals::{Fault, Refusal};
 use search_base::{NoMemory, Word};
 use serde_json::Value;
 use std::alloc::Global;

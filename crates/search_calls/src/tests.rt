@@ -1,4 +1,4 @@
-use crate::{Call, ReadCall, Refusal, read_call, refusal_reply};
+use crate::{Call, ReadCall, read_call};
 use doc_values::ChangeKind;
 use http_wire::{Reply, Wire};
 use search_base::Word;
@@ -35,43 +35,21 @@ POST~/indexes/m/documents/delete-batch~[]~remove
 POST~/indexes/m/search~~search
 POST~/indexes/m/search~{"attributesToRetrieve":null}~search"#;
 
-// A method, a target, a body, and the status, the code and the message of its refusal.
-const NO_ROUTES: &str = r#"GET~/nothing~~404~not_found~No such route.
-GET~health~~404~not_found~No such route.
-GET~/health/~~404~not_found~No such route.
-GET~//health~~404~not_found~No such route.
-GET~/indexes/~~404~not_found~No such route.
-GET~/indexes//documents~~404~not_found~No such route.
-GET~/indexes/m/documents/~~404~not_found~No such route.
-GET~/indexes/m/documents/1/~~404~not_found~No such route.
-GET~/indexes//settings~~404~not_found~No such route.
-PATCH~/indexes/m/settings/stop-words~~404~not_found~No such route.
+// A method, a target, a body, and the status, the code and the message of its refusal. Each row has a later fault too.
+const FIRST_FAULTS: &str = r#"GET~/nothing?x~{~404~not_found~No such route.
 PATCH~/indexes//search?x~~404~not_found~No such route.
-POST~/health~~405~method_not_allowed~Method not allowed.
-get~/health~~405~method_not_allowed~Method not allowed.
-PUT~/indexes~~405~method_not_allowed~Method not allowed.
-PATCH~/indexes/m~~405~method_not_allowed~Method not allowed.
-PUT~/indexes/m/documents/delete-batch~~405~method_not_allowed~Method not allowed.
-POST~/indexes/m/documents/7~~405~method_not_allowed~Method not allowed.
-PUT~/indexes/m/settings~~405~method_not_allowed~Method not allowed.
-GET~/indexes/m/search~~405~method_not_allowed~Method not allowed.
-PATCH~/indexes/a.b/search?x~~405~method_not_allowed~Method not allowed."#;
+PATCH~/indexes/a.b/search?x~~405~method_not_allowed~Method not allowed.
+POST~/health?x~{~405~method_not_allowed~Method not allowed.
+POST~/indexes/a.b/search?x~{~400~invalid_index_uid~Invalid index uid.
+GET~/health?x=1~{~400~bad_request~Unknown or malformed `x`.
+POST~/indexes/m/search?q=x~{~400~bad_request~Unknown or malformed `q`.
+POST~/indexes/m/search?y&x&y~{~400~bad_request~Unknown or malformed `x`.
+PUT~/indexes/m/documents?primaryKey=~{~400~bad_request~Unknown or malformed `primaryKey`."#;
 
 const BAD_UIDS: &str = r#"GET~/indexes/a.b~~400~invalid_index_uid~Invalid index uid.
-POST~/indexes/a.b/search?x~{~400~invalid_index_uid~Invalid index uid.
 POST~/indexes~{"uid":"a b"}~400~invalid_index_uid~Invalid index uid.
 POST~/indexes~{"uid":null}~400~invalid_index_uid~Invalid index uid.
 POST~/indexes~{"uid":5,"zz":5}~400~invalid_index_uid~Invalid index uid."#;
-
-const BAD_QUERIES: &str = r#"GET~/health?x=1~{~400~bad_request~Unknown or malformed `x`.
-POST~/indexes/m/search?q=x~{~400~bad_request~Unknown or malformed `q`.
-POST~/indexes/m/search?y&x&y~{~400~bad_request~Unknown or malformed `x`.
-GET~/indexes?limit=18446744073709551616~{~400~bad_request~Unknown or malformed `limit`.
-GET~/indexes?limit=%2B1~{~400~bad_request~Unknown or malformed `limit`.
-GET~/indexes?limit=~{~400~bad_request~Unknown or malformed `limit`.
-GET~/indexes?limit=x&limit=1&offset=y~{~400~bad_request~Unknown or malformed `offset`.
-GET~/indexes/m/documents?fields&offset=-1~{~400~bad_request~Unknown or malformed `offset`.
-PUT~/indexes/m/documents?primaryKey=~{~400~bad_request~Unknown or malformed `primaryKey`."#;
 
 const BAD_BODIES: &str = r#"POST~/indexes~~400~malformed_payload~The body is not JSON.
 POST~/indexes/m/documents~~400~malformed_payload~The body is not JSON.
@@ -191,18 +169,13 @@ fn each_route_once(rt: HostRuntime) -> Result<(), Fail> {
 }
 
 #[test]
-fn paths_and_methods_that_are_none(rt: HostRuntime) -> Result<(), Fail> {
-    check_table(&rt, rt.alloc(), NO_ROUTES)
+fn the_first_fault_is_told(rt: HostRuntime) -> Result<(), Fail> {
+    check_table(&rt, rt.alloc(), FIRST_FAULTS)
 }
 
 #[test]
 fn faults_of_uids(rt: HostRuntime) -> Result<(), Fail> {
     check_table(&rt, rt.alloc(), BAD_UIDS)
-}
-
-#[test]
-fn faults_of_query_strings(rt: HostRuntime) -> Result<(), Fail> {
-    check_table(&rt, rt.alloc(), BAD_QUERIES)
 }
 
 #[test]
@@ -308,22 +281,4 @@ fn bodies_nest_127_deep(rt: HostRuntime) -> Result<(), Fail> {
     let deeper = format!(in alloc; "[{deep}]")?;
     let wanted = refusal(alloc, "400", "malformed_payload", "The body is not JSON.")?;
     check(&rt, alloc, "POST", DOCUMENTS, &deeper, &wanted)
-}
-
-#[test]
-fn an_index_that_exists(rt: HostRuntime) -> Result<(), Fail> {
-    let alloc = rt.alloc();
-    let refusal = Refusal::IndexExists {
-        uid: Word::new(alloc, "m")?,
-    };
-    let text =
-        "{\"code\":\"index_already_exists\",\"message\":\"Index `m` exists.\",\"type\":\"invalid_request\"}";
-    match &refusal_reply(alloc, &refusal)? {
-        Reply::Made { status, body, .. } => {
-            assert_eq!(rt; *status, 409);
-            assert!(rt; body.as_slice() == text.as_bytes());
-        }
-        Reply::Memory => assert!(rt; false, "memory"),
-    }
-    Ok(())
 }

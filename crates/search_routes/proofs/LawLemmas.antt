@@ -6,10 +6,10 @@ use Rattle.http_wire.specs.Stream.{Request}
 use Rattle.http_wire.specs.Reply.{Answer}
 use Rattle.index_core.specs.Index.{Index, documents as documents_in, document_under}
 use Rattle.index_core.specs.Hits.{found}
-use Rattle.search_calls.specs.declared.refusal.Refusal.{Refusal}
-use Rattle.search_calls.specs.declared.refusal.Refusal.TheVariants.{NoRoute, MethodNotAllowed, InvalidUid, Unknown, NotBuilt, NotJson, NotList, NotObject, NumberNotWhole, BadListedId, MissingUid, BadSettings, BadRankingRule, NoIndex, IndexExists, NoDocument, KeyDiffers, NoCandidate, SeveralCandidates, MissingId, BadId, ChangesSpent, IndexesSpent, IdsSpent, PathsSpent}
-use Rattle.search_calls.specs.Refusals.{told_of}
-use Rattle.search_calls.specs.Trying.{◌>>=◌, or_refuse}
+use Rattle.request_refusals.specs.declared.refusal.Refusal.{Refusal}
+use Rattle.request_refusals.specs.declared.refusal.Refusal.TheVariants.{NoRoute, MethodNotAllowed, InvalidUid, Unknown, NotBuilt, NotJson, NotList, NotObject, NumberNotWhole, BadListedId, MissingUid, BadSettings, BadRankingRule, NoIndex, IndexExists, NoDocument, KeyDiffers, NoCandidate, SeveralCandidates, MissingId, BadId, ChangesSpent, IndexesSpent, IdsSpent, PathsSpent}
+use Rattle.request_refusals.specs.Refusals.{told_of}
+use Rattle.request_refusals.specs.Trying.{◌>>=◌, or_refuse}
 use Rattle.search_calls.specs.Asked.{ReadData, health, indexes, index, documents, document, settings, search, CallData, write, read}
 use Rattle.search_calls.specs.Calls.{call_of}
 use Rattle.search_routes.specs.Replies as replies

@@ -11,16 +11,16 @@ use Rattle.http_wire.specs.Stream.{Request}
 use Rattle.http_wire.specs.Reply.{Answer}
 use Rattle.http_wire.specs.declared.reply.Reply.{Reply}
 use Rattle.index_core.specs.Index.{Index, empty_index}
-use Rattle.search_calls.specs.declared.refusal.Refusal.{Refusal}
-use Rattle.search_calls.specs.declared.refusal.Fault.{Fault}
-use Rattle.search_calls.specs.declared.refusal.Fault.TheVariants as fault
+use Rattle.request_refusals.specs.declared.refusal.Refusal.{Refusal}
+use Rattle.request_refusals.specs.declared.refusal.Fault.{Fault}
+use Rattle.request_refusals.specs.declared.refusal.Fault.TheVariants as fault
 use Rattle.search_calls.specs.declared.call.Call.{Call}
 use Rattle.search_calls.specs.declared.call.Call.TheVariants as call
 use Rattle.search_calls.specs.Asked.{SearchData, ReadData, read, search}
 use Rattle.search_calls.specs.Calls.{call_of, IsCall}
-use Rattle.search_calls.specs.Gives.{Fails}
-use Rattle.search_calls.specs.declared.refusal.Refusal.TheVariants.{NoIndex, IndexExists}
-use Rattle.search_calls.specs.Trying.{◌>>=◌, ◌>>◌, refuse_if, or_refuse}
+use Rattle.request_refusals.specs.Gives.{Fails}
+use Rattle.request_refusals.specs.declared.refusal.Refusal.TheVariants.{NoIndex, IndexExists}
+use Rattle.request_refusals.specs.Trying.{◌>>=◌, ◌>>◌, refuse_if, or_refuse}
 use Rattle.http_wire.specs.Sent.{IsSentAs}
 use Rattle.serde_json.specs.Data.{Data}
 use Rattle.index_core.specs.Hits.{Found, found}

@@ -7,15 +7,15 @@ use Rattle.http_wire.specs.declared.reply.Reply.{Reply}
 use Rattle.http_wire.specs.declared.reply.Reply.TheVariants.{Memory}
 use Rattle.index_core.specs.declared.fault.CoreFault.{CoreFault}
 use Rattle.index_core.specs.declared.fault.CoreFault.TheVariants as core
-use Rattle.search_calls.specs.declared.refusal.Refusal.{Refusal}
-use Rattle.search_calls.specs.declared.refusal.Fault.{Fault}
-use Rattle.search_calls.specs.declared.refusal.Fault.TheVariants as fault
+use Rattle.request_refusals.specs.declared.refusal.Refusal.{Refusal}
+use Rattle.request_refusals.specs.declared.refusal.Fault.{Fault}
+use Rattle.request_refusals.specs.declared.refusal.Fault.TheVariants as fault
 use Rattle.search_calls.specs.declared.call.Call.{Call}
 use Rattle.search_calls.specs.declared.call.Call.TheVariants as call
 use Rattle.search_calls.specs.Asked.{write, read, read_view}
-use Rattle.search_calls.specs.Gives.{Fails}
+use Rattle.request_refusals.specs.Gives.{Fails}
 use Rattle.search_calls.specs.Held.{settings_fault_of}
-use Rattle.search_calls.specs.Refusals.{refused}
+use Rattle.request_refusals.specs.Refusals.{refused}
 use Rattle.search_routes.specs.State.{State}
 use Rattle.search_routes.specs.Machine.{Step, performed, core_refusal}
 use Rattle.search_routes.specs.Needs.{call_need}

@@ -17,10 +17,10 @@ use Rattle.index_core.specs.Hits.{Found, found}
 use Rattle.index_core.specs.declared.call.SearchCall.{SearchCall as CoreCall}
 use Rattle.index_core.specs.declared.fault.CoreFault.{CoreFault}
 use Rattle.index_core.specs.declared.fault.CoreFault.TheVariants as core
-use Rattle.search_calls.specs.declared.refusal.Refusal.{Refusal}
-use Rattle.search_calls.specs.declared.refusal.Refusal.TheVariants.{NoIndex, IndexExists, NoDocument, KeyDiffers, NoCandidate, SeveralCandidates, MissingId, BadId, ChangesSpent, IndexesSpent, IdsSpent, PathsSpent}
-use Rattle.search_calls.specs.Trying.{◌>>=◌, ◌>>◌, first_of, refuse_if, or_refuse}
-use Rattle.search_calls.specs.Refusals.{refused}
+use Rattle.request_refusals.specs.declared.refusal.Refusal.{Refusal}
+use Rattle.request_refusals.specs.declared.refusal.Refusal.TheVariants.{NoIndex, IndexExists, NoDocument, KeyDiffers, NoCandidate, SeveralCandidates, MissingId, BadId, ChangesSpent, IndexesSpent, IdsSpent, PathsSpent}
+use Rattle.request_refusals.specs.Trying.{◌>>=◌, ◌>>◌, first_of, refuse_if, or_refuse}
+use Rattle.request_refusals.specs.Refusals.{refused}
 use Rattle.search_calls.specs.Asked.{SearchData, ReadData, health, indexes, index, documents, document, settings, search, CallData, write, read}
 use Rattle.search_calls.specs.Bodies.{settings_refusal}
 use Rattle.search_calls.specs.Calls.{call_of}

@@ -12,7 +12,7 @@ use Rattle.index_core.specs.Plans.{planned, is_named}
 use Rattle.index_core.specs.Fetches.{needed}
 use Rattle.index_core.specs.Hits.{found}
 use Rattle.index_core.specs.declared.fault.CoreFault.{CoreFault}
-use Rattle.search_calls.specs.declared.refusal.Refusal.{Refusal}
+use Rattle.request_refusals.specs.declared.refusal.Refusal.{Refusal}
 use Rattle.search_calls.specs.Asked.{ReadData, health, indexes, index, documents, document, settings, search, CallData, write, read}
 use Rattle.search_calls.specs.Calls.{call_of}
 use Rattle.search_routes.specs.State.{State, Indexes}

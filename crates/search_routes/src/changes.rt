@@ -7,7 +7,7 @@ ghost use Rattle.doc_values.specs.Ids.{key_of};
 ghost use Rattle.index_core.specs.Index.{empty_index};
 ghost use Rattle.index_core.specs.Plans.{planned, applied};
 ghost use Rattle.index_core.specs.Fetches.{needed};
-ghost use Rattle.search_calls.specs.Gives.{Gives, Checks, Turns};
+ghost use Rattle.request_refusals.specs.Gives.{Gives, Checks, Turns};
 ghost use Rattle.search_routes.specs.Done.{Grows, fault_of};
 ghost use Rattle.search_routes.specs.Machine.{id_member as id_member_of, id_member_for as id_member_of_change, core_result, limits, index_at, index_after, indexes_after, filled, emptied, type_of as type_in, most_changes};
 ghost use Rattle.search_routes.specs.Needs.{change_need, documents_need, need_in};

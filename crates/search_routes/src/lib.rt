@@ -3,7 +3,8 @@
 //! Promises: the reply to a request is that of `step` in specs/Machine.antt, and the machine's state follows it; or the
 //! reply is the constant one for want of memory, and the state stays. Contracts see `Machine` as a `State`: the number of
 //! accepted changes, and each index by its uid. Stands on index_core, which is one index, on search_calls, which reads a
-//! request into a call, on doc_values for documents and changes, and on http_wire for requests and replies.
+//! request into a call, on request_refusals for why a request is refused, on doc_values for documents and changes, and on
+//! http_wire for requests and replies.
 #![tactic(auto)]
 
 mod changes;

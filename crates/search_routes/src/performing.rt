@@ -2,7 +2,7 @@ ghost use Rattle.std.specs.Prelude.{◌≡◌, ◌+◌, ◌≤◌, Bool, IfOk};
 ghost use Rattle.http_wire.specs.Sent.{IsSentAs};
 ghost use Rattle.http_wire.specs.Wire.{request_of};
 ghost use Rattle.search_calls.specs.Calls.{IsCall, call_of};
-ghost use Rattle.search_calls.specs.Refusals.{refused};
+ghost use Rattle.request_refusals.specs.Refusals.{refused};
 ghost use Rattle.search_routes.specs.Chosen.{or_memory, answer_of, state_after};
 ghost use Rattle.search_routes.specs.Done.{Answers, Performs, held_need};
 ghost use Rattle.search_routes.specs.Needs.{needed_fetches};

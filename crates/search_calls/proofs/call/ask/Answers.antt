@@ -1,8 +1,9 @@
 use Rattle.std.proofs.Common.{◌≡◌, Err, map, ap, ◌∙◌, sym, subst, arith}
 use Rattle.http_wire.specs.Wire.{request_of}
-use Rattle.search_calls.specs.Gives.{Gives}
-use Rattle.search_calls.specs.Held.{pair_of, call_data, given_by}
-use Rattle.search_calls.specs.Routes.{path_of, query_of}
+use Rattle.request_refusals.specs.Gives.{Gives}
+use Rattle.request_routes.specs.Held.{pair_of, given_by}
+use Rattle.request_routes.specs.Routes.{path_of, query_of}
+use Rattle.search_calls.specs.Held.{call_data}
 use Rattle.search_calls.proofs.Asking.{route_fails, uid_fails, query_fails, asked_whole}
 use Rattle.search_calls.proofs.call.ask.Goals as goal
 

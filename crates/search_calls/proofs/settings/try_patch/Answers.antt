@@ -7,5 +7,5 @@ use Rattle.search_calls.proofs.settings.try_patch.Goals as goal
 pub returns-in-Ok : goal.returns-in-Ok
 returns-in-Ok c = ap (option_map settings_refusal) c.in-Ok.ensures
 
-pub returns : goal.returns
-returns c = turned (view c.args.patch.now) c.in-Err.fault _ c.in-Err.ensures c.settings_fault.ensures
+pub returns-in-Err : goal.returns-in-Err
+returns-in-Err c = turned (view c.args.patch.now) c.in-Err.fault _ c.in-Err.ensures c.settings_fault.ensures

@@ -1,0 +1,5 @@
+use Rattle.request_routes.proofs.Paths.{one_route}
+use Rattle.request_routes.proofs.laws.one_route_at_most.Goals as goal
+
+pub returns : goal.returns
+returns c = one_route

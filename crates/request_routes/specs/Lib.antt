@@ -1,0 +1,5 @@
+pub mod Routes
+pub mod Query
+pub mod Held
+pub mod Masked
+pub mod Laws

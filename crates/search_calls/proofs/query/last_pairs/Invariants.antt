@@ -1,8 +1,0 @@
-use Rattle.std.proofs.Common.{◌≡◌, ◌++◌, map, drop}
-use Rattle.search_calls.specs.Held.{pair_of}
-use Rattle.search_calls.specs.Query.{last_pairs}
-use Rattle.search_calls.proofs.query.last_pairs.Given as goal
-
--- the pairs that are kept, and those to keep of what is left, are those to keep of all
-abbrev pub invariant-loop-place : goal.invariant-loop-place
-invariant-loop-place l = map pair_of l.kept.items ++ last_pairs (map pair_of (drop l.place l.pairs)) ≡ last_pairs (map pair_of l.pairs)

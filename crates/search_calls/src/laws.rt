@@ -1,6 +1,0 @@
-ghost use Rattle.search_calls.specs.Laws.{OneRouteAtMost};
-
-/// No two rows of the table of routes have the method and the path of one request.
-pub fn one_route_at_most()
-    ensures { OneRouteAtMost }
-{}
