@@ -18,9 +18,6 @@ pub record Reached (all left : List StoreRow) (s : Store) (ids fresh : Names) (n
   pub rest : all_stored left at ≡ all_stored all s
   pub given : so_far ++ ids_given left at ≡ ids_given all s
 
-pub reached_none : (all : List StoreRow) (s : Store) (ids fresh : Names) (free : ℕ) → s.next_id ≡ free → ((q : List ℕ) → known_id ids fresh q ≡ id_of q s.rows) → Reached all all s ids fresh free []
-reached_none all s ids fresh free f h = record { at = s; free = f; index = h; rest = refl; given = refl }
-
 pub reached_one : (all : List StoreRow) (r : StoreRow) (left : List StoreRow) (s : Store) (ids fresh fresh' : Names) (free free' : ℕ) (given : List ℕ) (id : ℕ)
     → Reached all (r ∷ left) s ids fresh free given
     → id ≡ unwrap_or (known_id ids fresh r.external) free

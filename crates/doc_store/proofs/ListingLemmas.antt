@@ -16,16 +16,6 @@ listed-full limit skip already rest full = ap (λ n. already ++ take n (drop ski
     left : (a b : ℕ) → a ≤ b → a - b ≡ 0
     left a b h = omega arith
 
--- no more is listed where nothing is left
-pub listed-end : (limit skip : ℕ) (already : List ℕ) → listed limit skip already [] ≡ already
-listed-end limit skip already = ap (λ v. already ++ take (limit - length already) v) (drop_all skip [] (omega arith)) ∙ ap (λ v. already ++ v) (take_all (limit - length already) [] (omega arith)) ∙ append-nil already
-
-pub listed-start : (limit skip : ℕ) (rest : List ℕ) → listed limit skip [] rest ≡ take limit (drop skip rest)
-listed-start limit skip rest = ap (λ n. take n (drop skip rest)) (whole limit)
-  where
-    whole : (n : ℕ) → n - 0 ≡ n
-    whole n = omega arith
-
 -- an internal id is passed over
 pub listed-passed : (limit skip : ℕ) (already : List ℕ) (id : ℕ) (rest : List ℕ) → 0 < skip → listed limit (skip - 1) already rest ≡ listed limit skip already (id ∷ rest)
 listed-passed limit zero already id rest h = absurd (omega arith)

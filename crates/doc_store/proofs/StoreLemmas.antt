@@ -71,29 +71,21 @@ admitted-made s come admission ids ids_end paths paths_end = record {
     gained : (all_stored come s).paths ≡ s.paths ++ admission.added
     gained = paths-all_stored come s ∙ sym paths
 
--- a plan of documents that were admitted, for a store that has room
-pub plan-made : (old new : StoreView) (plan : PlanView) (admission : AdmissionView) (come : List StoreRow) → come ≡ plan.rows → new.content ≡ old.content → IsAdmitted old.content come admission
+-- a plan of documents that were admitted and are staged, for a store that has room
+pub plan-made : (old new : StoreView) (plan : PlanView) (admission : AdmissionView) (come : List StoreRow) → new.staged ≡ come → new.content ≡ old.content → IsAdmitted old.content come admission
     → plan.ids ≡ admission.ids → plan.added ≡ admission.added
-    → length come ≤ new.row_room → AreKept (externals come) new.ids → length plan.added ≤ new.path_room → AreKept plan.added new.path_places → IsPlanFor new plan
-plan-made old new plan admission come is same admitted ids added rows_room kept path_room places = record {
+    → AreKept (externals come) new.ids → length plan.added ≤ new.path_room → AreKept plan.added new.path_places → IsPlanFor new plan
+plan-made old new plan admission come is same admitted ids added kept path_room places = record {
   ids = ids ∙ here.ids;
   added = here.added ∙ ap (λ v. new.content.paths ++ v) (sym added);
   within = here.within;
-  room = record {
-    rows = subst (λ rs. length rs ≤ new.row_room) is rows_room;
-    ids = subst (λ rs. AreKept (externals rs) new.ids) is kept;
-    paths = path_room;
-    path_places = places;
-  };
+  room = record { ids = subst (λ rs. AreKept (externals rs) new.ids) (sym is) kept; paths = path_room; path_places = places };
 }
   where
-    here : IsAdmitted new.content plan.rows admission
-    here = subst (λ (s : Store). IsAdmitted s plan.rows admission) (sym same) (subst (λ rs. IsAdmitted old.content rs admission) is admitted)
+    here : IsAdmitted new.content new.staged admission
+    here = subst (λ (s : Store). IsAdmitted s new.staged admission) (sym same) (subst (λ rs. IsAdmitted old.content rs admission) (sym is) admitted)
 
 -- why documents that come spend a store
 pub paths-spent : (s : Store) (rows come : List StoreRow) → come ≡ rows → (all_stored come s).next_id ≤ MAX_IDS → MAX_PATHS < length (paths_after come s.paths) → spent (all_stored rows s) ≡ Some PathsSpent
 paths-spent s rows come is within h =
     ap (λ rs. spent (all_stored rs s)) (sym is) ∙ spent_paths (all_stored come s) within (subst (λ ps. MAX_PATHS < length ps) (sym (paths-all_stored come s)) h)
-
-pub ids-spent : (s : Store) (rows come : List StoreRow) → come ≡ rows → MAX_IDS < (all_stored come s).next_id → spent (all_stored rows s) ≡ Some IdsSpent
-ids-spent s rows come is h = ap (λ rs. spent (all_stored rs s)) (sym is) ∙ spent_ids (all_stored come s) h

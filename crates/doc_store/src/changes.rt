@@ -79,11 +79,12 @@ fn slot_of_first(ids: &mut Places, slots: &Slots) -> usize
     let Some(Some(row)) = slots.staged().first() else {
         unreachable!();
     };
+    let end = slots.len();
     if let Some(id) = ids.find(&row.external) {
         return id as usize;
     }
-    ids.give(&row.external, slots.len() as u32);
-    slots.len()
+    ids.give(&row.external, end as u32);
+    end
 }
 
 /// Takes a document out of its slot, and tells whether it was there. It takes no memory.

@@ -95,6 +95,21 @@ fn later_documents_replace_earlier_ones(rt: HostRuntime) {
     assert!(rt; !store.holds(DocId(2)));
 }
 
+#[test]
+fn staged_documents_are_let_go(rt: HostRuntime) {
+    let alloc = rt.alloc();
+    let mut store = DocStore::new(alloc).expect(&rt, "memory");
+    let come = rows(&rt, alloc, &["a"], "[{}]");
+    let admission = store.admit(alloc, come.as_slice()).expect(&rt, "admitted");
+    let _plan = store.prepare(come, admission).expect(&rt, "a plan");
+    store.unstage();
+    assert_eq!(rt; store.staged().len(), 0);
+    assert_eq!(rt; store.next_id(), 0);
+    let _ids = store_all(&rt, alloc, &mut store, rows(&rt, alloc, &["b"], "[{}]"));
+    let external = store.external(DocId(0)).expect(&rt, "a document");
+    assert_eq!(rt; external.as_str(), "b");
+}
+
 // The internal ids that are listed, with a space behind each.
 fn listed(rt: &impl Abort, alloc: Global, store: &DocStore, offset: u64, limit: u64) -> String {
     let ids = store.ids(alloc, offset, limit).expect(rt, "memory");

@@ -165,19 +165,6 @@ same-lengths f g [] (y ∷ ys) e = absurd (cc)
 same-lengths f g (x ∷ xs) [] e = absurd (cc)
 same-lengths f g (x ∷ xs) (y ∷ ys) e = let rest : map f xs ≡ map g ys = cc in ap suc (same-lengths f g xs ys rest)
 
-length-part : (st : SettingsView) (s : Store) (rows : List Row) (offset limit : ℕ) → length (take limit (drop offset (map (λ r. kept_at r.id (rows_with st s.paths r.document)) rows))) ≡ length (take limit (drop offset (map (λ r. r.document) rows)))
-length-part st s [] zero zero = refl
-length-part st s [] zero (suc limit) = refl
-length-part st s [] (suc offset) zero = refl
-length-part st s [] (suc offset) (suc limit) = refl
-length-part st s (r ∷ rows) zero zero = refl
-length-part st s (r ∷ rows) zero (suc limit) = ap suc (length-part st s rows zero limit)
-length-part st s (r ∷ rows) (suc offset) limit = length-part st s rows offset limit
-
-pub part-length : (st : SettingsView) (s : Store) (kept : List KeptRows) (ids : List DocId) (offset limit : ℕ) → AreKept kept st s → map (λ id. id.0) ids ≡ map (λ k. k.id.0) (take limit (drop offset kept))
-    → length ids ≡ length (take limit (drop offset (map (λ r. r.document) s.rows)))
-part-length st s kept ids offset limit h is = same-lengths (λ id. id.0) (λ k. k.id.0) ids (take limit (drop offset kept)) is ∙ ap (λ ks. length (take limit (drop offset ks))) h.same ∙ length-part st s s.rows offset limit
-
 -- ---- hits are documents that are there
 
 kept-rise : (st : SettingsView) (s : Store) (low : ℕ) (rows : List Row) (high : ℕ) → Increase low rows high → RiseFrom low (map (λ r. kept_at r.id (rows_with st s.paths r.document)) rows)

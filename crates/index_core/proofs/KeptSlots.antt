@@ -22,10 +22,10 @@ use Rattle.index_core.specs.Slots.{kept_from, AreInSlots, HaveSlots, slots_after
 use Rattle.index_core.specs.Ordered.{placed, RiseFrom, IdsRise}
 use Rattle.index_core.specs.Matching.{Match, match_at, rows_with}
 use Rattle.index_core.specs.Plans.{cleared}
-use Rattle.index_core.specs.Putting.{put_kept, HasPlace, rows_come}
+use Rattle.index_core.specs.Putting.{put_kept, HasPlace}
 use Rattle.index_core.proofs.Collecting.{Collecting, collecting-match, collecting-none}
 use Rattle.index_core.proofs.Finding.{IsThere}
-use Rattle.index_core.proofs.Putting.{kept_in}
+use Rattle.index_core.proofs.Putting.{kept_in, rows_come}
 
 rise-lower : (low high : ℕ) (kept : List KeptRows) → low ≤ high → RiseFrom high kept → RiseFrom low kept
 rise-lower low high [] le h = tt

@@ -12,4 +12,4 @@ pub mod Settling
 pub mod LawLemmas
 pub mod KeptSlots
 pub mod StayLemmas
-pub mod Packing
+pub mod Staging

@@ -10,8 +10,8 @@ use Rattle.doc_store.specs.StoreView.{AdmissionView, IsAdmitted}
 use Rattle.doc_store.specs.Sound.{Increase, StandOnce, IsSound}
 use Rattle.doc_store.proofs.SoundLemmas.{IsWhole, whole-stored, sound-all_stored}
 use Rattle.index_core.specs.Kept.{KeptRows, kept_at, AreKept}
-use Rattle.index_core.specs.Matching.{rows_with}
-use Rattle.index_core.specs.Putting.{put_kept, put_all, HasPlace, HavePlaces, rows_come}
+use Rattle.index_core.specs.Matching.{rows_with, ranks_from}
+use Rattle.index_core.specs.Putting.{put_kept, put_all, HasPlace, HavePlaces, rows_given, rows_shown}
 use Rattle.index_core.proofs.Stable.{all-stay}
 
 -- the rows of documents in an index with these paths
@@ -42,6 +42,10 @@ given-low external low rows next h = by (id_of external rows) refl
     by : (o : Option ℕ) → o ≡ id_of external rows → low ≤ unwrap_or (id_of external rows) next
     by None s = subst (λ o. low ≤ unwrap_or o next) s (ends low rows next h)
     by (Some id) s = subst (λ o. low ≤ unwrap_or o next) s (id-low external low rows next id h (sym s))
+
+-- the rows of documents that come with these internal ids, in an index with these settings and paths
+abbrev pub rows_come : SettingsView → List (List ℕ) → List StoreRow → List ℕ → List KeptRows
+rows_come st paths rs ids = rows_given ids (rows_shown (ranks_from st 0 paths) paths (map Some rs))
 
 -- one document put
 put-one : (st : SettingsView) (paths : List (List ℕ)) (new : StoreRow) (low next : ℕ) (rows : List Row) → Increase low rows next
@@ -87,8 +91,8 @@ pub record Puts (st : SettingsView) (kept come : List KeptRows) (after : Store) 
   pub becomes : AreKept (put_all come kept) st after
 
 pub admitted-puts : (st : SettingsView) (rs : List StoreRow) (s : Store) (admission : AdmissionView) (kept come : List KeptRows) (paths : List (List ℕ)) → AreKept kept st s → IsAdmitted s rs admission → paths ≡ s.paths ++ admission.added
-    → come ≡ rows_come st paths rs admission.ids → Puts st kept come (all_stored rs s)
-admitted-puts st rs s admission kept come paths h admitted is given = record {
+    → come ≡ rows_come st paths rs (ids_given rs s) → Puts st kept come (all_stored rs s)
+admitted-puts st rs s admission kept come paths h admitted is comes = record {
   places = subst (λ v. HavePlaces v kept) (sym comes) (subst (HavePlaces (rows_come st paths rs (ids_given rs s))) (sym now) both.1);
   becomes = record { same = ap (λ v. put_all v kept) comes ∙ ap (put_all (rows_come st paths rs (ids_given rs s))) now ∙ both.0 ∙ ap (λ ps. kept_in st ps (all_stored rs s).rows) paths_after; sound = sound };
 }
@@ -98,9 +102,6 @@ admitted-puts st rs s admission kept come paths h admitted is given = record {
 
     paths_after : paths ≡ (all_stored rs s).paths
     paths_after = is ∙ sym admitted.added
-
-    comes : come ≡ rows_come st paths rs (ids_given rs s)
-    comes = given ∙ ap (rows_come st paths rs) admitted.ids
 
     now : kept ≡ kept_in st paths s.rows
     now = h.same ∙ sym (ap (λ ps. kept_in st ps s.rows) is ∙ all-stay st s.rows s.paths admission.added (subst StandOnce admitted.added sound.once) h.sound.cover)

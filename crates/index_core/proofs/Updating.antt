@@ -300,17 +300,3 @@ updates-few all left r rest s rows places start now later sound is reads_is h =
     ap (λ v. v ++ externals rest) (map-behind rows (one_of r.external r.document)) ∙ append_assoc (externals rows) (r.external ∷ []) (externals rest) ∙ ap (λ v. externals rows ++ externals v) (sym is) ∙ h.names in
     let few = subst (λ v. length (filter (is_named (externals (rows ++ one_of r.external r.document ∷ []))) s.rows) ≤ length (filter (is_named v) s.rows)) names (names-fewer (externals (rows ++ one_of r.external r.document ∷ [])) (externals rest) s.rows) in
     omega (arith, more_named, before, few, reads_is)
-
-pub updates-all : (all left : List StoreRow) (s : Store) (rows : List StoreRow) (places : BTreeMap (List ℕ) ℕ) (start now : ℕ) → left ≡ [] → Updates all left s rows places start now → (rows ≡ updated_rows all s) × (now ≡ start + named all s.rows)
-updates-all all left s rows places start now none h = (
-  sym (append-nil rows) ∙ ap (λ v. rows ++ updated_rows v (all_stored rows s)) (sym none) ∙ h.told,
-  h.counted ∙ ap (λ v. start + length (filter (is_named v) s.rows)) (sym (append-nil (externals rows)) ∙ ap (λ v. externals rows ++ externals v) (sym none) ∙ h.names),
-)
-
--- ---- one document
-
-pub over-last : (rows : List StoreRow) (places : BTreeMap (List ℕ) ℕ) (q : List ℕ) (place : ℕ) (r : StoreRow) → ArePlaces places rows → get (slice_cmp nat_cmp) places q ≡ Some place → slice_get rows place ≡ Some r → last_of q rows ≡ Some r.document
-over-last rows places q place r h found at = sym (h.each q) ∙ ap (document_at rows) found ∙ ap (option_map (λ (v : StoreRow). v.document)) at
-
-pub none-last : (rows : List StoreRow) (places : BTreeMap (List ℕ) ℕ) (q : List ℕ) → ArePlaces places rows → get (slice_cmp nat_cmp) places q ≡ None → last_of q rows ≡ None
-none-last rows places q h none = sym (h.each q) ∙ ap (document_at rows) none

@@ -2,10 +2,8 @@
 use Rattle.std.specs.Prelude.{◌≡◌, ◌<◌, ◌⊎◌, ℕ, ◌==◌, List, [], ◌∷◌, Option, None, Some, if◌then◌else◌}
 use Rattle.search_base.specs.RowsView.{RowsView}
 use Rattle.doc_rows.specs.Rows.{rows_of}
-use Rattle.index_settings.specs.View.{SettingsView}
 use Rattle.doc_store.specs.declared.rows.StoreRow.{StoreRow}
 use Rattle.index_core.specs.Kept.{KeptRows, kept_at}
-use Rattle.index_core.specs.Matching.{rows_with}
 
 -- the rows in place of those of their internal id, or else behind the others
 abbrev pub put_kept : KeptRows → List KeptRows → List KeptRows
@@ -24,12 +22,6 @@ HasPlace id (k ∷ kept) = (id ≡ k.id.0) ⊎ ((k.id.0 < id) × HasPlace id kep
 abbrev pub HavePlaces : List KeptRows → List KeptRows → Type 0
 HavePlaces [] kept = Unit {0}
 HavePlaces (one ∷ more) kept = HasPlace one.id.0 kept × HavePlaces more (put_kept one kept)
-
--- the rows of documents with these internal ids, in an index with these settings and paths
-abbrev pub rows_come : SettingsView → List (List ℕ) → List StoreRow → List ℕ → List KeptRows
-rows_come settings paths [] ids = []
-rows_come settings paths (r ∷ rows) [] = []
-rows_come settings paths (r ∷ rows) (id ∷ ids) = kept_at id (rows_with settings paths r.document) ∷ rows_come settings paths rows ids
 
 -- rows, each with an internal id
 abbrev pub rows_given : List ℕ → List RowsView → List KeptRows

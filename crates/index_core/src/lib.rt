@@ -6,7 +6,8 @@
 //! the documents that match, by cost and then by internal id, and reads no other document.
 //! Contracts see an `IndexCore` as an `Index`: its key, its store of paths and rows, and its settings.
 //! Stands on `doc_store`, which keeps the documents, on `doc_values`, which reads keys and ids off them, on
-//! `index_settings`, which patches settings, and on `query_graph`, `doc_rows` and `plain_rank`, which rank documents.
+//! `index_settings`, which patches settings, on `packed_rows`, which keeps the words of documents, and on `query_graph`,
+//! `doc_rows` and `plain_rank`, which rank documents.
 #![tactic(auto)]
 
 mod call;

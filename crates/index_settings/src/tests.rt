@@ -1,10 +1,10 @@
 use crate::{
-    RankingRule, Settings, SettingsFault, is_covered, is_displayed, patch, rank_of, ranking_rule,
-    to_json,
+    RankingRule, Settings, SettingsFault, check_patch, is_covered, is_displayed, patch, rank_of,
+    ranking_rule, to_json,
 };
 use search_base::Word;
 use serde_json::Value;
-use std::alloc::Global;
+use std::alloc::{AllocError, Global};
 use std::process::Abort;
 use std::test::Fail;
 
@@ -28,30 +28,31 @@ fn patched(rt: &impl Abort, alloc: Global, old: &Settings, text: &str) -> Settin
     }
 }
 
-// The fault of a patch of the defaults, or `none`.
+// The fault of a patch, or `none`.
 fn fault_of(rt: &impl Abort, alloc: Global, text: &str) -> String {
     let members = Value::from_str(alloc, text).expect(rt, "JSON");
-    let shown = match &patch(alloc, &defaults(rt, alloc), &members) {
-        Ok(_) => String::from_str(alloc, "none"),
-        Err(SettingsFault::UnknownMember { member }) => format!(in alloc;
-            "unknown {}",
-            member.as_str()
-        ),
-        Err(SettingsFault::WrongShape { member }) => format!(in alloc; "shape {}", member.as_str()),
-        Err(SettingsFault::BadRankingRule { text }) => format!(in alloc; "rule {}", text.as_str()),
-        Err(SettingsFault::NotBuilt { member }) => format!(in alloc;
-            "not built {}",
-            member.as_str()
-        ),
+    let shown = match &check_patch(alloc, &members) {
+        Ok(()) => String::from_str(alloc, "none"),
+        Err(SettingsFault::UnknownMember { member }) => told(alloc, "unknown", member),
+        Err(SettingsFault::WrongShape { member }) => told(alloc, "shape", member),
+        Err(SettingsFault::BadRankingRule { text }) => told(alloc, "rule", text),
+        Err(SettingsFault::NotBuilt { member }) => told(alloc, "not built", member),
         Err(SettingsFault::NoMemory) => String::from_str(alloc, "no memory"),
     };
     shown.expect(rt, "memory")
 }
 
-fn assert_faults(rt: &impl Abort, alloc: Global, cases: &[(&str, &str)]) {
-    for (text, want) in cases {
+fn told(alloc: Global, kind: &str, name: &Word) -> Result<String, AllocError> {
+    format!(in alloc; "{kind} {}", name.as_str())
+}
+
+// Each line of a table is a patch and its fault.
+fn assert_faults(rt: &impl Abort, alloc: Global, table: &str) {
+    for line in table.lines() {
+        let mut parts = line.split('~');
+        let text = parts.next().unwrap_or("");
         let shown = fault_of(rt, alloc, text);
-        assert_eq!(rt; shown.as_str(), *want, "at {text}");
+        assert_eq!(rt; shown.as_str(), parts.next().unwrap_or(""), "at {text}");
     }
 }
 
@@ -137,123 +138,60 @@ fn the_members_of_the_settings(rt: HostRuntime) {
     }
 }
 
+const SHAPES: &str = r#"[]~shape 
+null~shape 
+"stopWords"~shape 
+{"displayedAttributes":"a"}~shape displayedAttributes
+{"displayedAttributes":[1]}~shape displayedAttributes
+{"searchableAttributes":{}}~shape searchableAttributes
+{"searchableAttributes":[["a"]]}~shape searchableAttributes
+{"filterableAttributes":true}~shape filterableAttributes
+{"filterableAttributes":["a",null]}~shape filterableAttributes
+{"sortableAttributes":0}~shape sortableAttributes
+{"stopWords":1}~shape stopWords
+{"rankingRules":"words"}~shape rankingRules
+{"rankingRules":["x",1]}~shape rankingRules
+{"synonyms":[]}~shape synonyms
+{"synonyms":{"a":"b"}}~shape synonyms
+{"synonyms":{"a":["b"],"c":null}}~shape synonyms
+{"distinctAttribute":5}~shape distinctAttribute
+{"distinctAttribute":"year"}~not built distinctAttribute
+{"faceting":5}~shape faceting
+{"faceting":[]}~shape faceting
+{"faceting":{"maxValuesPerFacet":"5"}}~shape faceting.maxValuesPerFacet
+{"pagination":false}~shape pagination
+{"pagination":{"maxTotalHits":-1}}~shape pagination.maxTotalHits
+{"pagination":{"maxTotalHits":1.0}}~shape pagination.maxTotalHits"#;
+
 #[test]
 fn each_member_with_a_wrong_shape(rt: HostRuntime) {
-    assert_faults(
-        &rt,
-        rt.alloc(),
-        &[
-            ("[]", "shape "),
-            ("null", "shape "),
-            ("\"stopWords\"", "shape "),
-            (
-                "{\"displayedAttributes\":\"a\"}",
-                "shape displayedAttributes",
-            ),
-            ("{\"displayedAttributes\":[1]}", "shape displayedAttributes"),
-            (
-                "{\"searchableAttributes\":{}}",
-                "shape searchableAttributes",
-            ),
-            (
-                "{\"searchableAttributes\":[[\"a\"]]}",
-                "shape searchableAttributes",
-            ),
-            (
-                "{\"filterableAttributes\":true}",
-                "shape filterableAttributes",
-            ),
-            (
-                "{\"filterableAttributes\":[\"a\",null]}",
-                "shape filterableAttributes",
-            ),
-            ("{\"sortableAttributes\":0}", "shape sortableAttributes"),
-            ("{\"stopWords\":1}", "shape stopWords"),
-            ("{\"rankingRules\":\"words\"}", "shape rankingRules"),
-            ("{\"rankingRules\":[\"x\",1]}", "shape rankingRules"),
-            ("{\"synonyms\":[]}", "shape synonyms"),
-            ("{\"synonyms\":{\"a\":\"b\"}}", "shape synonyms"),
-            (
-                "{\"synonyms\":{\"a\":[\"b\"],\"c\":null}}",
-                "shape synonyms",
-            ),
-            ("{\"distinctAttribute\":5}", "shape distinctAttribute"),
-            (
-                "{\"distinctAttribute\":\"year\"}",
-                "not built distinctAttribute",
-            ),
-            ("{\"faceting\":5}", "shape faceting"),
-            ("{\"faceting\":[]}", "shape faceting"),
-            (
-                "{\"faceting\":{\"maxValuesPerFacet\":\"5\"}}",
-                "shape faceting.maxValuesPerFacet",
-            ),
-            ("{\"pagination\":false}", "shape pagination"),
-            (
-                "{\"pagination\":{\"maxTotalHits\":-1}}",
-                "shape pagination.maxTotalHits",
-            ),
-            (
-                "{\"pagination\":{\"maxTotalHits\":1.0}}",
-                "shape pagination.maxTotalHits",
-            ),
-        ],
-    );
+    assert_faults(&rt, rt.alloc(), SHAPES);
 }
+
+const NAMES: &str = r#"{"foo":1}~unknown foo
+{"foo":null}~unknown foo
+{"":1}~unknown 
+{"stopwords":[]}~unknown stopwords
+{"typoTolerance":{}}~unknown typoTolerance
+{"faceting":{"sortFacetValuesBy":{}}}~unknown faceting.sortFacetValuesBy
+{"faceting":{"maxTotalHits":1}}~unknown faceting.maxTotalHits
+{"pagination":{"a.b":1}}~unknown pagination.a.b"#;
 
 #[test]
 fn names_that_no_member_has(rt: HostRuntime) {
-    assert_faults(
-        &rt,
-        rt.alloc(),
-        &[
-            ("{\"foo\":1}", "unknown foo"),
-            ("{\"foo\":null}", "unknown foo"),
-            ("{\"\":1}", "unknown "),
-            ("{\"stopwords\":[]}", "unknown stopwords"),
-            ("{\"typoTolerance\":{}}", "unknown typoTolerance"),
-            (
-                "{\"faceting\":{\"sortFacetValuesBy\":{}}}",
-                "unknown faceting.sortFacetValuesBy",
-            ),
-            (
-                "{\"faceting\":{\"maxTotalHits\":1}}",
-                "unknown faceting.maxTotalHits",
-            ),
-            ("{\"pagination\":{\"a.b\":1}}", "unknown pagination.a.b"),
-        ],
-    );
+    assert_faults(&rt, rt.alloc(), NAMES);
 }
+
+const FIRST: &str = r#"{"stopWords":1,"foo":1,"rankingRules":["x"]}~unknown foo
+{"stopWords":1,"rankingRules":["words","x","y"]}~rule x
+{"Z":1,"distinctAttribute":"year"}~unknown Z
+{"faceting":{"n":1,"maxValuesPerFacet":"a"},"a":1}~unknown a
+{"faceting":{"n":1,"maxValuesPerFacet":"a"}}~shape faceting.maxValuesPerFacet
+{"faceting":{"a":1,"maxValuesPerFacet":"a"}}~unknown faceting.a"#;
 
 #[test]
 fn the_first_member_in_byte_order_decides(rt: HostRuntime) {
-    assert_faults(
-        &rt,
-        rt.alloc(),
-        &[
-            (
-                "{\"stopWords\":1,\"foo\":1,\"rankingRules\":[\"x\"]}",
-                "unknown foo",
-            ),
-            (
-                "{\"stopWords\":1,\"rankingRules\":[\"words\",\"x\",\"y\"]}",
-                "rule x",
-            ),
-            ("{\"Z\":1,\"distinctAttribute\":\"year\"}", "unknown Z"),
-            (
-                "{\"faceting\":{\"n\":1,\"maxValuesPerFacet\":\"a\"},\"a\":1}",
-                "unknown a",
-            ),
-            (
-                "{\"faceting\":{\"n\":1,\"maxValuesPerFacet\":\"a\"}}",
-                "shape faceting.maxValuesPerFacet",
-            ),
-            (
-                "{\"faceting\":{\"a\":1,\"maxValuesPerFacet\":\"a\"}}",
-                "unknown faceting.a",
-            ),
-        ],
-    );
+    assert_faults(&rt, rt.alloc(), FIRST);
 }
 
 // A patch that gives a member a list of so many texts.
@@ -270,6 +208,12 @@ fn long_list(rt: &impl Abort, alloc: Global, name: &str, text: &str, count: u32)
     patch.push_str("\"]}").expect(rt, "memory");
     patch
 }
+
+const LIMITS: &str = r#"{"faceting":{"maxValuesPerFacet":1000000}}~none
+{"faceting":{"maxValuesPerFacet":1000001}}~shape faceting.maxValuesPerFacet
+{"pagination":{"maxTotalHits":0}}~none
+{"pagination":{"maxTotalHits":1000001}}~shape pagination.maxTotalHits
+{"pagination":{"maxTotalHits":18446744073709551616}}~shape pagination.maxTotalHits"#;
 
 #[test]
 fn the_limits_at_their_edges(rt: HostRuntime) {
@@ -298,26 +242,7 @@ fn the_limits_at_their_edges(rt: HostRuntime) {
         let shown = fault_of(&rt, alloc, patch.as_str());
         assert_eq!(rt; shown.as_str(), want, "{count} of {name}");
     }
-    assert_faults(
-        &rt,
-        alloc,
-        &[
-            ("{\"faceting\":{\"maxValuesPerFacet\":1000000}}", "none"),
-            (
-                "{\"faceting\":{\"maxValuesPerFacet\":1000001}}",
-                "shape faceting.maxValuesPerFacet",
-            ),
-            ("{\"pagination\":{\"maxTotalHits\":0}}", "none"),
-            (
-                "{\"pagination\":{\"maxTotalHits\":1000001}}",
-                "shape pagination.maxTotalHits",
-            ),
-            (
-                "{\"pagination\":{\"maxTotalHits\":18446744073709551616}}",
-                "shape pagination.maxTotalHits",
-            ),
-        ],
-    );
+    assert_faults(&rt, alloc, LIMITS);
 }
 
 fn rule_shown(rt: &impl Abort, alloc: Global, text: &str) -> String {

@@ -6,9 +6,6 @@ use std::process::Abort;
 use std::str;
 use std::test::Fail;
 
-const FILMS: &str =
-    "[{\"id\":1,\"title\":\"The Dark Knight\",\"year\":2008},{\"id\":2,\"title\":\"Dark Knight Rises\",\"year\":2012},{\"id\":3,\"title\":\"Knight of the Dark\",\"year\":1999},{\"id\":4,\"title\":\"Darkness\",\"year\":2002}]";
-
 // A method, a target, a body, and the status and the body of the reply.
 const INDEXES: &str = r#"GET~/health~~200~{"status":"available"}
 POST~/indexes~{"uid":"e"}~202~{"indexUid":"e","status":"succeeded","taskUid":0,"type":"indexCreation"}
@@ -22,7 +19,8 @@ DELETE~/indexes/b~~202~{"indexUid":"b","status":"succeeded","taskUid":2,"type":"
 GET~/indexes?limit=0~~200~{"limit":0,"offset":0,"results":[],"total":1}"#;
 
 const DOCUMENTS: &str =
-    r#"POST~/indexes/m/search~{"q":"knight rises","limit":1}~200~{"estimatedTotalHits":3,"hits":[{"id":2,"title":"Dark Knight Rises","year":2012}],"limit":1,"offset":0,"query":"knight rises"}
+    r#"POST~/indexes/m/documents~[{"id":1,"title":"The Dark Knight","year":2008},{"id":2,"title":"Dark Knight Rises","year":2012},{"id":3,"title":"Knight of the Dark","year":1999},{"id":4,"title":"Darkness","year":2002}]~202~{"indexUid":"m","status":"succeeded","taskUid":0,"type":"documentAdditionOrUpdate"}
+POST~/indexes/m/search~{"q":"knight rises","limit":1}~200~{"estimatedTotalHits":3,"hits":[{"id":2,"title":"Dark Knight Rises","year":2012}],"limit":1,"offset":0,"query":"knight rises"}
 PUT~/indexes/m/documents~[{"id":3,"genres":["Western"]},{"id":"n","":[[{"a.b":[]}]]}]~202~{"indexUid":"m","status":"succeeded","taskUid":1,"type":"documentAdditionOrUpdate"}
 GET~/indexes/m/documents/3~~200~{"genres":["Western"],"id":3,"title":"Knight of the Dark","year":1999}
 GET~/indexes/m/documents/n~~200~{"":[[{"a.b":[]}]],"id":"n"}
@@ -39,7 +37,9 @@ GET~/indexes/m/documents~~200~{"limit":20,"offset":0,"results":[],"total":0}
 GET~/indexes/m~~200~{"primaryKey":"id","uid":"m"}"#;
 
 // A method, a target, a body, and the status, the code and the message of the refusal.
-const REFUSALS: &str = r#"GET~/indexes/z~~404~index_not_found~No index `z`.
+const REFUSALS: &str =
+    r#"POST~/indexes/m/documents~[{"id":1}]~202~{"indexUid":"m","status":"succeeded","taskUid":0,"type":"documentAdditionOrUpdate"}
+GET~/indexes/z~~404~index_not_found~No index `z`.
 DELETE~/indexes/z~~404~index_not_found~No index `z`.
 GET~/indexes/z/documents~~404~index_not_found~No index `z`.
 DELETE~/indexes/z/documents~~404~index_not_found~No index `z`.
@@ -118,6 +118,14 @@ POST~/indexes/n/documents~{"id":"p","a":[{"b":"left"},{"b":["right"]}],"a.b":"to
 POST~/indexes/n/search~{"q":"left right top"}~200~{"estimatedTotalHits":1,"hits":[{"a":[{"b":"left"},{"b":["right"]}],"a.b":"top","id":"p"}],"limit":20,"offset":0,"query":"left right top"}
 PATCH~/indexes/n/settings~{"searchableAttributes":["a"]}~202~{"indexUid":"n","status":"succeeded","taskUid":2,"type":"settingsUpdate"}
 POST~/indexes/n/search~{"q":"top","attributesToRetrieve":["a.b"]}~200~{"estimatedTotalHits":1,"hits":[{"a.b":"top"}],"limit":20,"offset":0,"query":"top"}"#;
+
+const CHANGES_SPENT: &str =
+    r#"POST~/indexes/m/documents~{"id":1}~202~{"indexUid":"m","status":"succeeded","taskUid":999999999,"type":"documentAdditionOrUpdate"}
+POST~/indexes/m/documents~[]~400~changes_spent~No more changes.
+PATCH~/indexes/m/settings~{}~400~changes_spent~No more changes.
+PATCH~/indexes/z/settings~{}~400~changes_spent~No more changes.
+DELETE~/indexes/m~~400~changes_spent~No more changes.
+POST~/indexes/m/documents~{}~400~missing_document_id~Document 1 has no `id`."#;
 
 // The status and the body of the reply to a request.
 fn reply_to(
@@ -215,32 +223,14 @@ fn an_index_from_its_making_to_its_end(rt: HostRuntime) -> Result<(), Fail> {
 
 #[test]
 fn documents_added_updated_removed_and_shown(rt: HostRuntime) -> Result<(), Fail> {
-    let alloc = rt.alloc();
-    let mut machine = Machine::new(alloc)?;
-    accepts(
-        &rt,
-        alloc,
-        &mut machine,
-        "POST",
-        "/indexes/m/documents",
-        FILMS,
-    )?;
-    check_table(&rt, alloc, &mut machine, DOCUMENTS)
+    let mut machine = Machine::new(rt.alloc())?;
+    check_table(&rt, rt.alloc(), &mut machine, DOCUMENTS)
 }
 
 #[test]
 fn each_refusal_alone_and_before_a_later_one(rt: HostRuntime) -> Result<(), Fail> {
-    let alloc = rt.alloc();
-    let mut machine = Machine::new(alloc)?;
-    accepts(
-        &rt,
-        alloc,
-        &mut machine,
-        "POST",
-        "/indexes/m/documents",
-        "[{\"id\":1}]",
-    )?;
-    check_table(&rt, alloc, &mut machine, REFUSALS)?;
+    let mut machine = Machine::new(rt.alloc())?;
+    check_table(&rt, rt.alloc(), &mut machine, REFUSALS)?;
     assert_eq!(rt; machine.changes(), 1);
     Ok(())
 }
@@ -273,39 +263,9 @@ fn numbers_at_their_limits_and_one_path_from_several_places(rt: HostRuntime) -> 
 
 #[test]
 fn the_last_change_that_is_accepted(rt: HostRuntime) -> Result<(), Fail> {
-    let alloc = rt.alloc();
-    let mut machine = Machine::new(alloc)?;
+    let mut machine = Machine::new(rt.alloc())?;
     machine.changes = 999_999_999;
-    let m = "/indexes/m/documents";
-    accepts(&rt, alloc, &mut machine, "POST", m, "{\"id\":1}")?;
-    let spent = refusal(alloc, "400", "changes_spent", "No more changes.")?;
-    refuses(&rt, alloc, &mut machine, "POST", m, "[]", &spent)?;
-    refuses(
-        &rt,
-        alloc,
-        &mut machine,
-        "PATCH",
-        "/indexes/m/settings",
-        "{}",
-        &spent,
-    )?;
-    refuses(
-        &rt,
-        alloc,
-        &mut machine,
-        "PATCH",
-        "/indexes/z/settings",
-        "{}",
-        &spent,
-    )?;
-    refuses(&rt, alloc, &mut machine, "DELETE", "/indexes/m", "", &spent)?;
-    let missing = refusal(
-        alloc,
-        "400",
-        "missing_document_id",
-        "Document 1 has no `id`.",
-    )?;
-    refuses(&rt, alloc, &mut machine, "POST", m, "{}", &missing)?;
+    check_table(&rt, rt.alloc(), &mut machine, CHANGES_SPENT)?;
     assert_eq!(rt; machine.changes(), 1_000_000_000);
     Ok(())
 }

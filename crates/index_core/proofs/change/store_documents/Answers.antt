@@ -1,74 +1,49 @@
-use Rattle.std.proofs.Common.{◌≡◌, ◌++◌, length, sym, ap, ap₂, ◌∙◌, subst, map}
+use Rattle.std.proofs.Common.{◌≡◌, ◌++◌, sym, ap, ap₂, ◌∙◌, subst, map, Some}
+use Rattle.std.proofs.lemmas.List.{length-map}
+use Rattle.search_base.specs.declared.document.DocId.{DocId}
 use Rattle.doc_store.specs.Store.{all_stored, ids_given}
 use Rattle.doc_store.specs.StoreView.{IsAdmitted}
-use Rattle.doc_store.proofs.SoundLemmas.{IsWhole}
 use Rattle.index_core.specs.Kept.{AreKept}
-use Rattle.index_core.specs.Putting.{put_all, HavePlaces, rows_come, rows_new, AreNewWithin}
-use Rattle.index_core.specs.Slots.{kept_from, AreInSlots, HaveSlots, slots_after}
-use Rattle.index_core.proofs.KeptSlots.{come-slots}
-use Rattle.index_core.proofs.Putting.{admitted-puts}
+use Rattle.index_core.specs.Matching.{ranks_from}
+use Rattle.index_core.specs.Putting.{rows_shown}
+use Rattle.index_core.specs.Slots.{AreInSlots}
+use Rattle.index_core.proofs.Staging.{Stores, admitted-stores}
 use Rattle.index_core.proofs.change.store_documents.Goals as goal
+use Rattle.index_core.proofs.change.store_documents.Goals.{After-as_slice-in-Ok}
+
+-- the rows that are staged are those of the documents, and may be put
+stores : (c : After-as_slice-in-Ok) → Stores c.args.settings.now c.stage_rows.new.kept.slots (map (λ id. id.0) c.as_slice-in-Ok.result.now) c.stage_rows.new.kept.staged (all_stored c.args.documents.items c.args.store.now.content)
+stores c =
+    let st = c.args.settings.now in
+    let s = c.args.store.now.content in
+    let rs = c.args.documents.items in
+    let a = c.in_ok-admission.admission in
+    let paths = c.in_ok-paths.paths.items in
+    let ids = map (λ (id : DocId). id.0) c.as_slice-in-Ok.result.now in
+    let staged = c.stage_rows.new.kept.staged in
+    let admitted : IsAdmitted s rs a = subst (λ v. IsAdmitted s v a) c.as_slice.ensures.value c.in_ok-admission.ensures.admitted in
+    let all : paths ≡ s.paths ++ a.added = c.in_ok-paths.ensures ∙ ap₂ ◌++◌ c.paths.ensures c.added.ensures in
+    let given : ids ≡ ids_given rs s = ap (map (λ (id : DocId). id.0)) c.as_slice-in-Ok.ensures.value ∙ c.commit-ids.ensures.ids ∙ c.in_ok-plan.ensures.plan.ids ∙ ap₂ ids_given c.in_ok-plan.ensures.staged c.prepare.ensures.content in
+    let shown : staged ≡ rows_shown (ranks_from st 0 paths) paths (map Some rs) = c.in-Ok.ensures.staged ∙ ap₂ (λ ps ds. rows_shown (ranks_from st 0 ps) ps ds) c.as_slice-2.ensures.value (c.staged.ensures ∙ ap (map Some) c.in_ok-plan.ensures.staged) in
+    subst (λ v. Stores st v ids staged (all_stored rs s)) (sym c.stage_rows.ensures.slots) (admitted-stores st rs s a c.args.kept.now.slots ids staged paths c.requires admitted all given shown)
+
+pub put_all-requires-clause-many : goal.put_all-requires-clause-many
+put_all-requires-clause-many c = sym (length-map c.as_slice-in-Ok.result.now (λ (id : DocId). id.0)) ∙ (stores c).counted
 
 pub put_all-requires-clause-places : goal.put_all-requires-clause-places
-put_all-requires-clause-places c =
-    let st = c.args.settings.now in
-    let s = c.args.store.now.content in
-    let rs = c.args.documents.items in
-    let a = c.in_ok-admission.admission in
-    let paths = c.in_ok-paths.paths.items in
-    let table = c.reserve.new.self.table in
-    let come = rows_new table c.in_ok-come.come.items in
-    let old = c.args.kept.now.slots in
-    let stays : c.reserve.new.self.slots ≡ old = c.reserve.ensures.slots ∙ c.rows_of_new.ensures.slots in
-    let admitted : IsAdmitted s rs a = subst (λ v. IsAdmitted s v a) c.as_slice.ensures.value c.in_ok-admission.ensures.admitted in
-    let all : paths ≡ s.paths ++ a.added = c.in_ok-paths.ensures ∙ ap₂ ◌++◌ c.paths.ensures c.added.ensures in
-    let given : come ≡ rows_come st paths rs a.ids = ap (λ t. rows_new t c.in_ok-come.come.items) c.reserve.ensures.table ∙ c.in_ok-come.ensures.rows ∙ ap (λ v. rows_come st v c.as_slice-3.result.now (map (λ id. id.0) c.ids.result.now)) c.as_slice-2.ensures.value ∙ ap (λ v. rows_come st paths v (map (λ id. id.0) c.ids.result.now)) c.as_slice-3.ensures.value ∙ ap (rows_come st paths rs) c.ids.ensures in
-    subst (λ v. HavePlaces come (kept_from 0 v)) (sym stays) (admitted-puts st rs s a (kept_from 0 old) come paths c.requires.kept admitted all given).places
+put_all-requires-clause-places c = (stores c).places
 
 pub put_all-requires-clause-slots : goal.put_all-requires-clause-slots
-put_all-requires-clause-slots c =
+put_all-requires-clause-slots c = (stores c).have
+
+pub returns-in-Ok-clause-kept : goal.returns-in-Ok-clause-kept
+returns-in-Ok-clause-kept c =
     let st = c.args.settings.now in
     let s = c.args.store.now.content in
     let rs = c.args.documents.items in
-    let a = c.in_ok-admission.admission in
-    let paths = c.in_ok-paths.paths.items in
-    let table = c.reserve.new.self.table in
-    let come = rows_new table c.in_ok-come.come.items in
-    let old = c.args.kept.now.slots in
-    let stays : c.reserve.new.self.slots ≡ old = c.reserve.ensures.slots ∙ c.rows_of_new.ensures.slots in
-    let admitted : IsAdmitted s rs a = subst (λ v. IsAdmitted s v a) c.as_slice.ensures.value c.in_ok-admission.ensures.admitted in
-    let all : paths ≡ s.paths ++ a.added = c.in_ok-paths.ensures ∙ ap₂ ◌++◌ c.paths.ensures c.added.ensures in
-    let given : come ≡ rows_come st paths rs a.ids = ap (λ t. rows_new t c.in_ok-come.come.items) c.reserve.ensures.table ∙ c.in_ok-come.ensures.rows ∙ ap (λ v. rows_come st v c.as_slice-3.result.now (map (λ id. id.0) c.ids.result.now)) c.as_slice-2.ensures.value ∙ ap (λ v. rows_come st paths v (map (λ id. id.0) c.ids.result.now)) c.as_slice-3.ensures.value ∙ ap (rows_come st paths rs) c.ids.ensures in
-    let comes : come ≡ rows_come st paths rs (ids_given rs s) = given ∙ ap (rows_come st paths rs) admitted.ids in
-    let sound = c.requires.kept.sound in
-    let whole : IsWhole s = record { increase = sound.increase; apart = sound.apart; once = sound.once; cover = sound.cover } in
-    let slots = come-slots st paths rs s whole in
-    subst (λ v. HaveSlots come (length v)) (sym stays) (subst (HaveSlots come) (sym c.requires.many) (subst (λ v. HaveSlots v s.next_id) (sym comes) slots.0))
-
-pub put_all-requires-clause-within : goal.put_all-requires-clause-within
-put_all-requires-clause-within c = subst (λ t. AreNewWithin t c.in_ok-come.come.items) (sym c.reserve.ensures.table) c.in_ok-come.ensures.within
-
-pub returns-clause-kept : goal.returns-clause-kept
-returns-clause-kept c =
-    let st = c.args.settings.now in
-    let s = c.args.store.now.content in
-    let rs = c.args.documents.items in
-    let a = c.in_ok-admission.admission in
-    let paths = c.in_ok-paths.paths.items in
-    let table = c.reserve.new.self.table in
-    let come = rows_new table c.in_ok-come.come.items in
-    let old = c.args.kept.now.slots in
-    let stays : c.reserve.new.self.slots ≡ old = c.reserve.ensures.slots ∙ c.rows_of_new.ensures.slots in
-    let admitted : IsAdmitted s rs a = subst (λ v. IsAdmitted s v a) c.as_slice.ensures.value c.in_ok-admission.ensures.admitted in
-    let all : paths ≡ s.paths ++ a.added = c.in_ok-paths.ensures ∙ ap₂ ◌++◌ c.paths.ensures c.added.ensures in
-    let given : come ≡ rows_come st paths rs a.ids = ap (λ t. rows_new t c.in_ok-come.come.items) c.reserve.ensures.table ∙ c.in_ok-come.ensures.rows ∙ ap (λ v. rows_come st v c.as_slice-3.result.now (map (λ id. id.0) c.ids.result.now)) c.as_slice-2.ensures.value ∙ ap (λ v. rows_come st paths v (map (λ id. id.0) c.ids.result.now)) c.as_slice-3.ensures.value ∙ ap (rows_come st paths rs) c.ids.ensures in
-    let comes : come ≡ rows_come st paths rs (ids_given rs s) = given ∙ ap (rows_come st paths rs) admitted.ids in
-    let sound = c.requires.kept.sound in
-    let whole : IsWhole s = record { increase = sound.increase; apart = sound.apart; once = sound.once; cover = sound.cover } in
-    let slots = come-slots st paths rs s whole in
-    let puts = admitted-puts st rs s a (kept_from 0 old) come paths c.requires.kept admitted all given in
-    let after : c.commit.new.self.content ≡ all_stored rs s = c.commit.ensures ∙ ap₂ all_stored c.in_ok-plan.ensures.rows c.prepare.ensures.content in
+    let all = stores (goal.at.returns-in-Ok-clause-kept c).After-as_slice-in-Ok in
+    let after : c.commit-ids.new.self.content ≡ all_stored rs s = c.commit-ids.ensures.content ∙ ap₂ all_stored c.in_ok-plan.ensures.staged c.prepare.ensures.content in
     subst (AreInSlots c.put_all.new.kept.slots st) (sym after) (record {
-      kept = subst (λ v. AreKept v st (all_stored rs s)) (sym (c.put_all.ensures.rows ∙ ap (λ v. put_all come (kept_from 0 v)) stays)) puts.becomes;
-      many = c.put_all.ensures.slots ∙ ap (λ v. slots_after come (length v)) stays ∙ ap (slots_after come) c.requires.many ∙ ap (λ v. slots_after v s.next_id) comes ∙ slots.1;
+      kept = subst (λ v. AreKept v st (all_stored rs s)) (sym c.put_all.ensures.rows) all.becomes;
+      many = c.put_all.ensures.slots ∙ all.many;
     })

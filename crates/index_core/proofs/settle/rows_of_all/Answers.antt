@@ -1,10 +1,10 @@
 use Rattle.std.proofs.Common.{◌≡◌, ◌+◌, ◌∷◌, ◌++◌, [], drop, length, map, sym, ap, ◌∙◌, arith, append-nil, get_or, None}
-use Rattle.std.proofs.lemmas.List.{drop_all, get_or_default}
+use Rattle.std.proofs.lemmas.List.{drop_all, get_or_default, length-append}
 use Rattle.doc_rows.specs.Rows.{rows_of}
 use Rattle.doc_store.specs.Store.{Row}
 use Rattle.index_core.specs.Kept.{kept_at}
 use Rattle.index_core.specs.Matching.{ranks_from}
-use Rattle.index_core.specs.Slots.{kept_from}
+use Rattle.index_core.specs.Slots.{kept_from, anew}
 use Rattle.index_core.proofs.Finding.{rows-there}
 use Rattle.index_core.proofs.KeptSlots.{slots-next, length-slots, anew_from, anew-more, anew-length, anew-kept}
 use Rattle.index_core.proofs.settle.rows_of_all.Goals as goal
@@ -20,6 +20,8 @@ loop-at-preserved g c =
     let size : length (kept_from at (drop at kept)) ≡ length (kept_from at (slot ∷ [])) + length (kept_from (at + 1) (drop (at + 1) kept)) = ap (λ v. length (kept_from at v)) here ∙ length-slots at slot (drop (at + 1) kept) in
     record {
       told = anew-more at ranks s kept slot c.loop-at.all.slots c.add_slot.new.all.slots (anew_from 0 ranks s kept) (omega arith) (get_or_default kept at None slot (omega arith)) c.in_ok-add_slot.ensures.rows c.loop-at.invariant.told;
+      staged = c.in_ok-add_slot.ensures.staged;
+      place = ap length c.in_ok-add_slot.ensures.rows ∙ length-append c.loop-at.all.slots (anew at ranks s slot ∷ []) ∙ (let p = c.loop-at.invariant.place in omega arith);
       read = omega (arith, c.loop-at.invariant.read, c.in_ok-add_slot.ensures.fetches, size);
     }
 
