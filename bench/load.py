@@ -5,10 +5,11 @@
 
 Small documents (about 80 bytes) in bodies of 1,000: 1,000, 10,000 and 100,000 of them; then one body of nearly 16 MiB
 of catalogue-like documents (about 1 KiB), and one of nearly 16 MiB of small ones. For each it prints documents a second,
-the time a document against that of the first load, and the peak memory against the bytes of JSON sent, whole and beside
-what a process takes that has stored one document. With `--no-words` the index searches no path, so that it keeps the
-documents alone. The shortest time of the rounds counts, and the median of the peaks: between two runs the same process
-differs by up to 0.2 MB. Nothing tests these numbers.
+the time a document against that of the first load, and the peak memory against the bytes of JSON sent: whole, and what the
+load adds to a process that has stored one document. That is counted without the pages of files (the program and its
+libraries), of which two runs of one process have up to 0.2 MB more or less. With `--no-words` the index searches no path,
+so that it keeps the documents alone. The shortest time of the rounds counts, and the median of the peaks. Nothing tests
+these numbers.
 """
 import argparse
 import os
@@ -74,8 +75,14 @@ def send(pipe, data):
     pipe.flush()
 
 
+def entry(file, name):
+    """The bytes that a file of /proc has under a name."""
+    with open(file) as lines:
+        return next(int(line.split()[1]) * 1024 for line in lines if line.startswith(name))
+
+
 def run(binary, requests):
-    """(seconds, peak bytes) until the last of the replies has come."""
+    """(seconds, peak bytes, those without pages of files) until the last of the replies has come."""
     server = subprocess.Popen([binary, "pipe"], stdin=subprocess.PIPE, stdout=subprocess.PIPE)
     begun = time.monotonic()
     writer = threading.Thread(target=send, args=(server.stdin, b"".join(requests)))
@@ -89,18 +96,19 @@ def run(binary, requests):
     seconds = time.monotonic() - begun
     writer.join()
     # Its input is still open, so it waits for more and its peak can be read.
-    with open(f"/proc/{server.pid}/status") as status:
-        peak = next(int(line.split()[1]) * 1024 for line in status if line.startswith("VmHWM"))
+    peak = entry(f"/proc/{server.pid}/status", "VmHWM:")
+    held = f"/proc/{server.pid}/smaps_rollup"
+    own = peak - (entry(held, "Rss:") - entry(held, "Anonymous:"))
     server.stdin.close()
     if server.wait() != 0 or replies.count(b"HTTP/1.1 202 ") != len(requests):
         sys.exit("load.py: a request was not accepted")
-    return seconds, peak
+    return seconds, peak, own
 
 
 def runs(binary, rounds, requests):
-    """(least seconds, median peak bytes) of some runs."""
-    seconds, peaks = zip(*(run(binary, requests) for _ in range(rounds)))
-    return min(seconds), statistics.median(peaks)
+    """(least seconds, median peak bytes, median of those without pages of files) of some runs."""
+    seconds, peaks, own = zip(*(run(binary, requests) for _ in range(rounds)))
+    return min(seconds), statistics.median(peaks), statistics.median(own)
 
 
 def measure(binary, rounds, name, count, sent, first):
@@ -122,12 +130,12 @@ def main():
         count, body = large_body(make)
         loads.append(measure(asked.binary, asked.rounds, name, count, [body], first))
     base = loads[0][3] / loads[0][1]
-    process = runs(asked.binary, asked.rounds, [request(body) for body in bodies(1, 1)])[1]
-    print(f"the process itself: {process / 1e6:.2f} MB")
-    print(f"{'load':>18} {'documents':>10} {'MB':>7} {'docs/s':>9} {'MB/s':>7} {'time/doc':>9} {'peak/JSON':>10} {'beside':>7}")
-    for name, count, size, seconds, peak in loads:
+    _, whole, process = runs(asked.binary, asked.rounds, [request(body) for body in bodies(1, 1)])
+    print(f"the process itself: {whole / 1e6:.2f} MB, without pages of files {process / 1e6:.2f} MB")
+    print(f"{'load':>18} {'documents':>10} {'MB':>7} {'docs/s':>9} {'MB/s':>7} {'time/doc':>9} {'peak/JSON':>10} {'added':>7}")
+    for name, count, size, seconds, peak, own in loads:
         print(f"{name:>18} {count:>10} {size / 1e6:>7.2f} {count / seconds:>9.0f} {size / 1e6 / seconds:>7.1f}"
-              f" {seconds / count / base:>9.2f} {peak / size:>10.2f} {(peak - process) / size:>7.2f}")
+              f" {seconds / count / base:>9.2f} {peak / size:>10.2f} {(own - process) / size:>7.2f}")
 
 
 if __name__ == "__main__":
