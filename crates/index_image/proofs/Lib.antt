@@ -1,11 +1,8 @@
-mod Loop
-mod Texts
-mod Found
-mod Again
 mod NameLemmas
 mod Lists
 mod Numbers
-mod Back
+mod Printed
+mod Pieces
 mod Above
 mod Fitting
 mod ImageAgain
