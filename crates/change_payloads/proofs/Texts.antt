@@ -4,7 +4,7 @@ use Rattle.std.proofs.lemmas.Bool.{false_from_ne_true}
 use Rattle.std.proofs.lemmas.Slice.Eq.{bytes_eq-Decides}
 use Rattle.std.proofs.lemmas.Str.{IsUtf8-from_is_utf8, is_utf8-from_IsUtf8}
 use Rattle.std.specs.Prelude.{option_and_then}
-use Rattle.std.specs.Str.{IsUtf8, is_utf8, bytes_eq}
+use Rattle.std.specs.Str.{IsUtf8, is_utf8}
 use Rattle.serde_json.specs.Data.{Data, string}
 use Rattle.serde_json.specs.Read.{read}
 use Rattle.serde_json.specs.View.{items_of}

@@ -17,7 +17,7 @@ use Rattle.change_payloads.specs.Spelling.{text, optional}
 use Rattle.index_image.specs.State.{is_above, most_documents, IsPrimaryKey, IsNew, IsPlaced, IsIndex, IsState}
 use Rattle.change_payloads.proofs.Again.{number_again, text_again, optional_again}
 use Rattle.index_image.proofs.Lists.{up_to_again, counted_again}
-use Rattle.index_image.proofs.Numbers.{changes_again, long_again}
+use Rattle.index_image.proofs.LongFields.{changes_again, long_again}
 
 uid_again : (before : List IndexData) (uid rest : List ℕ) → IsText uid → is_uid uid ≡ true → is_above before uid ≡ true → uid_at before (text uid ++ rest) ≡ Ok (uid, rest)
 unfolding uid_at

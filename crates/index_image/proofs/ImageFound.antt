@@ -27,7 +27,7 @@ use Rattle.change_payloads.specs.Spelling.{text, optional}
 use Rattle.index_image.specs.State.{is_above, settings_of, printed_at, if_printed, accepted, is_next, external_ids, fits, most_documents, IsPrimaryKey, IsNew, IsPlaced, IsIndex, IsState}
 use Rattle.change_payloads.proofs.Found.{IsBytes, IsBytes-rest, Takes, Takes-then, bind_ok, guard_ended, ok_is, if_some, some_is, then_some, held_ok, number_takes, text_takes, optional_takes, document_own, nil_from_length}
 use Rattle.index_image.proofs.Lists.{up_to_takes, counted_takes}
-use Rattle.index_image.proofs.Numbers.{changes_take, long_takes}
+use Rattle.index_image.proofs.LongFields.{changes_take, long_takes}
 
 -- ---- the fields of an index
 
