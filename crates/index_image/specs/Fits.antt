@@ -1,6 +1,6 @@
 -- Which states have a spelling that is read again: their texts are UTF-8, their settings and documents are read back from
 -- their compact texts, and no length or number passes its bytes.
-use Rattle.std.specs.Prelude.{◌≡◌, ℕ, ◌<◌, ◌^◌, List, length, Some}
+use Rattle.std.specs.Prelude.{◌≡◌, ◌<◌, ◌^◌, length, Some}
 use Rattle.std.specs.List.{AllByRecursion}
 use Rattle.serde_json.specs.Written.{compact_text}
 use Rattle.doc_values.specs.Stored.{document_at}
