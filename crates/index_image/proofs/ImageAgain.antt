@@ -7,16 +7,17 @@ use Rattle.serde_json.specs.Written.{compact_text}
 use Rattle.doc_values.specs.Ids.{is_uid}
 use Rattle.index_settings.specs.View.{SettingsView}
 use Rattle.index_image.specs.declared.rows.ImageDocument.{ImageDocument}
-use Rattle.index_image.specs.Change.{or_spot}
-use Rattle.index_image.specs.Fits.{IsText, IsKey, ArePrinted, IsKept, HasIndexText, HasImage}
+use Rattle.change_payloads.specs.Change.{or_spot}
+use Rattle.change_payloads.specs.Fits.{IsText, IsKey}
+use Rattle.index_image.specs.Fits.{ArePrinted, IsKept, HasIndexText, HasImage}
 use Rattle.index_image.specs.Image.{counted_list_at, uid_at, key_at, path_at, settings_at, id_at, fitting_at, image_document_at, index_at, version_at, whole_image, state_at}
 use Rattle.index_image.specs.Layout.{long, settings_text, document_bytes, list_bytes, index_bytes, image_bytes}
 use Rattle.index_image.specs.Rows.{IndexData, ImageData}
-use Rattle.index_image.specs.Spelling.{text, optional}
+use Rattle.change_payloads.specs.Spelling.{text, optional}
 use Rattle.index_image.specs.State.{is_above, most_documents, IsPrimaryKey, IsNew, IsPlaced, IsIndex, IsState}
-use Rattle.index_image.proofs.Again.{number_again, text_again, optional_again}
+use Rattle.change_payloads.proofs.Again.{number_again, text_again, optional_again}
 use Rattle.index_image.proofs.Lists.{up_to_again, counted_again}
-use Rattle.index_image.proofs.Numbers.{changes_again, long_again}
+use Rattle.index_image.proofs.LongFields.{changes_again, long_again}
 
 uid_again : (before : List IndexData) (uid rest : List ℕ) → IsText uid → is_uid uid ≡ true → is_above before uid ≡ true → uid_at before (text uid ++ rest) ≡ Ok (uid, rest)
 unfolding uid_at

@@ -13,21 +13,21 @@ use Rattle.doc_values.specs.Ids.{is_uid}
 use Rattle.index_settings.specs.View.{SettingsView}
 use Rattle.index_settings.specs.Patch.{patch_of}
 use Rattle.index_settings.specs.Table.{defaults}
-use Rattle.index_image.specs.declared.fault.ImageFault.{ImageFault}
+use Rattle.change_payloads.specs.declared.fault.ImageFault.{ImageFault}
 use Rattle.index_image.specs.declared.rows.ImageDocument.{ImageDocument}
 use Rattle.index_image.specs.declared.rows.ImageRows.{ImageRows}
-use Rattle.index_image.specs.Answers.{Decodes}
-use Rattle.index_image.specs.Change.{or_spot}
-use Rattle.index_image.specs.Fields.{◌>>=◌, number_at, piece_at, held_or, text_at, optional_at}
+use Rattle.change_payloads.specs.Answers.{Decodes}
+use Rattle.change_payloads.specs.Change.{or_spot}
+use Rattle.change_payloads.specs.Fields.{◌>>=◌, number_at, piece_at, held_or, text_at, optional_at}
 use Rattle.index_image.specs.Image.{up_to_at, allowed, counted_list_at, uid_at, if_some_text, key_at, path_at, settings_at, id_at, if_fits, fitting, fitting_at, image_document_at, index_at, version_at, whole_image, state_at}
 use Rattle.index_image.specs.Layout.{long, settings_text, document_bytes, list_bytes, index_bytes, image_bytes}
 use Rattle.index_image.specs.Names.{has_name}
 use Rattle.index_image.specs.Rows.{IndexData, ImageData, image_view}
-use Rattle.index_image.specs.Spelling.{text, optional}
+use Rattle.change_payloads.specs.Spelling.{text, optional}
 use Rattle.index_image.specs.State.{is_above, settings_of, printed_at, if_printed, accepted, is_next, external_ids, fits, most_documents, IsPrimaryKey, IsNew, IsPlaced, IsIndex, IsState}
-use Rattle.index_image.proofs.Found.{IsBytes, IsBytes-rest, Takes, Takes-then, bind_ok, guard_ended, ok_is, if_some, some_is, then_some, held_ok, number_takes, text_takes, optional_takes, document_own, nil_from_length}
+use Rattle.change_payloads.proofs.Found.{IsBytes, IsBytes-rest, Takes, Takes-then, bind_ok, guard_ended, ok_is, if_some, some_is, then_some, held_ok, number_takes, text_takes, optional_takes, document_own, nil_from_length}
 use Rattle.index_image.proofs.Lists.{up_to_takes, counted_takes}
-use Rattle.index_image.proofs.Numbers.{changes_take, long_takes}
+use Rattle.index_image.proofs.LongFields.{changes_take, long_takes}
 
 -- ---- the fields of an index
 

@@ -6,8 +6,8 @@ use Rattle.doc_values.specs.Ids.{is_uid}
 use Rattle.doc_values.specs.Stored.{document_at}
 use Rattle.index_settings.specs.View.{SettingsView}
 use Rattle.index_image.specs.declared.rows.ImageDocument.{ImageDocument}
-use Rattle.index_image.specs.Change.{Spot, or_spot}
-use Rattle.index_image.specs.Fields.{◌>>=◌, byte_at, number_at, piece_at, held_or, text_at, optional_at}
+use Rattle.change_payloads.specs.Change.{Spot, or_spot}
+use Rattle.change_payloads.specs.Fields.{◌>>=◌, byte_at, number_at, piece_at, held_or, text_at, optional_at}
 use Rattle.index_image.specs.Names.{has_name}
 use Rattle.index_image.specs.Rows.{IndexData, ImageData}
 use Rattle.index_image.specs.State.{is_above, settings_of, is_next, external_ids, fits, most_documents}

@@ -7,7 +7,7 @@ use Rattle.index_settings.specs.View.{SettingsView}
 use Rattle.index_settings.specs.Json.{settings_data}
 use Rattle.index_image.specs.declared.rows.ImageDocument.{ImageDocument}
 use Rattle.index_image.specs.Rows.{IndexData, ImageData}
-use Rattle.index_image.specs.Spelling.{text, optional}
+use Rattle.change_payloads.specs.Spelling.{text, optional}
 
 -- a length of eight bytes, and that many bytes
 abbrev pub long : List ℕ → List ℕ

@@ -1,8 +1,4 @@
--- Changes and states as bytes.
-pub mod Spelling
-pub mod Fields
-pub mod Change
-pub mod Answers
+-- States as bytes.
 pub mod Fits
 pub mod Rows
 pub mod Layout

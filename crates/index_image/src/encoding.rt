@@ -1,15 +1,16 @@
 ghost use Rattle.std.specs.Prelude.{◌≡◌, ◌<◌, ◌^◌, ◌++◌, map, length, Ok, IfOk, OnOk};
 ghost use Rattle.std.specs.Int.{w32, to_le_bytes};
 ghost use Rattle.std.specs.List.{flat_map, AllByRecursion};
-ghost use Rattle.index_image.specs.Fits.{IsText, ArePrinted, IsKept, HasIndexText, HasImage};
+ghost use Rattle.change_payloads.specs.Fits.{IsText};
+ghost use Rattle.index_image.specs.Fits.{ArePrinted, IsKept, HasIndexText, HasImage};
 ghost use Rattle.index_image.specs.Image.{state_at};
 ghost use Rattle.index_image.specs.Layout.{long, settings_text, document_bytes as bytes_of_document, list_bytes, index_bytes, image_bytes};
 ghost use Rattle.index_image.specs.Rows.{index_view, image_view};
-ghost use Rattle.index_image.specs.Spelling.{text as text_bytes};
+ghost use Rattle.change_payloads.specs.Spelling.{text as text_bytes};
 ghost use Rattle.index_image.specs.State.{IsState};
 
 use crate::rows::{ImageDocument, ImageIndex, ImageRows};
-use crate::writing::{put_length, put_optional, put_word};
+use change_payloads::{put_length, put_optional, put_word};
 use index_settings::{Settings, to_json};
 use search_base::{NoMemory, Word};
 use std::alloc::Global;

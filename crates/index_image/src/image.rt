@@ -1,16 +1,15 @@
 ghost use Rattle.std.specs.Prelude.{◌≡◌, [], Ok, IfOk, map};
-ghost use Rattle.index_image.specs.Answers.{Gives, Decodes};
+ghost use Rattle.change_payloads.specs.Answers.{Gives, Decodes};
 ghost use Rattle.index_image.specs.Fits.{HasImage};
 ghost use Rattle.index_image.specs.Image.{version_at, list_at, counted_list_at, index_at, whole_image, state_at};
 ghost use Rattle.index_image.specs.Layout.{image_bytes};
 ghost use Rattle.index_image.specs.Rows.{ImageData, index_view, image_view};
 ghost use Rattle.index_image.specs.State.{IsState};
 
-use crate::change::damage;
-use crate::fault::{ImageFault, ReadFault};
-use crate::fields::{u8_at, u32_up_to, u64_up_to};
 use crate::index::index;
+use crate::numbers::{u32_up_to, u64_up_to};
 use crate::rows::{ImageIndex, ImageRows};
+use change_payloads::{ImageFault, ReadFault, damage, u8_at};
 use std::alloc::Global;
 
 // The most changes and the most indexes of a state.

@@ -1,9 +1,7 @@
-mod changes;
 mod images;
 
-use crate::{ImageFault, ImageRows, decode, decode_change, encode, encode_change};
-use doc_values::{Change, ChangeKind};
-use search_base::Word;
+use crate::{ImageRows, decode, encode};
+use change_payloads::ImageFault;
 use std::alloc::{AllocError, Global};
 use std::test::Fail;
 
@@ -37,14 +35,6 @@ fn fault_line(alloc: Global, fault: ImageFault) -> Result<String, AllocError> {
     }
 }
 
-// What decoding a payload gives.
-fn change_line(alloc: Global, bytes: &[u8]) -> Result<String, AllocError> {
-    match decode_change(alloc, bytes) {
-        Ok(_) => "whole".to_string(alloc),
-        Err(fault) => fault_line(alloc, fault),
-    }
-}
-
 // What decoding an image gives: whole, where the state has these bytes again.
 fn state_line(alloc: Global, bytes: &[u8]) -> Result<String, Fail> {
     match decode(alloc, bytes) {
@@ -62,18 +52,6 @@ fn state_line(alloc: Global, bytes: &[u8]) -> Result<String, Fail> {
 }
 
 #[test]
-fn payloads_as_the_other_machine_says(rt: HostRuntime) -> Result<(), Fail> {
-    let alloc = rt.alloc();
-    for line in changes::TABLE.lines() {
-        let mut parts = line.split(',');
-        let bytes = bytes_of(alloc, parts.next().unwrap_or(""))?;
-        let found = change_line(alloc, &bytes)?;
-        assert_eq!(rt; found.as_str(), parts.next().unwrap_or(""), "{line}");
-    }
-    Ok(())
-}
-
-#[test]
 fn images_as_the_other_machine_says(rt: HostRuntime) -> Result<(), Fail> {
     let alloc = rt.alloc();
     for line in images::TABLE.lines() {
@@ -82,21 +60,6 @@ fn images_as_the_other_machine_says(rt: HostRuntime) -> Result<(), Fail> {
         let found = state_line(alloc, &bytes)?;
         assert_eq!(rt; found.as_str(), parts.next().unwrap_or(""), "{line}");
     }
-    Ok(())
-}
-
-// The worked example of the format.
-#[test]
-fn a_created_index_takes_seven_bytes(rt: HostRuntime) -> Result<(), Fail> {
-    let alloc = rt.alloc();
-    let change = Change {
-        uid: Word::new(alloc, "e")?,
-        kind: ChangeKind::Create { key: None },
-    };
-    let bytes = encode_change(alloc, &change)?;
-    assert_eq!(rt; bytes.as_slice(), b"\x01\x01\0\0\0e\0".as_slice());
-    assert_eq!(rt; change_line(alloc, &bytes)?.as_str(), "whole");
-    assert_eq!(rt; change_line(alloc, b"")?.as_str(), "damaged 0 end");
     Ok(())
 }
 
@@ -112,14 +75,5 @@ fn the_empty_state_takes_thirteen_bytes(rt: HostRuntime) -> Result<(), Fail> {
     assert_eq!(rt; bytes.as_slice(), expected);
     assert_eq!(rt; state_line(alloc, &bytes)?.as_str(), "whole");
     assert_eq!(rt; state_line(alloc, b"\x03")?.as_str(), "damaged 0 3");
-    Ok(())
-}
-
-// A float has no text of its own: it is damage at the text that holds it.
-#[test]
-fn a_float_in_a_patch(rt: HostRuntime) -> Result<(), Fail> {
-    let alloc = rt.alloc();
-    let payload = b"\x07\x01\0\0\0e\x03\0\0\x001.5";
-    assert_eq!(rt; change_line(alloc, payload)?.as_str(), "damaged 10 49");
     Ok(())
 }

@@ -1,5 +1,5 @@
 use Rattle.std.proofs.Common.{ap, subst, ◌∙◌, arith}
-use Rattle.index_image.specs.Answers.{Decodes}
+use Rattle.change_payloads.specs.Answers.{Decodes}
 use Rattle.index_image.specs.Image.{state_at}
 use Rattle.index_image.specs.Rows.{image_view}
 use Rattle.index_image.proofs.ImageAgain.{state_again}

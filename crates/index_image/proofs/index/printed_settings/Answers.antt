@@ -6,7 +6,7 @@ use Rattle.index_settings.specs.View.{SettingsView}
 use Rattle.index_settings.specs.Patch.{patch_of}
 use Rattle.index_settings.specs.Table.{defaults}
 use Rattle.index_image.specs.State.{accepted, if_printed}
-use Rattle.index_image.proofs.Texts.{settings_none, settings_read}
+use Rattle.index_image.proofs.Printed.{settings_none, settings_read}
 use Rattle.index_image.proofs.index.printed_settings.Goals as goal
 
 pub returns-else-is_memory : goal.returns-else-is_memory

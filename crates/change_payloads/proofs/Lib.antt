@@ -1,0 +1,5 @@
+mod Loop
+mod Texts
+pub mod Found
+pub mod Again
+pub mod Back

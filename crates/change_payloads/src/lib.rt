@@ -1,0 +1,21 @@
+//! Changes of indexes as bytes: the payloads of the journal, and the fields of which images are made too.
+//!
+//! Promises that what is encoded is the one spelling of a change, that exactly spellings are decoded, to what was
+//! spelled, and that damage is named at the first field that is cut off or not allowed.
+//! Contracts see a `Change` through `change_view`, and bytes as lists of numbers; what reads a field answers, by `Gives` of
+//! specs/Answers.antt, what specs/Fields.antt reads there, unless memory ran out.
+//! Stands on `search_base` for words, on `doc_values` for changes and documents, and on `serde_json` for JSON.
+#![tactic(auto)]
+
+mod change;
+mod fault;
+mod fields;
+mod json;
+#[cfg(test)]
+mod tests;
+mod writing;
+
+pub use change::{damage, decode_change};
+pub use fault::{ImageFault, ReadFault};
+pub use fields::{optional, text, u8_at, u32_at};
+pub use writing::{encode_change, put_length, put_optional, put_word};

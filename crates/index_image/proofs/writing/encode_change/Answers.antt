@@ -1,9 +1,0 @@
-use Rattle.std.proofs.Common.{ap, ◌∙◌}
-use Rattle.doc_values.specs.Changes.{change_view}
-use Rattle.index_image.specs.Change.{change_at}
-use Rattle.index_image.proofs.Again.{change_again}
-use Rattle.index_image.proofs.writing.encode_change.Goals as goal
-
-pub returns-clause-back : goal.returns-clause-back
-returns-clause-back c =
-    ap change_at c.in_ok-bytes.ensures.bytes ∙ change_again (change_view c.args.change.now) (record { uid = c.in_ok-bytes.ensures.uid; kind = c.in_ok-bytes.ensures.kind })
