@@ -8,3 +8,16 @@ pub mod Occurrence
 pub mod Readings
 pub mod WordsCost
 pub mod Tuple
+pub mod Least
+pub mod PairCost
+pub mod BlockCosts
+pub mod Sums
+pub mod LeastSums
+pub mod Bucket
+pub mod Whole
+pub mod SortKeys
+pub mod EmptyQuery
+pub mod Query
+pub mod Hits
+pub mod Gives
+pub mod Trying

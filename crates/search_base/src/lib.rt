@@ -9,7 +9,9 @@
 
 mod cost_key;
 mod document;
+mod fault;
 mod memory;
+mod position;
 mod query;
 mod rule;
 mod steps;
@@ -21,9 +23,12 @@ mod word;
 
 pub use cost_key::{CostKey, SortKey, keys_are_ordered};
 pub use document::{DocId, DocRows, Leaf, Mark, MarkKind, PathId, Place};
+pub use fault::Fault;
 pub use memory::NoMemory;
+pub use position::bucket;
 pub use query::{
-    Block, Graph, Kind, LevelGraph, PlacedBlock, Strategy, Term, readings_are_the_paths,
+    Block, Graph, Kind, LevelGraph, PlacedBlock, Strategy, Term, empty_queries_cost_nothing,
+    matches_have_sums, readings_are_the_paths,
 };
 pub use rule::Rule;
 pub use steps::Steps;

@@ -1,0 +1,2 @@
+-- What a search asks for.
+pub mod SearchView
