@@ -16,7 +16,8 @@ use Rattle.serde_json.specs.View.{items_of}
 use Rattle.serde_json.specs.Written.{compact_text, has_float}
 use Rattle.doc_values.specs.declared.change.Change.{Change}
 use Rattle.doc_values.specs.Changes.{change_view, KindData, create, drop_index, replace, update, remove, clear, patch, reset, ChangeData}
-use Rattle.doc_values.specs.Stored.{document_at, at_value, if_text, accepted}
+use Rattle.doc_values.specs.Stored.{document_at, at_value, if_text}
+use Rattle.std.specs.Result.{result_ok}
 use Rattle.doc_values.specs.Walk.{document_of}
 use Rattle.change_payloads.specs.declared.fault.ImageFault.{ImageFault}
 use Rattle.change_payloads.specs.Answers.{Decodes}
@@ -131,8 +132,8 @@ json_own front d e =
 pub document_own : (front : List ℕ) (d : Data) → document_at front ≡ Some d → front ≡ compact_text d
 document_own front d e =
     let a = if_some (is_utf8 front) (at_value front (read front)) d e in
-    let b = then_some (λ v. option_and_then (if_text front) (accepted (document_of v))) (read front) d a.1 in
-    let f = then_some (if_text front) (accepted (document_of b.0)) d b.2 in
+    let b = then_some (λ v. option_and_then (if_text front) (result_ok (document_of v))) (read front) d a.1 in
+    let f = then_some (if_text front) (result_ok (document_of b.0)) d b.2 in
     let g = if_some (bytes_eq (compact_text f.0) front) (Some f.0) d f.2 in
     sym ((bytes_eq-Decides (compact_text f.0) front).0 g.0) ∙ ap compact_text (some_is f.0 d (Some f.0) refl g.1)
 

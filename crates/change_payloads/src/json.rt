@@ -1,13 +1,13 @@
 ghost use Rattle.std.specs.Prelude.{◌≡◌, IfOk, option_map};
-ghost use Rattle.serde_json.specs.View.{view as data_of, items_view, members_view};
-ghost use Rattle.serde_json.specs.Written.{has_float, items_have_float, members_have_float};
+ghost use Rattle.serde_json.specs.View.{view as data_of, items_view};
 ghost use Rattle.change_payloads.specs.Answers.{Gives};
 ghost use Rattle.change_payloads.specs.Fields.{json_of, item_texts, texts_of, ids_of, json_at, ids_at};
 
 use crate::fault::ReadFault;
 use crate::fields::piece;
+use doc_values::has_float;
 use search_base::{NoMemory, Word};
-use serde_json::{Map, Value};
+use serde_json::Value;
 use std::alloc::Global;
 
 /// A JSON value, and the bytes behind its text.
@@ -46,7 +46,7 @@ fn value_of(alloc: Global, bytes: &[u8]) -> Result<Option<Value>, NoMemory>
             Ok(None)
         },
     };
-    if holds_float(&value) {
+    if has_float(&value) {
         return Ok(None);
     }
     let own = value.to_vec(alloc)?;
@@ -87,41 +87,4 @@ fn texts_of_items(alloc: Global, items: &Vec<Value>) -> Result<Option<Vec<Word>>
         }
     }
     Ok(Some(texts))
-}
-
-/// Whether a number of a value, at any depth, is a float.
-#[cycle(holds_float)]
-fn holds_float(value: &Value) -> bool
-    ensures { result ≡ has_float (data_of value.now) }
-{
-    match value {
-        Value::Number(number) => number.is_f64(),
-        Value::Array(items) => items_hold_float(items),
-        Value::Object(members) => members_hold_float(members),
-        _ => false,
-    }
-}
-
-#[cycle(holds_float)]
-fn items_hold_float(items: &Vec<Value>) -> bool
-    ensures { result ≡ items_have_float (items_view items.now.items) }
-{
-    for item in items {
-        if holds_float(item) {
-            return true;
-        }
-    }
-    false
-}
-
-#[cycle(holds_float)]
-fn members_hold_float(members: &Map<String, Value>) -> bool
-    ensures { result ≡ members_have_float (members_view members.now.entries) }
-{
-    for (_, member) in members.iter() {
-        if holds_float(member) {
-            return true;
-        }
-    }
-    false
 }

@@ -11,8 +11,6 @@ mod change;
 mod fault;
 mod fields;
 mod json;
-#[cfg(test)]
-mod tests;
 mod writing;
 
 pub use change::{damage, decode_change};

@@ -1,5 +1,5 @@
 -- Internal ids that are given one after the other.
-use Rattle.std.proofs.Common.{◌≡◌, ℕ, ◌+◌, ◌<◌, cond, List, [], ◌∷◌, ◌++◌, length, map, drop, get_or, None, Some, refl, sym, ap, subst, ◌∙◌, arith, append_assoc}
+use Rattle.std.proofs.Common.{◌≡◌, ℕ, ◌+◌, ◌≤◌, ◌<◌, cond, List, [], ◌∷◌, ◌++◌, length, map, drop, get_or, Some, refl, sym, ap, subst, ◌∙◌, arith, append_assoc}
 use Rattle.std.specs.Prelude.{bytes_eq}
 use Rattle.std.specs.Option.{is_some, unwrap_or}
 use Rattle.search_base.specs.declared.DocId.{DocId}
@@ -35,14 +35,15 @@ reached_one all r left s ids fresh fresh' free free' given id h is next known = 
     is_given : id ≡ id_given r h.at
     is_given = is ∙ ap (λ o. unwrap_or o free) (h.index r.external) ∙ ap (unwrap_or (id_of r.external h.at.rows)) (sym h.free)
 
--- a new document where no id is left
-pub reached_spent : (all : List StoreRow) (r : StoreRow) (left : List StoreRow) (s : Store) (ids fresh : Names) (free : ℕ) (given : List ℕ)
-    → Reached all (r ∷ left) s ids fresh free given → known_id ids fresh r.external ≡ None → free < (all_stored all s).next_id
-reached_spent all r left s ids fresh free given h none =
-    let new : next_after r h.at.next_id h.at.rows ≡ h.at.next_id + 1 = ap (λ o. cond (is_some o) h.at.next_id (h.at.next_id + 1)) (sym (h.index r.external) ∙ none) in
+-- what is free after the next document is within what is free in the end
+pub reached_within : (all : List StoreRow) (r : StoreRow) (left : List StoreRow) (s : Store) (ids fresh : Names) (free : ℕ) (given : List ℕ)
+    → Reached all (r ∷ left) s ids fresh free given → cond (is_some (known_id ids fresh r.external)) free (free + 1) ≤ (all_stored all s).next_id
+reached_within all r left s ids fresh free given h =
+    let new : next_after r h.at.next_id h.at.rows ≡ cond (is_some (known_id ids fresh r.external)) free (free + 1) =
+    ap (λ o. cond (is_some o) h.at.next_id (h.at.next_id + 1)) (sym (h.index r.external)) ∙ ap (λ n. cond (is_some (known_id ids fresh r.external)) n (n + 1)) h.free in
     let grows = next_id-grows left (stored r h.at) in
     let same : (all_stored left (stored r h.at)).next_id ≡ (all_stored all s).next_id = ap (λ t. t.next_id) h.rest in
-    omega (arith, h.free)
+    omega arith
 
 map-append : {A B : Type 0} (f : A → B) (xs ys : List A) → map f (xs ++ ys) ≡ map f xs ++ map f ys
 map-append f [] ys = refl
@@ -65,7 +66,9 @@ reached_item all i r external s ids fresh fresh' free free' given given' id with
     subst (λ l. Reached all (drop (i + 1) all) s ids fresh' free' l) (sym (ap (map (λ d. d.0)) more ∙ map-append (λ d. d.0) given (record { 0 = id } ∷ [])))
     (reached_one all r (drop (i + 1) all) s ids fresh fresh' free free' (map (λ d. d.0) given) id here id_is next' known')
 
-pub spent_item : (all : List StoreRow) (i : ℕ) (r : StoreRow) (external : List ℕ) (s : Store) (ids fresh : Names) (free : ℕ) (given : List ℕ)
-    → i < length all → r ≡ get_or all i r → external ≡ r.external → Reached all (drop i all) s ids fresh free given → known_id ids fresh external ≡ None → free < (all_stored all s).next_id
-spent_item all i r external s ids fresh free given within is same h none =
-    reached_spent all r (drop (i + 1) all) s ids fresh free given (subst (λ left. Reached all left s ids fresh free given) (drop-item all i r within is) h) (ap (known_id ids fresh) (sym same) ∙ none)
+pub within_item : (all : List StoreRow) (i : ℕ) (r : StoreRow) (external : List ℕ) (s : Store) (ids fresh : Names) (free : ℕ) (given : List ℕ)
+    → i < length all → r ≡ get_or all i r → external ≡ r.external → Reached all (drop i all) s ids fresh free given
+    → cond (is_some (known_id ids fresh external)) free (free + 1) ≤ (all_stored all s).next_id
+within_item all i r external s ids fresh free given within is same h =
+    subst (λ e. cond (is_some (known_id ids fresh e)) free (free + 1) ≤ (all_stored all s).next_id) (sym same)
+    (reached_within all r (drop (i + 1) all) s ids fresh free given (subst (λ left. Reached all left s ids fresh free given) (drop-item all i r within is) h))

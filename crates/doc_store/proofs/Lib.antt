@@ -1,6 +1,7 @@
 pub mod NameLemmas
 pub mod RowLemmas
 pub mod SlotLemmas
+pub mod SpentLemmas
 pub mod PathLemmas
 pub mod GivenLemmas
 pub mod PutLemmas

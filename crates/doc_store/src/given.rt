@@ -1,13 +1,13 @@
-ghost use Rattle.std.specs.Prelude.{◌≡◌, ◌≢◌, ℕ, ◌+◌, ◌≤◌, ◌<◌, List, Some, None, map, bytes_eq, IfOk, OnOk, IfErr, if◌then◌else◌};
+ghost use Rattle.std.specs.Prelude.{◌≡◌, ℕ, ◌+◌, ◌≤◌, List, Some, Err, map, bytes_eq, IfOk, OnOk, IfErr, if◌then◌else◌};
 ghost use Rattle.std.specs.Option.{is_some, unwrap_or};
-ghost use Rattle.doc_store.specs.declared.rows.StoreFault.TheVariants.{NoMemory as Memory, IdsSpent};
+ghost use Rattle.search_base.specs.Gives.{Checks};
 ghost use Rattle.doc_store.specs.Given.{known_id};
-ghost use Rattle.doc_store.specs.Store.{Store, all_stored, ids_given};
+ghost use Rattle.doc_store.specs.Store.{Store, all_stored, ids_given, ids_spent};
 ghost use Rattle.doc_store.specs.Slots.{IsIndex};
 
 use crate::places::Places;
-use crate::rows::{MAX_IDS, StoreFault, StoreRow};
-use search_base::{DocId, Word};
+use crate::rows::{MAX_IDS, StoreFault, StoreRefusal, StoreRow};
+use search_base::{DocId, Fault, Word};
 use std::alloc::Global;
 
 /// The internal ids of documents that come one after the other. `next` is the next one that is free.
@@ -18,9 +18,12 @@ pub(crate) fn give_ids(
     rows: &[StoreRow],
 ) -> Result<Vec<DocId>, StoreFault>
     requires { next ≤ MAX_IDS }
-    ensures given { (s : Store) → s.next_id ≡ next → IsIndex ids.now s.rows → IfOk result (λ given. map (λ id. id.0) given.items ≡ ids_given rows.now s) }
-    ensures within { (s : Store) → s.next_id ≡ next → IsIndex ids.now s.rows → OnOk result ((all_stored rows.now s).next_id ≤ MAX_IDS) }
-    ensures spent { (s : Store) → s.next_id ≡ next → IsIndex ids.now s.rows → IfErr result (λ fault. fault ≢ Memory → (fault ≡ IdsSpent) × (MAX_IDS < (all_stored rows.now s).next_id)) }
+    ensures given { (s : Store) → s.next_id ≡ next → IsIndex ids.now s.rows
+        → IfOk result (λ given. map (λ id. id.0) given.items ≡ ids_given rows.now s) }
+    ensures within { (s : Store) → s.next_id ≡ next → IsIndex ids.now s.rows
+        → OnOk result ((all_stored rows.now s).next_id ≤ MAX_IDS) }
+    ensures spent { (s : Store) → s.next_id ≡ next → IsIndex ids.now s.rows
+        → IfErr result (λ fault. Checks (Err fault) (ids_spent (all_stored rows.now s).next_id)) }
 {
     let mut fresh = Places::new(alloc);
     let mut free = next;
@@ -41,17 +44,20 @@ fn give_id(
 ) -> Result<u32, StoreFault>
     requires { free.old ≤ MAX_IDS }
     ensures id { IfOk result (λ id. id ≡ unwrap_or (known_id ids.now fresh.old external.now) free.old) }
-    ensures free { OnOk result (free.new ≡ (if is_some (known_id ids.now fresh.old external.now) then free.old else free.old + 1)) }
+    ensures free { OnOk result (free.new
+        ≡ (if is_some (known_id ids.now fresh.old external.now) then free.old else free.old + 1)) }
     ensures within { OnOk result (free.new ≤ MAX_IDS) }
-    ensures known { IfOk result (λ id. (q : List ℕ) → known_id ids.now fresh.new q ≡ (if bytes_eq external.now q then Some id else known_id ids.now fresh.old q)) }
-    ensures spent { IfErr result (λ fault. fault ≢ Memory → (fault ≡ IdsSpent) × (known_id ids.now fresh.old external.now ≡ None) × (free.old ≡ MAX_IDS)) }
+    ensures known { IfOk result (λ id. (q : List ℕ) → known_id ids.now fresh.new q
+        ≡ (if bytes_eq external.now q then Some id else known_id ids.now fresh.old q)) }
+    ensures spent { IfErr result (λ fault. Checks (Err fault)
+        (ids_spent (if is_some (known_id ids.now fresh.old external.now) then free.old else free.old + 1))) }
 {
     if let Some(id) = known(ids, fresh, external) {
         return Ok(id);
     }
     let id = *free;
     if id == MAX_IDS {
-        return Err(StoreFault::IdsSpent);
+        return Err(Fault::Refused(StoreRefusal::IdsSpent));
     }
     fresh.reserve(external)?;
     fresh.give(external, id);

@@ -6,8 +6,8 @@ use std::alloc::Global;
 use std::collections::BTreeMap;
 use std::marker::Model;
 
-/// Names with a number each. A name can wait for its number, so that giving it takes no memory. A name that is kept shares
-/// the text of the word that it came as.
+/// Names with a number each. A name can wait for its number, so that giving it takes no memory. A name that is kept
+/// shares the text of the word that it came as.
 #[derive(Drop)]
 pub(crate) struct Places {
     map: BTreeMap<Word, Option<u32>>,
@@ -56,7 +56,8 @@ impl Places {
     /// Gives a name that is there its number. It takes no memory.
     pub(crate) fn give(&mut self, name: &Word, number: u32)
         requires { is_kept name.now self.old ≡ true }
-        ensures numbers { (q : List ℕ) → number_at q self.new ≡ (if bytes_eq name.now q then Some number else number_at q self.old) }
+        ensures numbers { (q : List ℕ) → number_at q self.new
+            ≡ (if bytes_eq name.now q then Some number else number_at q self.old) }
         ensures kept { (q : List ℕ) → is_kept q self.new ≡ is_kept q self.old }
     {
         match self.map.get_mut(name) {

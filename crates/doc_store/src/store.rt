@@ -1,6 +1,6 @@
-ghost use Rattle.std.specs.Prelude.{◌≡◌, ◌≢◌, ◌↔◌, ◌+◌, ◌≤◌, [], Some, map, length, take, drop, IsTrue, IfOk, OnOk, OnErr, IfErr};
+ghost use Rattle.std.specs.Prelude.{◌≡◌, ◌↔◌, ◌+◌, ◌≤◌, [], Some, Err, map, length, take, drop, IsTrue, IfOk, OnOk, OnErr, IfErr};
 ghost use Rattle.std.specs.Option.{option_map, is_some};
-ghost use Rattle.doc_store.specs.declared.rows.StoreFault.TheVariants.{NoMemory as Memory};
+ghost use Rattle.search_base.specs.Gives.{Checks};
 ghost use Rattle.doc_store.specs.Names.{AreKept};
 ghost use Rattle.doc_store.specs.Store.{all_stored, externals, id_of, spent, row_at, removed};
 ghost use Rattle.doc_store.specs.Sound.{IsSound};
@@ -42,7 +42,13 @@ impl Model for DocStore {
 
     ghost coded = { view_code };
 
-    ghost view = { λ s. record { content = content_of s.paths.paths s.slots.slots; staged = s.slots.staged; ids = s.ids; path_room = s.paths.room; path_places = s.paths.places } };
+    ghost view = { λ s. record {
+      content = content_of s.paths.paths s.slots.slots;
+      staged = s.slots.staged;
+      ids = s.ids;
+      path_room = s.paths.room;
+      path_places = s.paths.places;
+    } };
 
     ghost invariant = { λ s. IsStore s.ids s.slots.slots s.paths.paths s.count s.counts.items };
 }
@@ -66,8 +72,8 @@ impl Model for Admission {
     ghost view = { λ a. record { ids = map (λ id. id.0) a.ids.items; added = a.added.items } };
 }
 
-/// What documents that are staged take of a store, for which all memory is there. A plan is for the store as it was when the
-/// plan was made.
+/// What documents that are staged take of a store, for which all memory is there. A plan is for the store as it was
+/// when the plan was made.
 #[derive(Drop)]
 pub struct StorePlan {
     ids: Vec<DocId>,
@@ -89,7 +95,8 @@ impl Model for StorePlan {
 impl DocStore {
     /// The empty store.
     pub fn new(alloc: Global) -> Result<DocStore, NoMemory>
-        ensures { IfOk result (λ store. store.content ≡ record { paths = []; next_id = 0; rows = [] }) }
+        ensures content { IfOk result (λ store. store.content ≡ record { paths = []; next_id = 0; rows = [] }) }
+        ensures staged { IfOk result (λ store. store.staged ≡ []) }
     {
         Ok(DocStore {
             ids: Places::new(alloc),
@@ -108,7 +115,8 @@ impl DocStore {
         documents: Vec<StoredRow>,
     ) -> Result<DocStore, NoMemory>
         requires { IsSound (restored paths.items next_id documents.items) }
-        ensures { IfOk result (λ store. store.content ≡ restored paths.items next_id documents.items) }
+        ensures content { IfOk result (λ store. store.content ≡ restored paths.items next_id documents.items) }
+        ensures staged { IfOk result (λ store. store.staged ≡ []) }
     {
         let count = documents.len() as u64;
         let counts = counts_of(alloc, documents.as_slice())?;
@@ -148,10 +156,11 @@ impl DocStore {
         self.count == 0
     }
 
-    /// The internal ids of the documents in order, without the first `offset`, and at most `limit` of the rest. What stands
-    /// before the thousand internal ids where they begin is not looked at.
+    /// The internal ids of the documents in order, without the first `offset`, and at most `limit` of the rest. What
+    /// stands before the thousand internal ids where they begin is not looked at.
     pub fn ids(&self, alloc: Global, offset: u64, limit: u64) -> Result<Vec<DocId>, NoMemory>
-        ensures { IfOk result (λ ids. map (λ id. id.0) ids.items ≡ take limit (drop offset (map (λ r. r.id) self.now.content.rows))) }
+        ensures { IfOk result (λ ids. map (λ id. id.0) ids.items
+            ≡ take limit (drop offset (map (λ r. r.id) self.now.content.rows))) }
     {
         listed_ids(
             alloc,
@@ -164,7 +173,8 @@ impl DocStore {
 
     /// The document with an internal id. It takes one step and no memory.
     pub fn fetch<F>(&self, id: DocId, fetches: &mut Steps<F>) -> Option<&DocumentText>
-        ensures document { option_map (λ document. document.now) result ≡ option_map (λ row. row.document) (row_at id.0 self.now.content.rows) }
+        ensures document { option_map (λ document. document.now) result
+            ≡ option_map (λ row. row.document) (row_at id.0 self.now.content.rows) }
         ensures step { fetches.new ≡ fetches.old + 1 }
     {
         fetches.tick();
@@ -173,7 +183,8 @@ impl DocStore {
 
     /// The external id of the document with an internal id. It takes no memory.
     pub fn external(&self, id: DocId) -> Option<&Word>
-        ensures { option_map (λ external. external.now) result ≡ option_map (λ row. row.external) (row_at id.0 self.now.content.rows) }
+        ensures { option_map (λ external. external.now) result
+            ≡ option_map (λ row. row.external) (row_at id.0 self.now.content.rows) }
     {
         external_at(self.slots.as_slice(), id)
     }
@@ -200,19 +211,19 @@ impl DocStore {
     }
 
     /// The internal ids that documents take which are stored one after the other, and the paths that the registry gains
-    /// by them. Nothing changes. `IdsSpent` comes where an internal id would be 1,000,000, and else `PathsSpent` where the
-    /// registry would have more than 1,000 paths. There are fewer than 2^32 documents.
+    /// by them. Nothing changes. `IdsSpent` comes where an internal id would be 1,000,000, and else `PathsSpent`
+    /// where the registry would have more than 1,000 paths. There are fewer than 2^32 documents.
     pub fn admit(&self, alloc: Global, rows: &[StoreRow]) -> Result<Admission, StoreFault>
         ensures admitted { IfOk result (λ admission. IsAdmitted self.now.content rows.now admission) }
-        ensures fault { IfErr result (λ fault. fault ≢ Memory → spent (all_stored rows.now self.now.content) ≡ Some fault) }
+        ensures refused { IfErr result (λ fault. Checks (Err fault) (spent (all_stored rows.now self.now.content))) }
     {
         let ids = give_ids(alloc, &self.ids, self.slots.len() as u32, rows)?;
         let added = new_paths(alloc, &self.paths, rows)?;
         Ok(Admission { ids, added })
     }
 
-    /// Takes all memory that it takes to store documents that were admitted to the store as it is, and stages them, in place of
-    /// what was staged. What the store holds stays. Where memory is wanting, nothing is staged.
+    /// Takes all memory that it takes to store documents that were admitted to the store as it is, and stages them,
+    /// in place of what was staged. What the store holds stays. Where memory is wanting, nothing is staged.
     pub fn prepare(
         &mut self,
         rows: Vec<StoreRow>,
@@ -261,12 +272,13 @@ impl DocStore {
         self.slots.unstage();
     }
 
-    /// Stores the documents that are staged, by the plan that was made for them and the store as it is, and gives the internal
-    /// id of each, in order. It takes no memory.
+    /// Stores the documents that are staged, by the plan that was made for them and the store as it is, and gives the
+    /// internal id of each, in order. It takes no memory.
     pub fn commit(&mut self, plan: StorePlan) -> Vec<DocId>
         requires { IsPlanFor self.old plan }
         ensures content { self.new.content ≡ all_stored self.old.staged self.old.content }
         ensures ids { map (λ id. id.0) result.items ≡ plan.ids }
+        ensures staged { self.new.staged ≡ [] }
     {
         let StorePlan { ids, added } = plan;
         let first = self.slots.len();
@@ -282,6 +294,7 @@ impl DocStore {
     pub fn remove(&mut self, id: DocId) -> bool
         ensures content { self.new.content ≡ removed id.0 self.old.content }
         ensures found { result ≡ is_some (row_at id.0 self.old.content.rows) }
+        ensures staged { self.new.staged ≡ self.old.staged }
     {
         let found = take_row(&mut self.ids, &mut self.slots, id);
         if found {

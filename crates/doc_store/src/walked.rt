@@ -1,12 +1,12 @@
-ghost use Rattle.std.specs.Prelude.{◌≡◌, ◌≢◌, ℕ, ◌+◌, ◌≤◌, ◌<◌, List, ◌++◌, length, IfOk, OnOk, IfErr};
-ghost use Rattle.doc_store.specs.declared.rows.StoreFault.TheVariants.{NoMemory as Memory, PathsSpent};
+ghost use Rattle.std.specs.Prelude.{◌≡◌, ℕ, ◌+◌, ◌≤◌, List, ◌++◌, length, Err, IfOk, OnOk, IfErr};
+ghost use Rattle.search_base.specs.Gives.{Checks};
 ghost use Rattle.doc_store.specs.Paths.{has_path, with_path, registered};
-ghost use Rattle.doc_store.specs.Store.{paths_after};
+ghost use Rattle.doc_store.specs.Store.{paths_after, paths_spent};
 
 use crate::registry::Registry;
-use crate::rows::{MAX_PATHS, StoreFault, StoreRow};
+use crate::rows::{MAX_PATHS, StoreFault, StoreRefusal, StoreRow};
 use doc_values::paths;
-use search_base::Word;
+use search_base::{Fault, Word};
 use std::alloc::Global;
 
 /// The paths that a registry gains by documents that come, in the order in which it gains them. Each document is read
@@ -19,7 +19,7 @@ pub(crate) fn new_paths(
     requires { length registry.now.paths ≤ MAX_PATHS }
     ensures added { IfOk result (λ added. registry.now.paths ++ added.items ≡ paths_after rows.now registry.now.paths) }
     ensures within { IfOk result (λ added. length registry.now.paths + length added.items ≤ MAX_PATHS) }
-    ensures spent { IfErr result (λ fault. fault ≢ Memory → (fault ≡ PathsSpent) × (MAX_PATHS < length (paths_after rows.now registry.now.paths))) }
+    ensures spent { IfErr result (λ fault. Checks (Err fault) (paths_spent (paths_after rows.now registry.now.paths))) }
 {
     let mut fresh = Registry::new(alloc);
     for row in rows {
@@ -31,9 +31,11 @@ pub(crate) fn new_paths(
 
 fn note_paths(registry: &Registry, fresh: &mut Registry, walk: Vec<Word>) -> Result<(), StoreFault>
     requires { length registry.now.paths + length fresh.old.paths ≤ MAX_PATHS }
-    ensures noted { OnOk result (registry.now.paths ++ fresh.new.paths ≡ registered walk.items (registry.now.paths ++ fresh.old.paths)) }
+    ensures noted { OnOk result (registry.now.paths ++ fresh.new.paths
+        ≡ registered walk.items (registry.now.paths ++ fresh.old.paths)) }
     ensures within { OnOk result (length registry.now.paths + length fresh.new.paths ≤ MAX_PATHS) }
-    ensures spent { IfErr result (λ fault. fault ≢ Memory → (fault ≡ PathsSpent) × (MAX_PATHS < length (registered walk.items (registry.now.paths ++ fresh.old.paths)))) }
+    ensures spent { IfErr result
+        (λ fault. Checks (Err fault) (paths_spent (registered walk.items (registry.now.paths ++ fresh.old.paths)))) }
 {
     for path in walk {
         note_path(registry, fresh, path)?;
@@ -44,15 +46,17 @@ fn note_paths(registry: &Registry, fresh: &mut Registry, walk: Vec<Word>) -> Res
 /// Adds a path to the fresh ones where it is neither registered nor among them.
 fn note_path(registry: &Registry, fresh: &mut Registry, path: Word) -> Result<(), StoreFault>
     requires { length registry.now.paths + length fresh.old.paths ≤ MAX_PATHS }
-    ensures noted { OnOk result (registry.now.paths ++ fresh.new.paths ≡ with_path path (registry.now.paths ++ fresh.old.paths)) }
+    ensures noted { OnOk result (registry.now.paths ++ fresh.new.paths
+        ≡ with_path path (registry.now.paths ++ fresh.old.paths)) }
     ensures within { OnOk result (length registry.now.paths + length fresh.new.paths ≤ MAX_PATHS) }
-    ensures spent { IfErr result (λ fault. fault ≢ Memory → (fault ≡ PathsSpent) × (MAX_PATHS < length (with_path path (registry.now.paths ++ fresh.old.paths)))) }
+    ensures spent { IfErr result
+        (λ fault. Checks (Err fault) (paths_spent (with_path path (registry.now.paths ++ fresh.old.paths)))) }
 {
     if is_known(registry, fresh, &path) {
         return Ok(());
     }
     if registry.len() + fresh.len() == MAX_PATHS {
-        return Err(StoreFault::PathsSpent);
+        return Err(Fault::Refused(StoreRefusal::PathsSpent));
     }
     fresh.add(path)?;
     Ok(())

@@ -3,31 +3,31 @@ use Rattle.std.proofs.Common.{◌≡◌, ℕ, List, [], ◌∷◌, ◌++◌, Boo
 use Rattle.std.proofs.lemmas.Bool.{or_parts}
 use Rattle.serde_json.specs.Data.{Data, null, boolean, number, string, array, object, Items, no_items, item, Members, no_members, member}
 use Rattle.serde_json.specs.Written.{has_float, items_have_float, members_have_float}
+use Rattle.search_base.specs.Trying.{first_of}
+use Rattle.doc_values.specs.declared.document.DocumentRefusal.{DocumentRefusal}
+use Rattle.doc_values.specs.declared.document.DocumentRefusal.TheVariants.{NumberNotWhole}
 use Rattle.doc_values.specs.Walk.{Visit, path_of, walk_of_members, walk_inside, walk_inside_items, holds_float, items_hold_float, first_broken}
 
 -- ---- the first broken number
 
-abbrev pub or_else : Option (List ℕ) → Option (List ℕ) → Option (List ℕ)
-or_else None later = later
-or_else (Some path) later = Some path
-
-pub first_broken_append : (a b : List Visit) → first_broken (a ++ b) ≡ or_else (first_broken a) (first_broken b)
+pub first_broken_append : (a b : List Visit) → first_broken (a ++ b) ≡ first_of (first_broken a) (first_broken b)
 first_broken_append [] b = refl
 first_broken_append (visit ∷ a) b =
-    elim (holds_float visit.value) as (λ h. cond h (Some visit.path) (first_broken (a ++ b)) ≡ or_else (cond h (Some visit.path) (first_broken a)) (first_broken b)) [
+    let this = Some (NumberNotWhole visit.path) in
+    elim (holds_float visit.value) as (λ h. cond h this (first_broken (a ++ b)) ≡ first_of (cond h this (first_broken a)) (first_broken b)) [
       | true ↦ refl
       | false ↦ first_broken_append a b
     ]
 
 -- ---- no broken number is no float
 
-neither : (a b : Option (List ℕ)) → or_else a b ≡ None → (a ≡ None) × (b ≡ None)
+neither : (a b : Option DocumentRefusal) → first_of a b ≡ None → (a ≡ None) × (b ≡ None)
 neither None b h = (refl, h)
-neither (Some path) b h = cc
+neither (Some refusal) b h = cc
 
-cond_none : (h : Bool) (path : List ℕ) (later : Option (List ℕ)) → cond h (Some path) later ≡ None → (h ≡ false) × (later ≡ None)
-cond_none true path later e = cc
-cond_none false path later e = (refl, e)
+cond_none : (h : Bool) (refusal : DocumentRefusal) (later : Option DocumentRefusal) → cond h (Some refusal) later ≡ None → (h ≡ false) × (later ≡ None)
+cond_none true refusal later e = cc
+cond_none false refusal later e = (refl, e)
 
 -- no float directly, and none in the members inside
 mutual
@@ -50,7 +50,7 @@ mutual
   members_have_float-from_walk above no_members w = refl
   members_have_float-from_walk above (member k d ms) w =
       let path = path_of above k in
-      let parts = cond_none (holds_float d) path _ w in
+      let parts = cond_none (holds_float d) (NumberNotWhole path) _ w in
       let found = neither _ _ (sym (first_broken_append (walk_inside path d) (walk_of_members above ms)) ∙ parts.1) in
       rw (has_float-from_parts path d parts.0 found.0) (members_have_float-from_walk above ms found.1)
 

@@ -9,14 +9,16 @@ use Rattle.serde_json.specs.Data.{Data, null, boolean, number, string, array, ob
 use Rattle.serde_json.specs.Find.{as_object}
 use Rattle.serde_json.specs.Read.{read}
 use Rattle.serde_json.specs.Written.{has_float, members_have_float, compact_text}
-use Rattle.doc_values.specs.Walk.{members_in, walk_of_members, first_broken, document_of, unless_broken}
+use Rattle.doc_values.specs.Walk.{members_in, walk_of_members, first_broken, document_of}
+use Rattle.search_base.specs.Trying.{◌>>◌}
+use Rattle.doc_values.specs.declared.document.DocumentRefusal.{DocumentRefusal}
 use Rattle.doc_values.proofs.Broken.{members_have_float-from_walk, walk_of_members_none}
 use Rattle.doc_values.specs.Whole.{IsDocument}
 use Rattle.doc_values.specs.Stored.{document_at, at_value, put_all, merge}
 
-unbroken_at : (ms : Members) (o : Option (List ℕ)) → unless_broken ms o ≡ Ok (object ms) → o ≡ None
+unbroken_at : (ms : Members) (o : Option DocumentRefusal) → (o >> Ok (object ms)) ≡ Ok (object ms) → o ≡ None
 unbroken_at ms None h = refl
-unbroken_at ms (Some path) h = cc
+unbroken_at ms (Some refusal) h = cc
 
 pub unbroken : (ms : Members) → document_of (object ms) ≡ Ok (object ms) → first_broken (walk_of_members None ms) ≡ None
 unbroken ms h = unbroken_at ms _ h
@@ -93,7 +95,7 @@ small-document (array ds) h = record { whole = refl; shallow = omega arith }
 small-document (object ms) h = record { whole = members_have_float-from_walk None ms (unbroken ms h.whole); shallow = let t = h.shallow in omega arith }
 
 document-from_small : (ms : Members) → AreSmall 126 ms → IsDocument (object ms)
-document-from_small ms h = record { whole = ap (unless_broken ms) (walk_of_members_none None ms h.whole); shallow = let t = h.shallow in omega arith }
+document-from_small ms h = record { whole = ap (λ o. o >> Ok (object ms)) (walk_of_members_none None ms h.whole); shallow = let t = h.shallow in omega arith }
 
 pub merge_is_document : (old new : Data) → IsDocument old → IsDocument new → IsDocument (merge old new)
 merge_is_document old new p q = document-from_small _ (small-put_all 126 (members_in new) (members_in old) (small-document new q) (small-document old p))

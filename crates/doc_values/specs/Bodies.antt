@@ -2,31 +2,24 @@
 use Rattle.std.specs.Prelude.{ℕ, ◌+◌, List, [], ◌∷◌, Result, Ok, Err}
 use Rattle.serde_json.specs.Data.{Data, null, boolean, number, string, array, object, Items, no_items, item}
 use Rattle.doc_values.specs.Walk.{document_of}
-use Rattle.doc_values.specs.declared.document.DocumentFault.{DocumentFault}
-use Rattle.doc_values.specs.declared.document.DocumentFault.TheVariants as fault
-use Rattle.doc_values.specs.declared.bodies.BodyFault.{BodyFault}
-use Rattle.doc_values.specs.declared.bodies.BodyFault.TheVariants.{NotList, NotObject, NumberNotWhole, NoMemory}
+use Rattle.search_base.specs.Trying.{◌>>=◌, refused_as}
+use Rattle.doc_values.specs.declared.document.DocumentRefusal.{DocumentRefusal}
+use Rattle.doc_values.specs.declared.document.DocumentRefusal.TheVariants as whole
+use Rattle.doc_values.specs.declared.bodies.BodyRefusal.{BodyRefusal}
+use Rattle.doc_values.specs.declared.bodies.BodyRefusal.TheVariants.{NotList, NotObject, NumberNotWhole}
 
-abbrev pub placed : ℕ → DocumentFault → BodyFault
-placed place fault.NotObject = NotObject place
-placed place (fault.NumberNotWhole path) = NumberNotWhole place path
-placed place fault.NoMemory = NoMemory
+-- why the document at a place, counted from 1, is none
+abbrev pub placed : ℕ → DocumentRefusal → BodyRefusal
+placed place whole.NotObject = NotObject place
+placed place (whole.NumberNotWhole path) = NumberNotWhole place path
 
--- the document at a place, counted from 1
-abbrev pub placed_result : ℕ → Result Data DocumentFault → Result Data BodyFault
-placed_result place (Ok d) = Ok d
-placed_result place (Err f) = Err (placed place f)
-
-abbrev pub then_more : Result Data BodyFault → Result (List Data) BodyFault → Result (List Data) BodyFault
-then_more (Ok d) (Ok more) = Ok (d ∷ more)
-then_more (Ok d) (Err f) = Err f
-then_more (Err f) more = Err f
-
-abbrev pub documents_in : ℕ → Items → Result (List Data) BodyFault
+-- the documents of a list whose first stands at this place
+abbrev pub documents_in : ℕ → Items → Result (List Data) BodyRefusal
 documents_in place no_items = Ok []
-documents_in place (item d ds) = then_more (placed_result place (document_of d)) (documents_in (place + 1) ds)
+documents_in place (item d ds) =
+    refused_as (placed place) (document_of d) >>= (λ first. documents_in (place + 1) ds >>= (λ more. Ok (first ∷ more)))
 
-abbrev pub documents_of : Data → Result (List Data) BodyFault
+abbrev pub documents_of : Data → Result (List Data) BodyRefusal
 documents_of null = Err NotList
 documents_of (boolean b) = Err NotList
 documents_of (number n) = Err NotList

@@ -21,7 +21,8 @@ num_whole-num_parts (negative z) = refl
 num_whole-num_parts (float x) = refl
 
 abbrev pub num_code : Coded Num
-num_code = code_by (ℕ ⊎ (ℤ ⊎ Float)) (coded⊎ coded_ℕ (coded⊎ coded_ℤ coded_float)) num_parts num_whole num_whole-num_parts
+num_code =
+    code_by (ℕ ⊎ (ℤ ⊎ Float)) (coded⊎ coded_ℕ (coded⊎ coded_ℤ coded_float)) num_parts num_whole num_whole-num_parts
 
 abbrev pub text_code : Coded (List ℕ)
 text_code = coded_list coded_ℕ

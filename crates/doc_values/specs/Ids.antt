@@ -6,10 +6,11 @@ use Rattle.std.specs.List.{list_all}
 use Rattle.std.specs.Str.{str_eq_ignore_ascii_case}
 use Rattle.serde_json.specs.Data.{Num, unsigned, negative, float, Data, null, boolean, number, string, array, object, Members, no_members, member}
 use Rattle.serde_json.specs.Find.{get}
-use Rattle.doc_values.specs.declared.ids.IdFault.{IdFault}
-use Rattle.doc_values.specs.declared.ids.IdFault.TheVariants.{MissingId, BadId}
-use Rattle.doc_values.specs.declared.keys.KeyFault.{KeyFault}
-use Rattle.doc_values.specs.declared.keys.KeyFault.TheVariants.{NoCandidate, SeveralCandidates}
+use Rattle.search_base.specs.Trying.{◌>>=◌, or_refuse}
+use Rattle.doc_values.specs.declared.ids.IdRefusal.{IdRefusal}
+use Rattle.doc_values.specs.declared.ids.IdRefusal.TheVariants.{MissingId, BadId}
+use Rattle.doc_values.specs.declared.keys.KeyRefusal.{KeyRefusal}
+use Rattle.doc_values.specs.declared.keys.KeyRefusal.TheVariants.{NoCandidate, SeveralCandidates}
 use Rattle.doc_values.specs.Walk.{members_in}
 
 abbrev pub is_id_byte : ℕ → Bool
@@ -36,16 +37,9 @@ id_in (string s) = if is_id s then Some s else None
 id_in (array ds) = None
 id_in (object ms) = None
 
-abbrev pub or_bad : Option (List ℕ) → Result (List ℕ) IdFault
-or_bad None = Err BadId
-or_bad (Some id) = Ok id
-
-abbrev pub or_missing : Option Data → Result (List ℕ) IdFault
-or_missing None = Err MissingId
-or_missing (Some d) = or_bad (id_in d)
-
-abbrev pub external_id_of : List ℕ → Data → Result (List ℕ) IdFault
-external_id_of key d = or_missing (get key d)
+-- the external id of a document under a key
+abbrev pub external_id_of : List ℕ → Data → Result (List ℕ) IdRefusal
+external_id_of key d = or_refuse MissingId (get key d) >>= (λ value. or_refuse BadId (id_in value))
 
 -- ---- the key
 
@@ -56,10 +50,10 @@ abbrev pub candidates : Members → List (List ℕ)
 candidates no_members = []
 candidates (member name d ms) = if ends_in_id name then name ∷ candidates ms else candidates ms
 
-abbrev pub only : List (List ℕ) → Result (List ℕ) KeyFault
+abbrev pub only : List (List ℕ) → Result (List ℕ) KeyRefusal
 only [] = Err NoCandidate
 only (name ∷ []) = Ok name
 only (first ∷ second ∷ more) = Err (SeveralCandidates (length (first ∷ second ∷ more)))
 
-abbrev pub key_of : Data → Result (List ℕ) KeyFault
+abbrev pub key_of : Data → Result (List ℕ) KeyRefusal
 key_of d = only (candidates (members_in d))

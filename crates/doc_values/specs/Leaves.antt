@@ -33,7 +33,9 @@ marks_of d = Mark Exists ∷ second_mark (mark_of d)
 -- what the values visited at a path are: of each in turn the marks that hold of it, and its leaves
 abbrev pub found_at : List ℕ → List Visit → List Flat
 found_at path [] = []
-found_at path (visit ∷ later) = if bytes_eq path visit.path then marks_of visit.value ++ (leaves_of visit.value ++ found_at path later) else found_at path later
+found_at path (visit ∷ later) =
+    if bytes_eq path visit.path then marks_of visit.value ++ (leaves_of visit.value ++ found_at path later)
+    else found_at path later
 
 -- what rows say of a path
 abbrev pub said_of : List ℕ → List FlatRow → List Flat

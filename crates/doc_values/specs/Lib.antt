@@ -5,6 +5,5 @@ pub mod Stored
 pub mod Ids
 pub mod Bodies
 pub mod Changes
-pub mod Answers
 pub mod Texts
 pub mod Leaves

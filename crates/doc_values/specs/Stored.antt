@@ -1,21 +1,17 @@
 -- The text by which a document is kept, and documents put together.
-use Rattle.std.specs.Prelude.{ℕ, List, if◌then◌else◌, Option, Some, None, option_and_then, Result, Ok, Err}
+use Rattle.std.specs.Prelude.{ℕ, List, if◌then◌else◌, Option, Some, None, option_and_then}
+use Rattle.std.specs.Result.{result_ok}
 use Rattle.std.specs.Str.{is_utf8, bytes_eq}
 use Rattle.serde_json.specs.Data.{Data, object, Members, no_members, member, put}
 use Rattle.serde_json.specs.Read.{read}
 use Rattle.serde_json.specs.Written.{compact_text}
 use Rattle.doc_values.specs.Walk.{document_of, members_in}
-use Rattle.doc_values.specs.declared.document.DocumentFault.{DocumentFault}
-
-abbrev pub accepted : Result Data DocumentFault → Option Data
-accepted (Ok d) = Some d
-accepted (Err fault) = None
 
 abbrev pub if_text : List ℕ → Data → Option Data
 if_text text d = if bytes_eq (compact_text d) text then Some d else None
 
 abbrev pub at_value : List ℕ → Option Data → Option Data
-at_value text value = option_and_then (λ d. option_and_then (if_text text) (accepted (document_of d))) value
+at_value text value = option_and_then (λ d. option_and_then (if_text text) (result_ok (document_of d))) value
 
 -- the document whose canonical text this is: the compact text of a document and no other
 abbrev pub document_at : List ℕ → Option Data

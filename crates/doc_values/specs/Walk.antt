@@ -7,8 +7,9 @@ use Rattle.search_base.specs.declared.document.MarkKind.TheVariants.{Exists, Nul
 use Rattle.doc_values.specs.declared.rows.FlatRow.{FlatRow}
 use Rattle.doc_values.specs.declared.rows.Flat.{Flat}
 use Rattle.doc_values.specs.declared.rows.Flat.TheVariants.{Text, Number, Bool as Truth, Mark}
-use Rattle.doc_values.specs.declared.document.DocumentFault.{DocumentFault}
-use Rattle.doc_values.specs.declared.document.DocumentFault.TheVariants.{NotObject, NumberNotWhole}
+use Rattle.search_base.specs.Trying.{◌>>◌}
+use Rattle.doc_values.specs.declared.document.DocumentRefusal.{DocumentRefusal}
+use Rattle.doc_values.specs.declared.document.DocumentRefusal.TheVariants.{NotObject, NumberNotWhole}
 
 -- the path of a member: its name, or below a path the path, a dot and the name
 abbrev pub path_of : Option (List ℕ) → List ℕ → List ℕ
@@ -37,7 +38,8 @@ abbrev mutual
   pub walk_of_members : Option (List ℕ) → Members → List Visit
   walk_of_members above no_members = []
   walk_of_members above (member name d ms) =
-      let path = path_of above name in record { path = path; value = d } ∷ (walk_inside path d ++ walk_of_members above ms)
+      let path = path_of above name in
+      record { path = path; value = d } ∷ (walk_inside path d ++ walk_of_members above ms)
 
   pub walk_inside : List ℕ → Data → List Visit
   walk_inside path null = []
@@ -77,23 +79,19 @@ abbrev mutual
   items_hold_float no_items = false
   items_hold_float (item d ds) = holds_float d || items_hold_float ds
 
--- the path of the first visited member whose value holds such a number
-abbrev pub first_broken : List Visit → Option (List ℕ)
+-- the refusal of the first visited member whose value holds such a number
+abbrev pub first_broken : List Visit → Option DocumentRefusal
 first_broken [] = None
-first_broken (visit ∷ later) = if holds_float visit.value then Some visit.path else first_broken later
-
-abbrev pub unless_broken : Members → Option (List ℕ) → Result Data DocumentFault
-unless_broken ms None = Ok (object ms)
-unless_broken ms (Some path) = Err (NumberNotWhole path)
+first_broken (visit ∷ later) = if holds_float visit.value then Some (NumberNotWhole visit.path) else first_broken later
 
 -- the document that a value is
-abbrev pub document_of : Data → Result Data DocumentFault
+abbrev pub document_of : Data → Result Data DocumentRefusal
 document_of null = Err NotObject
 document_of (boolean b) = Err NotObject
 document_of (number n) = Err NotObject
 document_of (string s) = Err NotObject
 document_of (array ds) = Err NotObject
-document_of (object ms) = unless_broken ms (first_broken (walk_of_members None ms))
+document_of (object ms) = first_broken (walk_of_members None ms) >> Ok (object ms)
 
 -- ---- rows
 

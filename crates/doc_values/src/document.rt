@@ -1,14 +1,14 @@
-ghost use Rattle.std.specs.Prelude.{◌≡◌, ◌≢◌, ◌≤◌, false, Ok, Err, IfOk, MatchResult};
+ghost use Rattle.std.specs.Prelude.{◌≡◌, ◌≤◌, false, IfOk};
 ghost use Rattle.serde_json.specs.Data.{depth};
 ghost use Rattle.serde_json.specs.Read.{max_depth};
 ghost use Rattle.serde_json.specs.View.{view};
 ghost use Rattle.serde_json.specs.Written.{has_float};
+ghost use Rattle.search_base.specs.Gives.{Gives};
 ghost use Rattle.doc_values.specs.Whole.{IsDocument};
 ghost use Rattle.doc_values.specs.Walk.{document_of};
-ghost use Rattle.doc_values.specs.declared.document.DocumentFault.TheVariants.{NoMemory as Memory};
 
 use crate::floats::check_object;
-use search_base::{NoMemory, Word};
+use search_base::{Fault, Word};
 use serde_json::Value;
 use std::alloc::{AllocError, Global};
 use std::marker::Model;
@@ -37,23 +37,16 @@ impl Model for Document {
 
 /// Why a value is no document.
 #[derive(Debug, Drop)]
-pub enum DocumentFault {
+pub enum DocumentRefusal {
     /// It is no object.
     NotObject,
     /// A number in it is not whole: `path` is that of the first member, in the order of the walk, that holds one
     /// directly or through arrays.
     NumberNotWhole { path: Word },
-    /// Memory ran out.
-    NoMemory,
 }
 
-impl From<NoMemory> for DocumentFault {
-    ghost from_gives = { λ _ fault. fault ≡ Memory };
-
-    fn from(_refused: NoMemory) -> DocumentFault {
-        DocumentFault::NoMemory
-    }
-}
+/// Why there is no document: what `DocumentRefusal` says, or want of memory.
+pub type DocumentFault = Fault<DocumentRefusal>;
 
 impl Document {
     /// The document that `value` is, as it stands, or the first reason why it is none.
@@ -62,13 +55,12 @@ impl Document {
     /// taken only to name the path of a number that is not whole.
     pub fn from_json(alloc: Global, value: Value) -> Result<Document, DocumentFault>
         requires { depth (view value) ≤ max_depth }
-        ensures answer { MatchResult result (λ document. document_of (view value) ≡ Ok document)
-            (λ fault. fault ≢ Memory → document_of (view value) ≡ Err fault) }
+        ensures answer { Gives (λ document. document) result (document_of (view value)) }
         ensures as_given { IfOk result (λ document. document ≡ view value) }
     {
         match &value {
             Value::Object(members) => check_object(alloc, members)?,
-            _ => return Err(DocumentFault::NotObject),
+            _ => return Err(Fault::Refused(DocumentRefusal::NotObject)),
         }
         Ok(Document { value })
     }

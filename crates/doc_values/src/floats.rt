@@ -1,20 +1,20 @@
 ghost use Rattle.std.specs.Prelude.{◌≡◌, None};
 ghost use Rattle.std.specs.Option.{option_copied};
 ghost use Rattle.serde_json.specs.View.{view, items_view, members_view};
-ghost use Rattle.serde_json.specs.Written.{has_float, items_have_float, members_have_float as members_have};
-ghost use Rattle.doc_values.specs.Answers.{IsAnswer};
+ghost use Rattle.serde_json.specs.Written.{has_float as value_has_float, items_have_float, members_have_float as members_have};
+ghost use Rattle.search_base.specs.Gives.{Checks};
 ghost use Rattle.doc_values.specs.Walk.{holds_float as value_holds_float, items_hold_float, first_broken, walk_of_members, walk_inside, walk_inside_items};
 
-use crate::document::DocumentFault;
+use crate::document::{DocumentFault, DocumentRefusal};
 use crate::walk::member_path;
-use search_base::Word;
+use search_base::{Fault, Word};
 use serde_json::{Map, Value};
 use std::alloc::Global;
 
-// Whether a number of a value, at any depth, is not whole.
+/// Whether JSON's reader keeps some number of a value, at any depth, as a float. Takes no memory.
 #[cycle(have_float)]
-fn value_has_float(value: &Value) -> bool
-    ensures { result ≡ has_float (view value.now) }
+pub fn has_float(value: &Value) -> bool
+    ensures { result ≡ value_has_float (view value.now) }
 {
     match value {
         Value::Number(number) => number.is_f64(),
@@ -29,7 +29,7 @@ fn items_have_a_float(items: &Vec<Value>) -> bool
     ensures { result ≡ items_have_float (items_view items.now.items) }
 {
     for item in items {
-        if value_has_float(item) {
+        if has_float(item) {
             return true;
         }
     }
@@ -41,7 +41,7 @@ fn members_have_float(members: &Map<String, Value>) -> bool
     ensures { result ≡ members_have (members_view members.now.entries) }
 {
     for (_, member) in members.iter() {
-        if value_has_float(member) {
+        if has_float(member) {
             return true;
         }
     }
@@ -80,13 +80,13 @@ fn check_members(
     above: Option<&Word>,
     members: &Map<String, Value>,
 ) -> Result<(), DocumentFault>
-    ensures { IsAnswer (first_broken (walk_of_members (option_copied above.entry) (members_view members.now.entries)))
-        result }
+    ensures { Checks result
+        (first_broken (walk_of_members (option_copied above.entry) (members_view members.now.entries))) }
 {
     for (name, member) in members.iter() {
         let path = member_path(alloc, above, name.as_str())?;
         if holds_float(member) {
-            return Err(DocumentFault::NumberNotWhole { path });
+            return Err(Fault::Refused(DocumentRefusal::NumberNotWhole { path }));
         }
         check_inside(alloc, &path, member)?;
     }
@@ -97,7 +97,7 @@ fn check_members(
 #[cycle(check)]
 #[tactic(auto, using(crate::proofs::Broken::first_broken_append))]
 fn check_inside(alloc: Global, path: &Word, value: &Value) -> Result<(), DocumentFault>
-    ensures { IsAnswer (first_broken (walk_inside path.now (view value.now))) result }
+    ensures { Checks result (first_broken (walk_inside path.now (view value.now))) }
 {
     match value {
         Value::Array(items) => check_inside_items(alloc, path, items),
@@ -109,7 +109,7 @@ fn check_inside(alloc: Global, path: &Word, value: &Value) -> Result<(), Documen
 #[cycle(check)]
 #[tactic(auto, using(std::proofs::lemmas::Grind::common_steps, crate::proofs::Broken::first_broken_append))]
 fn check_inside_items(alloc: Global, path: &Word, items: &Vec<Value>) -> Result<(), DocumentFault>
-    ensures { IsAnswer (first_broken (walk_inside_items path.now (items_view items.now.items))) result }
+    ensures { Checks result (first_broken (walk_inside_items path.now (items_view items.now.items))) }
 {
     for item in items {
         check_inside(alloc, path, item)?;
@@ -120,7 +120,7 @@ fn check_inside_items(alloc: Global, path: &Word, items: &Vec<Value>) -> Result<
 // The same of an object's members, where a path takes memory only once it is known that there is one.
 #[tactic(auto, using(crate::proofs::Broken::walk_of_members_none))]
 pub(crate) fn check_object(alloc: Global, members: &Map<String, Value>) -> Result<(), DocumentFault>
-    ensures { IsAnswer (first_broken (walk_of_members None (members_view members.now.entries))) result }
+    ensures { Checks result (first_broken (walk_of_members None (members_view members.now.entries))) }
 {
     if members_have_float(members) {
         check_members(alloc, None, members)

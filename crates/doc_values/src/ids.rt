@@ -1,43 +1,35 @@
-ghost use Rattle.std.specs.Prelude.{◌≡◌, ◌≢◌, Ok, Err, IfOk, MatchResult};
+ghost use Rattle.std.specs.Prelude.{◌≡◌, IfOk};
 ghost use Rattle.std.specs.List.{list_all};
 ghost use Rattle.serde_json.specs.View.{view};
+ghost use Rattle.search_base.specs.Gives.{Gives};
 ghost use Rattle.doc_values.specs.Ids.{external_id_of, id_in, is_id as is_id_text, is_id_byte, is_uid as is_uid_text};
-ghost use Rattle.doc_values.specs.declared.ids.IdFault.TheVariants.{NoMemory as Memory};
 
 use crate::document::Document;
-use search_base::{NoMemory, Word};
+use search_base::{Fault, NoMemory, Word};
 use serde_json::Value;
 use std::alloc::Global;
 
 /// Why a document has no id under a key.
 #[derive(Debug, Drop)]
-pub enum IdFault {
+pub enum IdRefusal {
     /// It has no member of that name at its top.
     MissingId,
     /// The member's value is no id.
     BadId,
-    /// Memory ran out.
-    NoMemory,
 }
 
-impl From<NoMemory> for IdFault {
-    ghost from_gives = { λ _ fault. fault ≡ Memory };
-
-    fn from(_refused: NoMemory) -> IdFault {
-        IdFault::NoMemory
-    }
-}
+/// Why there is no id: what `IdRefusal` says, or want of memory.
+pub type IdFault = Fault<IdRefusal>;
 
 /// The external id of a document: what its top member named `key` holds, where that is an id.
 pub fn external_id(alloc: Global, document: &Document, key: &str) -> Result<Word, IdFault>
-    ensures { MatchResult result (λ id. external_id_of key.now document.now ≡ Ok id)
-        (λ fault. fault ≢ Memory → external_id_of key.now document.now ≡ Err fault) }
+    ensures { Gives (λ id. id) result (external_id_of key.now document.now) }
 {
     match document.as_json().get(key) {
-        None => Err(IdFault::MissingId),
+        None => Err(Fault::Refused(IdRefusal::MissingId)),
         Some(value) => match id_of(alloc, value)? {
             Some(id) => Ok(id),
-            None => Err(IdFault::BadId),
+            None => Err(Fault::Refused(IdRefusal::BadId)),
         },
     }
 }

@@ -1,7 +1,7 @@
 //! Documents: JSON objects whose numbers are all whole, and what is read off them.
 //!
 //! Promises the walk of a document (its paths and rows), its id and primary key, the documents of a body, the merge
-//! of an update, and a canonical text that gives the document back. A fault names its cause exactly.
+//! of an update, and a canonical text that gives the document back. A refusal names its cause exactly.
 //! Contracts see a `Document` as its JSON data, a `Word` as its bytes, and a `Change` as a `ChangeData`.
 //! Stands on `search_base` for words and on `serde_json` for JSON as RFC 8259 has it.
 #![tactic(auto)]
@@ -16,15 +16,14 @@ mod laws;
 mod merge;
 mod rows;
 mod stored;
-#[cfg(test)]
-mod tests;
 mod walk;
 
-pub use bodies::{BodyFault, documents_of};
+pub use bodies::{BodyFault, BodyRefusal, documents_of};
 pub use change::{Change, ChangeKind};
-pub use document::{Document, DocumentFault};
-pub use ids::{IdFault, external_id, id_of, is_uid};
-pub use keys::{KeyFault, infer_key};
+pub use document::{Document, DocumentFault, DocumentRefusal};
+pub use floats::has_float;
+pub use ids::{IdFault, IdRefusal, external_id, id_of, is_uid};
+pub use keys::{KeyFault, KeyRefusal, infer_key};
 pub use laws::rows_say_the_walk;
 pub use merge::merged;
 pub use rows::{Flat, FlatRow, flatten};

@@ -3,8 +3,8 @@ ghost use Rattle.serde_json.specs.Written.{compact_text};
 ghost use Rattle.doc_values.specs.Stored.{document_at};
 ghost use Rattle.doc_values.specs.Whole.{IsDocument};
 
-use crate::document::{Document, DocumentFault};
-use search_base::NoMemory;
+use crate::document::Document;
+use search_base::{Fault, NoMemory};
 use serde_json::Value;
 use std::alloc::Global;
 use std::marker::Model;
@@ -56,8 +56,8 @@ impl DocumentText {
         };
         let document = match Document::from_json(alloc, value) {
             Ok(document) => document,
-            Err(DocumentFault::NoMemory) => return Err(NoMemory),
-            Err(_) => return Ok(None),
+            Err(Fault::NoMemory) => return Err(NoMemory),
+            Err(Fault::Refused(_)) => return Ok(None),
         };
         let own = DocumentText::of(alloc, &document)?;
         if own.text().as_bytes() == text {

@@ -1,21 +1,35 @@
 -- How a refusal of a part is one of the whole.
-use Rattle.std.proofs.Common.{◌≡◌, ◌≢◌, List, Bool, true, false, Option, None, Result, Err, refl}
-use Rattle.std.specs.Prelude.{MatchResult}
+use Rattle.std.proofs.Common.{◌≡◌, List, Option, Some, None, Result, Err, refl}
+use Rattle.std.specs.Prelude.{⊤}
 use Rattle.json.specs.Token.{Token}
-use Rattle.document_stream.specs.Reads.{Reads, Gives}
-use Rattle.document_stream.specs.declared.fault.BodyError.{BodyError}
-use Rattle.document_stream.specs.declared.fault.BodyError.TheVariants.{NotJson, NoMemory}
+use Rattle.search_base.specs.declared.fault.Fault.{Fault}
+use Rattle.search_base.specs.declared.fault.Fault.TheVariants.{Refused, NoMemory}
+use Rattle.search_base.specs.Gives.{Fails, Gives, Checks}
+use Rattle.document_stream.specs.Reads.{IsBroken, Reads}
+use Rattle.document_stream.specs.declared.fault.BodyRefusal.{BodyRefusal}
+use Rattle.document_stream.specs.declared.fault.BodyRefusal.TheVariants.{NotJson}
 
-pub broken : {A B : Type 0} (seen : A → B) (result : Result A BodyError) (wanted : Option (B × List Token)) (left : List Token) → result ≡ Err NotJson → wanted ≡ None → Reads seen result wanted left
-broken seen result wanted left is none = rw is (λ other. (refl, none))
+pub broken : {A B : Type 0} (seen : A → B) (result : Result A (Fault BodyRefusal)) (wanted : Option (B × List Token)) (left : List Token) → result ≡ Err (Refused NotJson) → wanted ≡ None → Reads seen result wanted left
+broken seen result wanted left is none = rw is (refl, none)
 
-pub broken_part : {A B C : Type 0} (seen : A → B) (result : Result A BodyError) (wanted : Option (B × List Token)) (left : List Token) (fault : BodyError) (part : Option (C × List Token)) → result ≡ Err fault
-    → (fault ≢ NoMemory → (fault ≡ NotJson) × (part ≡ None)) → (part ≡ None → wanted ≡ None) → Reads seen result wanted left
-broken_part seen result wanted left fault part is read none = rw is (λ other. let both = read other in (both.0, none both.1))
+broken_at : {B C : Type 0} (fault : Fault BodyRefusal) (wanted : Option B) (part : Option C) → IsBroken fault part → (part ≡ None → wanted ≡ None) → IsBroken fault wanted
+broken_at (Refused why) wanted part read none = (read.0, none read.1)
+broken_at NoMemory wanted part read none = tt
 
-pub broken_rest : {A C : Type 0} (result : Result A BodyError) (rest : Bool) (fault : BodyError) (part : Option (C × List Token)) → result ≡ Err fault → (fault ≢ NoMemory → (fault ≡ NotJson) × (part ≡ None))
-    → (part ≡ None → rest ≡ false) → MatchResult result (λ _. rest ≡ true) (λ f. f ≢ NoMemory → (f ≡ NotJson) × (rest ≡ false))
-broken_rest result rest fault part is read none = rw is (λ other. let both = read other in (both.0, none both.1))
+pub broken_part : {A B C : Type 0} (seen : A → B) (result : Result A (Fault BodyRefusal)) (wanted : Option (B × List Token)) (left : List Token) (fault : Fault BodyRefusal) (part : Option (C × List Token))
+    → result ≡ Err fault → IsBroken fault part → (part ≡ None → wanted ≡ None) → Reads seen result wanted left
+broken_part seen result wanted left fault part is read none = rw is (broken_at fault wanted part read none)
 
-pub gives_fault : {A B : Type 0} (seen : A → B) (result : Result A BodyError) (wanted : Result B BodyError) (fault : BodyError) → result ≡ Err fault → (fault ≢ NoMemory → wanted ≡ Err fault) → Gives seen result wanted
+-- where a part is broken, no JSON is what is wanted
+pub fails_broken : {B C : Type 0} (fault : Fault BodyRefusal) (wanted : Result B BodyRefusal) (part : Option C) → IsBroken fault part → (part ≡ None → wanted ≡ Err NotJson) → Fails fault wanted
+fails_broken (Refused why) wanted part read gone = rw read.0 (gone read.1)
+fails_broken NoMemory wanted part read gone = tt
+
+pub gives_fault : {A B : Type 0} (seen : A → B) (result : Result A (Fault BodyRefusal)) (wanted : Result B BodyRefusal) (fault : Fault BodyRefusal) → result ≡ Err fault → Fails fault wanted → Gives seen result wanted
 gives_fault seen result wanted fault is why = rw is why
+
+-- the same of a check
+pub finds_broken : {C : Type 0} (result : Result ⊤ (Fault BodyRefusal)) (found : Option BodyRefusal) (fault : Fault BodyRefusal) (part : Option C) → result ≡ Err fault → IsBroken fault part
+    → (part ≡ None → found ≡ Some NotJson) → Checks result found
+finds_broken result found (Refused why) part is read gone = rw is (rw read.0 (gone read.1))
+finds_broken result found NoMemory part is read gone = rw is tt

@@ -10,7 +10,7 @@ use Rattle.serde_json.specs.Data.{Data}
 use Rattle.serde_json.specs.Read.{of_json, converted, read}
 use Rattle.document_stream.specs.Bodies.{json_of, documents_in_json, documents_read}
 use Rattle.document_stream.specs.Reads.{value_at, whole, documents_left}
-use Rattle.document_stream.specs.declared.fault.BodyError.TheVariants.{NotJson}
+use Rattle.document_stream.specs.declared.fault.BodyRefusal.TheVariants.{NotJson}
 
 whole_alone : (x : Option Data) → whole (option_map (λ d. (d, [])) x) ≡ x
 whole_alone None = refl

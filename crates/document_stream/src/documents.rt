@@ -1,4 +1,4 @@
-ghost use Rattle.std.specs.Prelude.{◌≡◌, ◌≢◌, ◌≤◌, [], ◌∷◌, true, false, Ok, Err, MatchResult, IfOk};
+ghost use Rattle.std.specs.Prelude.{◌≡◌, ◌≢◌, ◌≤◌, [], ◌∷◌, MatchResult, IfOk};
 ghost use Rattle.json.specs.Lex.{tokens};
 ghost use Rattle.json.specs.Token.{begin_array};
 ghost use Rattle.json.specs.Reads.{token_of};
@@ -6,16 +6,19 @@ ghost use Rattle.serde_json.specs.Data.{depth};
 ghost use Rattle.serde_json.specs.Read.{max_depth};
 ghost use Rattle.serde_json.specs.View.{view};
 ghost use Rattle.doc_values.specs.Walk.{document_of};
-ghost use Rattle.doc_values.specs.Bodies.{placed_result};
-ghost use Rattle.document_stream.specs.Bodies.{or_error, documents_read};
-ghost use Rattle.document_stream.specs.Reads.{value_at, items_at, Gives, documents_left, is_whole, fault_behind};
-ghost use Rattle.document_stream.specs.declared.fault.BodyError.TheVariants.{NotJson as Broken, NoMemory as Memory};
+ghost use Rattle.doc_values.specs.Bodies.{placed};
+ghost use Rattle.search_base.specs.Gives.{Gives, Turns, Checks};
+ghost use Rattle.search_base.specs.Trying.{refused_as};
+ghost use Rattle.search_base.specs.declared.fault.Fault.TheVariants.{Refused as Turned};
+ghost use Rattle.document_stream.specs.Bodies.{refusal_of, documents_read};
+ghost use Rattle.document_stream.specs.Reads.{value_at, items_at, documents_left, broken_behind, refusal_behind};
+ghost use Rattle.document_stream.specs.declared.fault.BodyRefusal.TheVariants.{NotJson as Broken};
 
-use crate::fault::BodyError;
+use crate::fault::{BodyFault, BodyRefusal};
 use crate::values::{read_value, value_from};
-use doc_values::{Document, DocumentFault, DocumentText, documents_of};
+use doc_values::{Document, DocumentRefusal, DocumentText, documents_of};
 use json::{Reader, Scratch, Token};
-use search_base::NoMemory;
+use search_base::{Fault, NoMemory};
 use serde_json::Value;
 use std::alloc::Global;
 
@@ -30,23 +33,22 @@ const MEMBER_DEPTH: usize = 126;
 /// A body that is no JSON is `NotJson` whatever else is wrong with it; else the first fault in the order of documents
 /// is the one that comes. A list of 2^32 members or more counts as one for which there is no memory. Beside the texts
 /// it takes room for as many bytes as the body has, and for one document at a time as a tree.
-pub fn read_documents(alloc: Global, body: &[u8]) -> Result<Vec<DocumentText>, BodyError>
-    ensures { MatchResult result (λ documents. documents_read body.now ≡ Ok documents.items)
-        (λ fault. fault ≢ Memory → documents_read body.now ≡ Err fault) }
+pub fn read_documents(alloc: Global, body: &[u8]) -> Result<Vec<DocumentText>, BodyFault>
+    ensures { Gives (λ documents. documents.items) result (documents_read body.now) }
 {
     match simdutf8::compat::from_utf8(body) {
         Ok(text) => read_text(alloc, text),
-        Err(_) => Err(BodyError::NotJson),
+        Err(_) => Err(Fault::Refused(BodyRefusal::NotJson)),
     }
 }
 
-fn read_text(alloc: Global, text: &str) -> Result<Vec<DocumentText>, BodyError>
+fn read_text(alloc: Global, text: &str) -> Result<Vec<DocumentText>, BodyFault>
     ensures { Gives (λ documents. documents.items) result
         (documents_left (value_at max_depth (tokens text.now))) }
 {
     let mut scratch = Scratch::new(alloc);
     let mut reader = Reader::new(text, &mut scratch)?;
-    let first = reader.next().ok_or(BodyError::NotJson)?;
+    let first = reader.next().ok_or(Fault::Refused(BodyRefusal::NotJson))?;
     match first {
         Token::BeginArray => read_list(alloc, &mut reader),
         _ => read_single(alloc, first, &mut reader),
@@ -58,14 +60,17 @@ fn read_single(
     alloc: Global,
     first: Token<'_>,
     reader: &mut Reader<'_>,
-) -> Result<Vec<DocumentText>, BodyError>
+) -> Result<Vec<DocumentText>, BodyFault>
     ensures { Gives (λ documents. documents.items) result
         (documents_left (value_at max_depth (token_of first.entry ∷ reader.old))) }
 {
     let value = value_from(alloc, first, reader, MAX_DEPTH)?;
     expect_end(reader)?;
-    let documents = documents_of(alloc, value)?;
-    Ok(texts_of(alloc, documents)?)
+    match documents_of(alloc, value) {
+        Ok(documents) => Ok(texts_of(alloc, documents)?),
+        Err(Fault::Refused(refusal)) => Err(Fault::Refused(BodyRefusal::from(refusal))),
+        Err(Fault::NoMemory) => Err(Fault::NoMemory),
+    }
 }
 
 fn texts_of(alloc: Global, documents: Vec<Document>) -> Result<Vec<DocumentText>, NoMemory>
@@ -79,7 +84,7 @@ fn texts_of(alloc: Global, documents: Vec<Document>) -> Result<Vec<DocumentText>
 }
 
 // The documents of a list, behind the bracket that opens it.
-fn read_list(alloc: Global, reader: &mut Reader<'_>) -> Result<Vec<DocumentText>, BodyError>
+fn read_list(alloc: Global, reader: &mut Reader<'_>) -> Result<Vec<DocumentText>, BodyFault>
     ensures { Gives (λ documents. documents.items) result
         (documents_left (value_at max_depth (begin_array ∷ reader.old))) }
 {
@@ -88,11 +93,12 @@ fn read_list(alloc: Global, reader: &mut Reader<'_>) -> Result<Vec<DocumentText>
     'members: while !reader.take_end_array() {
         let value = read_value(alloc, reader, MEMBER_DEPTH)?;
         if before == u32::MAX {
-            return Err(BodyError::NoMemory);
+            return Err(Fault::NoMemory);
         }
         match document_text(alloc, value, before + 1) {
             Ok(document) => documents.push(document)?,
-            Err(fault) => return Err(fault_of_list(alloc, reader, fault)),
+            Err(Fault::Refused(why)) => return Err(fault_of_list(alloc, reader, why)),
+            Err(Fault::NoMemory) => return Err(Fault::NoMemory),
         }
         before += 1;
     }
@@ -100,38 +106,44 @@ fn read_list(alloc: Global, reader: &mut Reader<'_>) -> Result<Vec<DocumentText>
     Ok(documents)
 }
 
-fn document_text(alloc: Global, value: Value, place: u32) -> Result<DocumentText, BodyError>
+fn document_text(alloc: Global, value: Value, place: u32) -> Result<DocumentText, BodyFault>
     requires { depth (view value) ≤ max_depth }
     ensures { Gives (λ document. document) result
-        (or_error (placed_result place (document_of (view value)))) }
+        (refused_as (λ why. refusal_of (placed place why)) (document_of (view value))) }
 {
     match Document::from_json(alloc, value) {
         Ok(document) => Ok(DocumentText::of(alloc, &document)?),
-        Err(DocumentFault::NotObject) => Err(BodyError::NotObject { document: place }),
-        Err(DocumentFault::NumberNotWhole { path }) => Err(BodyError::NumberNotWhole {
-            document: place,
-            path,
-        }),
-        Err(DocumentFault::NoMemory) => Err(BodyError::NoMemory),
+        Err(Fault::Refused(refusal)) => Err(Fault::Refused(refused_at(place, refusal))),
+        Err(Fault::NoMemory) => Err(Fault::NoMemory),
     }
 }
 
-// The fault of a list whose first faulty document has `fault`: the rest is read, since a list that is broken behind
-// is no JSON.
-fn fault_of_list(alloc: Global, reader: &mut Reader<'_>, fault: BodyError) -> BodyError
-    ensures { result ≢ Memory → result ≡ fault_behind fault (items_at MEMBER_DEPTH reader.old) }
+fn refused_at(place: u32, refusal: DocumentRefusal) -> BodyRefusal
+    ensures { result ≡ refusal_of (placed place refusal) }
+{
+    match refusal {
+        DocumentRefusal::NotObject => BodyRefusal::NotObject { document: place },
+        DocumentRefusal::NumberNotWhole { path } => BodyRefusal::NumberNotWhole {
+            document: place,
+            path,
+        },
+    }
+}
+
+// The fault of a list whose first document that is none is refused for `why`: the rest is read, since a list that is
+// broken behind is no JSON.
+fn fault_of_list(alloc: Global, reader: &mut Reader<'_>, why: BodyRefusal) -> BodyFault
+    ensures { Turns (refusal_behind why (items_at MEMBER_DEPTH reader.old)) result }
 {
     match pass_members(alloc, reader) {
-        Ok(()) => fault,
+        Ok(()) => Fault::Refused(why),
         Err(broken) => broken,
     }
 }
 
 // Passes the members that are left of a list, and its end, behind which nothing may follow.
-fn pass_members(alloc: Global, reader: &mut Reader<'_>) -> Result<(), BodyError>
-    ensures { MatchResult result (λ _. is_whole (items_at MEMBER_DEPTH reader.old) ≡ true)
-        (λ fault. fault ≢ Memory
-        → (fault ≡ Broken) × (is_whole (items_at MEMBER_DEPTH reader.old) ≡ false)) }
+fn pass_members(alloc: Global, reader: &mut Reader<'_>) -> Result<(), BodyFault>
+    ensures { Checks result (broken_behind (items_at MEMBER_DEPTH reader.old)) }
 {
     'members: while !reader.take_end_array() {
         drop(read_value(alloc, reader, MEMBER_DEPTH)?);
@@ -141,12 +153,12 @@ fn pass_members(alloc: Global, reader: &mut Reader<'_>) -> Result<(), BodyError>
 }
 
 // No token is left.
-fn expect_end(reader: &mut Reader<'_>) -> Result<(), BodyError>
+fn expect_end(reader: &mut Reader<'_>) -> Result<(), BodyFault>
     ensures { MatchResult result (λ _. reader.old ≡ [])
-        (λ fault. (fault ≡ Broken) × (reader.old ≢ [])) }
+        (λ fault. (fault ≡ Turned Broken) × (reader.old ≢ [])) }
 {
     match reader.next() {
         None => Ok(()),
-        Some(_) => Err(BodyError::NotJson),
+        Some(_) => Err(Fault::Refused(BodyRefusal::NotJson)),
     }
 }

@@ -1,17 +1,13 @@
 ghost use Rattle.std.specs.Prelude.{◌≡◌};
-ghost use Rattle.document_stream.specs.Bodies.{error_of};
-ghost use Rattle.document_stream.specs.declared.fault.BodyError.TheVariants.{NotJson as Broken, NoMemory as Memory};
+ghost use Rattle.document_stream.specs.Bodies.{refusal_of};
 
-use doc_values::BodyFault;
-use json::Invalid;
-use search_base::{NoMemory, Word};
-use std::alloc::{AllocError, AllocFailed};
+use search_base::{Fault, Word};
 
 /// Why no documents are read from a body. Documents are numbered from 1.
 #[derive(Debug, Drop)]
-pub enum BodyError {
+pub enum BodyRefusal {
     /// It is no JSON (RFC 8259): no UTF-8, nested deeper than 127, with a number too large for a float, or another
-    /// text. Where this holds it is the fault, whatever stands before the place that is broken.
+    /// text. Where this holds it is the refusal, whatever stands before the place that is broken.
     NotJson,
     /// It is neither a list nor an object.
     NotList,
@@ -20,54 +16,21 @@ pub enum BodyError {
     /// This document holds a number that is not whole, under the first such path in the order of its walk, and those
     /// before it are documents.
     NumberNotWhole { document: u32, path: Word },
-    /// Memory ran out.
-    NoMemory,
 }
 
-impl From<BodyFault> for BodyError {
-    ghost from_gives = { λ fault error. error ≡ error_of fault };
+/// Why no documents are read: what `BodyRefusal` says, or want of memory.
+pub type BodyFault = Fault<BodyRefusal>;
 
-    fn from(fault: BodyFault) -> BodyError {
-        match fault {
-            BodyFault::NotList => BodyError::NotList,
-            BodyFault::NotObject { document } => BodyError::NotObject { document },
-            BodyFault::NumberNotWhole { document, path } => BodyError::NumberNotWhole {
-                document,
-                path,
-            },
-            BodyFault::NoMemory => BodyError::NoMemory,
+impl From<doc_values::BodyRefusal> for BodyRefusal {
+    ghost from_gives = { λ refusal own. own ≡ refusal_of refusal };
+
+    fn from(refusal: doc_values::BodyRefusal) -> BodyRefusal {
+        match refusal {
+            doc_values::BodyRefusal::NotList => BodyRefusal::NotList,
+            doc_values::BodyRefusal::NotObject { document } => BodyRefusal::NotObject { document },
+            doc_values::BodyRefusal::NumberNotWhole { document, path } => {
+                BodyRefusal::NumberNotWhole { document, path }
+            }
         }
-    }
-}
-
-impl From<Invalid> for BodyError {
-    ghost from_gives = { λ _ error. error ≡ Broken };
-
-    fn from(_broken: Invalid) -> BodyError {
-        BodyError::NotJson
-    }
-}
-
-impl From<NoMemory> for BodyError {
-    ghost from_gives = { λ _ error. error ≡ Memory };
-
-    fn from(_refused: NoMemory) -> BodyError {
-        BodyError::NoMemory
-    }
-}
-
-impl From<AllocError> for BodyError {
-    ghost from_gives = { λ _ error. error ≡ Memory };
-
-    fn from(_refused: AllocError) -> BodyError {
-        BodyError::NoMemory
-    }
-}
-
-impl<T: Drop> From<AllocFailed<T>> for BodyError {
-    ghost from_gives = { λ _ error. error ≡ Memory };
-
-    fn from(_refused: AllocFailed<T>) -> BodyError {
-        BodyError::NoMemory
     }
 }

@@ -10,6 +10,7 @@ use Rattle.serde_json.specs.Read.{read}
 use Rattle.serde_json.specs.Written.{compact_text}
 use Rattle.doc_values.specs.Stored.{document_at}
 use Rattle.doc_values.specs.Ids.{is_uid}
+use Rattle.std.specs.Result.{result_ok}
 use Rattle.index_settings.specs.View.{SettingsView}
 use Rattle.index_settings.specs.Patch.{patch_of}
 use Rattle.index_settings.specs.Table.{defaults}
@@ -24,7 +25,7 @@ use Rattle.index_image.specs.Layout.{long, settings_text, document_bytes, list_b
 use Rattle.index_image.specs.Names.{has_name}
 use Rattle.index_image.specs.Rows.{IndexData, ImageData, image_view}
 use Rattle.change_payloads.specs.Spelling.{text, optional}
-use Rattle.index_image.specs.State.{is_above, settings_of, printed_at, if_printed, accepted, is_next, external_ids, fits, most_documents, IsPrimaryKey, IsNew, IsPlaced, IsIndex, IsState}
+use Rattle.index_image.specs.State.{is_above, settings_of, printed_at, if_printed, is_next, external_ids, fits, most_documents, IsPrimaryKey, IsNew, IsPlaced, IsIndex, IsState}
 use Rattle.change_payloads.proofs.Found.{IsBytes, IsBytes-rest, Takes, Takes-then, bind_ok, guard_ended, ok_is, if_some, some_is, then_some, held_ok, number_takes, text_takes, optional_takes, document_own, nil_from_length}
 use Rattle.index_image.proofs.Lists.{up_to_takes, counted_takes}
 use Rattle.index_image.proofs.LongFields.{changes_take, long_takes}
@@ -68,8 +69,8 @@ path_takes before bytes x fits e =
 settings_own : (front : List ℕ) (s : SettingsView) → settings_of front ≡ Some s → front ≡ settings_text s
 settings_own front s e =
     let a = if_some (is_utf8 front) (printed_at front (read front)) s e in
-    let b = then_some (λ d. option_and_then (if_printed front) (accepted (patch_of defaults d))) (read front) s a.1 in
-    let f = then_some (if_printed front) (accepted (patch_of defaults b.0)) s b.2 in
+    let b = then_some (λ d. option_and_then (if_printed front) (result_ok (patch_of defaults d))) (read front) s a.1 in
+    let f = then_some (if_printed front) (result_ok (patch_of defaults b.0)) s b.2 in
     let g = if_some (bytes_eq (settings_text f.0) front) (Some f.0) s f.2 in
     sym ((bytes_eq-Decides (settings_text f.0) front).0 g.0) ∙ ap settings_text (some_is f.0 s (Some f.0) refl g.1)
 

@@ -1,5 +1,6 @@
 -- Which states an image may hold.
-use Rattle.std.specs.Prelude.{◌≡◌, ℕ, ◌<◌, ◌≤◌, List, [], ◌∷◌, ◌++◌, length, Bool, true, false, ◌&&◌, not, nat_lt, Option, Some, None, option_and_then, unwrap_or, Result, Ok, Err, if◌then◌else◌, bytes_eq}
+use Rattle.std.specs.Prelude.{◌≡◌, ℕ, ◌<◌, ◌≤◌, List, [], ◌∷◌, ◌++◌, length, Bool, true, false, ◌&&◌, not, nat_lt, Option, Some, None, option_and_then, unwrap_or, if◌then◌else◌, bytes_eq}
+use Rattle.std.specs.Result.{result_ok}
 use Rattle.std.specs.Cmp.Lexicographic.{slice_cmp}
 use Rattle.std.specs.List.{list_all}
 use Rattle.std.specs.Ordering.{nat_cmp, is_lt}
@@ -8,11 +9,9 @@ use Rattle.serde_json.specs.Data.{Data}
 use Rattle.serde_json.specs.Read.{read}
 use Rattle.doc_values.specs.Ids.{external_id_of, is_uid}
 use Rattle.doc_values.specs.Walk.{paths_of}
-use Rattle.doc_values.specs.declared.ids.IdFault.{IdFault}
 use Rattle.index_settings.specs.View.{SettingsView}
 use Rattle.index_settings.specs.Patch.{patch_of}
 use Rattle.index_settings.specs.Table.{defaults}
-use Rattle.index_settings.specs.declared.fault.SettingsFault.{SettingsFault}
 use Rattle.index_image.specs.declared.rows.ImageDocument.{ImageDocument}
 use Rattle.index_image.specs.Layout.{settings_text}
 use Rattle.index_image.specs.Names.{has_name}
@@ -33,15 +32,11 @@ is_above (i ∷ j ∷ before) uid = is_above (j ∷ before) uid
 
 -- ---- settings
 
-abbrev pub accepted : Result SettingsView SettingsFault → Option SettingsView
-accepted (Ok s) = Some s
-accepted (Err fault) = None
-
 abbrev pub if_printed : List ℕ → SettingsView → Option SettingsView
 if_printed bytes s = if bytes_eq (settings_text s) bytes then Some s else None
 
 abbrev pub printed_at : List ℕ → Option Data → Option SettingsView
-printed_at bytes value = option_and_then (λ d. option_and_then (if_printed bytes) (accepted (patch_of defaults d))) value
+printed_at bytes value = option_and_then (λ d. option_and_then (if_printed bytes) (result_ok (patch_of defaults d))) value
 
 -- the settings that are printed as this text
 abbrev pub settings_of : List ℕ → Option SettingsView
@@ -55,13 +50,9 @@ is_next [] id = true
 is_next (d ∷ []) id = nat_lt d.id.0 id
 is_next (d ∷ e ∷ before) id = is_next (e ∷ before) id
 
-abbrev pub some_id : Result (List ℕ) IdFault → Option (List ℕ)
-some_id (Ok id) = Some id
-some_id (Err fault) = None
-
 -- the external id of a document under a key, where it has one
 abbrev pub id_under : List ℕ → Data → Option (List ℕ)
-id_under key d = some_id (external_id_of key d)
+id_under key d = result_ok (external_id_of key d)
 
 -- the external ids of documents that have one
 abbrev pub external_ids : List ℕ → List ImageDocument → List (List ℕ)

@@ -13,8 +13,6 @@ mod index;
 mod names;
 mod numbers;
 mod rows;
-#[cfg(test)]
-mod tests;
 
 pub use encoding::encode;
 pub use image::decode;

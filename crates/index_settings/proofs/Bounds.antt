@@ -9,23 +9,24 @@ use Rattle.std.specs.Prelude.{if◌then◌else◌, is_some, unwrap_or, option_an
 use Rattle.serde_json.specs.Data.{Data, null, boolean, number, string, array, object, Items, no_items, item, Members, no_members, member}
 use Rattle.serde_json.specs.Events.{items_len}
 use Rattle.serde_json.specs.Find.{get, get_member, as_str, as_number, as_u64}
-use Rattle.index_settings.specs.declared.fault.SettingsFault.{SettingsFault}
-use Rattle.index_settings.specs.declared.fault.SettingsFault.TheVariants.{WrongShape, NotBuilt}
+use Rattle.index_settings.specs.declared.fault.SettingsRefusal.{SettingsRefusal}
+use Rattle.index_settings.specs.declared.fault.SettingsRefusal.TheVariants.{WrongShape, NotBuilt}
+use Rattle.search_base.specs.Trying.{first_of}
 use Rattle.index_settings.specs.View.{SettingsView}
 use Rattle.index_settings.specs.Values.{is_null, is_within, is_number_up_to, number_in, with_text, item_texts, texts_in, are_texts_up_to}
 use Rattle.index_settings.specs.Rules.{bad_rule}
-use Rattle.index_settings.specs.Table.{or_later, wrong_unless, inner_fault, first_inner, nested_fault, member_fault, first_fault, patch_fault, defaults}
+use Rattle.index_settings.specs.Table.{wrong_unless, inner_fault, first_inner, nested_fault, member_fault, first_fault, patch_fault, defaults}
 use Rattle.index_settings.specs.Patch.{chosen, patched}
 use Rattle.index_settings.specs.Limits.{IsSettings, AreInOrder}
 use Rattle.index_settings.proofs.Ordered.{in_order_none}
 
 -- ---- no fault
 
-none_first : (a b : Option SettingsFault) → or_later a b ≡ None → a ≡ None
+none_first : (a b : Option SettingsRefusal) → first_of a b ≡ None → a ≡ None
 none_first None b h = refl
 none_first (Some fault) b h = cc
 
-none_later : (a b : Option SettingsFault) → or_later a b ≡ None → b ≡ None
+none_later : (a b : Option SettingsRefusal) → first_of a b ≡ None → b ≡ None
 none_later None b h = h
 none_later (Some fault) b h = cc
 
@@ -33,7 +34,7 @@ same_name : (k l : List ℕ) → slice_cmp nat_cmp k l ≡ Equal → l ≡ k
 same_name k l equal = sym ((bytes_eq-Decides k l).0 (sym (is_eq-slice_cmp k l) ∙ ap is_eq equal))
 
 -- a member that has no fault, found by its name
-at_member : (o : Ordering) (k l : List ℕ) (d v : Data) (fault : List ℕ → Data → Option SettingsFault) (rest : Option Data) → slice_cmp nat_cmp k l ≡ o → fault l d ≡ None
+at_member : (o : Ordering) (k l : List ℕ) (d v : Data) (fault : List ℕ → Data → Option SettingsRefusal) (rest : Option Data) → slice_cmp nat_cmp k l ≡ o → fault l d ≡ None
     → (rest ≡ Some v → fault k v ≡ None) → match_ordering o rest (Some d) rest ≡ Some v → fault k v ≡ None
 at_member Less k l d v fault rest is here later found = later found
 at_member Equal k l d v fault rest is here later found =
@@ -75,11 +76,11 @@ right_of : (right : Bool) (name : List ℕ) → wrong_unless right name ≡ None
 right_of true name none = refl
 right_of false name none = cc
 
-not_null : (b : Bool) (fault : Option SettingsFault) → (if b then None else fault) ≡ None → b ≡ false → fault ≡ None
+not_null : (b : Bool) (fault : Option SettingsRefusal) → (if b then None else fault) ≡ None → b ≡ false → fault ≡ None
 not_null true fault none is = absurd (true≢false is)
 not_null false fault none is = none
 
-both_right : (right : Bool) (fault : Option SettingsFault) (name : List ℕ) → (if right then fault else Some (WrongShape name)) ≡ None → (right ≡ true) × (fault ≡ None)
+both_right : (right : Bool) (fault : Option SettingsRefusal) (name : List ℕ) → (if right then fault else Some (WrongShape name)) ≡ None → (right ≡ true) × (fault ≡ None)
 both_right true fault name none = (refl, none)
 both_right false fault name none = cc
 
@@ -129,13 +130,13 @@ module _ (patch : Data) (none : patch_fault patch ≡ None) where
   rules_right : (d : Data) → get (codes "rankingRules") patch ≡ Some d → is_null d ≡ false → (are_texts_up_to 32 d ≡ true) × (bad_rule (texts_in d) ≡ None)
   rules_right d found other =
       let name = codes "rankingRules" in
-      let fault : Option SettingsFault = if are_texts_up_to 32 d then bad_rule (texts_in d) else Some (WrongShape name) in
+      let fault : Option SettingsRefusal = if are_texts_up_to 32 d then bad_rule (texts_in d) else Some (WrongShape name) in
       both_right (are_texts_up_to 32 d) (bad_rule (texts_in d)) name (not_null (is_null d) fault (value_right name patch d none found) other)
 
   no_attribute : (d : Data) → get (codes "distinctAttribute") patch ≡ Some d → is_null d ≡ false → ⊥
   no_attribute d found other =
       let name = codes "distinctAttribute" in
-      let fault : Option SettingsFault = if is_some (as_str d) then Some (NotBuilt name) else Some (WrongShape name) in
+      let fault : Option SettingsRefusal = if is_some (as_str d) then Some (NotBuilt name) else Some (WrongShape name) in
       never_right (is_some (as_str d)) name (not_null (is_null d) fault (value_right name patch d none found) other)
 
   small_number : (outer inner : List ℕ) → ((d : Data) → member_fault outer d ≡ (if is_null d then None else nested_fault outer inner d))

@@ -5,3 +5,4 @@ mod Bounds
 mod Lengths
 mod Once
 mod RuleTexts
+pub mod Whole

@@ -3,11 +3,12 @@ use Rattle.std.proofs.Common.{◌≡◌, ℕ, codes, Bool, true, false, Option, 
 use Rattle.std.specs.Prelude.{if◌then◌else◌}
 use Rattle.serde_json.specs.Data.{Data}
 use Rattle.serde_json.specs.Find.{get, as_str}
-use Rattle.index_settings.specs.declared.fault.SettingsFault.{SettingsFault}
+use Rattle.index_settings.specs.declared.fault.SettingsRefusal.{SettingsRefusal}
+use Rattle.search_base.specs.Trying.{◌>>◌}
 use Rattle.index_settings.specs.View.{SettingsView}
 use Rattle.index_settings.specs.Values.{is_null, number_in, texts_in, synonyms_in}
 use Rattle.index_settings.specs.Table.{defaults, patch_fault}
-use Rattle.index_settings.specs.Patch.{chosen, patched, unless_wrong}
+use Rattle.index_settings.specs.Patch.{chosen, patched}
 use Rattle.index_settings.specs.Laws.{PatchIsDoneOnce}
 
 -- a value that does not depend on the old one stays where it is chosen again
@@ -41,7 +42,7 @@ patched_again default old d =
       chosen_again old.synonyms default.synonyms synonyms_in (get (codes "synonyms") d),
     )
 
-fault_or : (fault : Option SettingsFault) (one two new : SettingsView) → unless_wrong fault one ≡ Ok new → (one ≡ new → two ≡ new) → unless_wrong fault two ≡ Ok new
+fault_or : (fault : Option SettingsRefusal) (one two new : SettingsView) → (fault >> Ok one) ≡ Ok new → (one ≡ new → two ≡ new) → (fault >> Ok two) ≡ Ok new
 fault_or None one two new is same = ap (λ s. Ok s) (same cc)
 fault_or (Some fault) one two new is same = cc
 

@@ -8,7 +8,7 @@ use Rattle.std.specs.Prelude.{◌&&◌, if◌then◌else◌, nat_lt}
 use Rattle.std.specs.Str.{bytes_eq}
 use Rattle.index_settings.specs.declared.rule.RankingRule.{RankingRule}
 use Rattle.index_settings.specs.declared.rule.RankingRule.TheVariants.{Words, Typo, Proximity, Attribute, Sort, Exactness, Up, Down}
-use Rattle.index_settings.specs.Rules.{before_ending, by_attribute, rule_of}
+use Rattle.index_settings.specs.Rules.{before_ending, by_attribute, rule_of, orders_by}
 use Rattle.index_settings.specs.Laws.{rule_text, HasAttribute, TextsNameRules}
 use Rattle.index_settings.proofs.Endings.{before_none, before_some}
 
@@ -118,3 +118,27 @@ names text (Down start) h =
 
 pub texts_name : TextsNameRules
 texts_name text rule = (named text rule, names text rule)
+
+-- ---- the path that a rule orders by
+
+orders_unless : (path text name : List ℕ) (here rest other : Option RankingRule) → (text ≡ name → orders_by path here ≡ orders_by path other)
+    → orders_by path rest ≡ orders_by path other → orders_by path (if bytes_eq text name then here else rest) ≡ orders_by path other
+orders_unless path text name here rest other first later =
+    cond_both (bytes_eq text name) here rest (λ o. orders_by path o ≡ orders_by path other)
+    (λ same. first ((bytes_eq-Decides text name).0 same)) (λ _. later)
+
+-- a rule that is a word has no attribute before an ending
+pub orders_by_ending : (path text : List ℕ) → orders_by path (rule_of text) ≡ orders_by path (by_attribute (before_ending (codes ":asc") text) (before_ending (codes ":desc") text))
+orders_by_ending path text =
+    let custom = by_attribute (before_ending (codes ":asc") text) (before_ending (codes ":desc") text) in
+    let sixth : Option RankingRule = if bytes_eq text (codes "exactness") then Some Exactness else custom in
+    let fifth : Option RankingRule = if bytes_eq text (codes "sort") then Some Sort else sixth in
+    let fourth : Option RankingRule = if bytes_eq text (codes "attribute") then Some Attribute else fifth in
+    let third : Option RankingRule = if bytes_eq text (codes "proximity") then Some Proximity else fourth in
+    let second : Option RankingRule = if bytes_eq text (codes "typo") then Some Typo else third in
+    orders_unless path text (codes "words") (Some Words) second custom (λ e. rw e)
+    (orders_unless path text (codes "typo") (Some Typo) third custom (λ e. rw e)
+    (orders_unless path text (codes "proximity") (Some Proximity) fourth custom (λ e. rw e)
+    (orders_unless path text (codes "attribute") (Some Attribute) fifth custom (λ e. rw e)
+    (orders_unless path text (codes "sort") (Some Sort) sixth custom (λ e. rw e)
+    (orders_unless path text (codes "exactness") (Some Exactness) custom custom (λ e. rw e) refl)))))

@@ -39,4 +39,5 @@ HasAttribute (Down attribute) = 0 < length attribute
 
 -- a text names a rule exactly where it is that rule's text, and the rule's attribute is not empty
 abbrev pub TextsNameRules : Type 0
-TextsNameRules = (text : List ℕ) (rule : RankingRule) → (rule_of text ≡ Some rule) ↔ ((text ≡ rule_text rule) × HasAttribute rule)
+TextsNameRules = (text : List ℕ) (rule : RankingRule)
+    → (rule_of text ≡ Some rule) ↔ ((text ≡ rule_text rule) × HasAttribute rule)

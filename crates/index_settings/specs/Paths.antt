@@ -3,6 +3,7 @@ use Rattle.std.specs.Prelude.{ℕ, ◌+◌, List, [], ◌∷◌, length, take, d
 use Rattle.std.specs.Str.{bytes_eq}
 use Rattle.std.specs.List.{list_any}
 use Rattle.index_settings.specs.View.{SettingsView}
+use Rattle.index_settings.specs.Rules.{rule_of, orders_by}
 
 abbrev pub names : List (List ℕ) → List ℕ → Bool
 names entries name = list_any (λ entry. bytes_eq entry name) entries
@@ -30,6 +31,13 @@ abbrev pub rank_of : SettingsView → List ℕ → ℕ → Option ℕ
 rank_of s path number =
     if names s.searchable_attributes (codes "*") then Some number
     else first_place 0 path s.searchable_attributes
+
+-- The values at a path are kept for filters and orders: an attribute that may be filtered or sorted by covers it, or a
+-- ranking rule orders by exactly it.
+abbrev pub is_faceted : SettingsView → List ℕ → Bool
+is_faceted s path =
+    is_covered s.filterable_attributes path || (is_covered s.sortable_attributes path
+    || list_any (λ text. orders_by path (rule_of text)) s.ranking_rules)
 
 -- a hit shows the top-level member of this name
 abbrev pub is_displayed : SettingsView → List ℕ → Bool

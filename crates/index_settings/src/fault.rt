@@ -1,12 +1,8 @@
-ghost use Rattle.std.specs.Prelude.{◌≡◌};
-ghost use Rattle.index_settings.specs.declared.fault.SettingsFault.TheVariants.{NoMemory as Memory};
-
-use search_base::{NoMemory, Word};
-use std::alloc::AllocError;
+use search_base::{Fault, Word};
 
 /// Why a patch is refused. A member of `faceting` or `pagination` is named with these before it: `faceting.x`.
 #[derive(Debug, Drop)]
-pub enum SettingsFault {
+pub enum SettingsRefusal {
     /// The settings have no member of this name.
     UnknownMember { member: Word },
     /// The member's value has not its shape, or passes a limit. The name is empty where the patch is no object.
@@ -15,22 +11,7 @@ pub enum SettingsFault {
     BadRankingRule { text: Word },
     /// The member may not hold a text yet.
     NotBuilt { member: Word },
-    /// Memory ran out.
-    NoMemory,
 }
 
-impl From<NoMemory> for SettingsFault {
-    ghost from_gives = { λ _ fault. fault ≡ Memory };
-
-    fn from(_refused: NoMemory) -> SettingsFault {
-        SettingsFault::NoMemory
-    }
-}
-
-impl From<AllocError> for SettingsFault {
-    ghost from_gives = { λ _ fault. fault ≡ Memory };
-
-    fn from(_refused: AllocError) -> SettingsFault {
-        SettingsFault::NoMemory
-    }
-}
+/// Why settings are not patched: what `SettingsRefusal` says, or want of memory.
+pub type SettingsFault = Fault<SettingsRefusal>;

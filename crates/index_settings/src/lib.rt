@@ -1,6 +1,6 @@
 //! The settings of an index: their defaults, how a patch changes them, and how they are printed.
 //!
-//! Promises that a patch and what is printed are their definition, that a fault names the first member in byte order
+//! Promises that a patch and what is printed are their definition, that a refusal names the first member in byte order
 //! that is not acceptable, and that what is printed of settings, taken as a patch, gives them back.
 //! Contracts see `Settings` as a `SettingsView`: lists of texts, numbers, and synonyms in byte order of their keys.
 //! Stands on `search_base` for words and on `serde_json` for JSON as RFC 8259 has it.
@@ -15,15 +15,13 @@ mod rule;
 mod settings;
 mod shape;
 mod synonyms;
-#[cfg(test)]
-mod tests;
 mod texts;
 
-pub use fault::SettingsFault;
+pub use fault::{SettingsFault, SettingsRefusal};
 pub use json::to_json;
 pub use laws::{patch_is_done_once, printed_gives_back, texts_name_rules};
-pub use patching::patch;
-pub use paths::{is_covered, is_displayed, rank_of};
+pub use patching::{patch, patch_checked};
+pub use paths::{is_covered, is_displayed, is_faceted, rank_of};
 pub use rule::{RankingRule, ranking_rule};
 pub use settings::Settings;
 pub use shape::check_patch;

@@ -1,12 +1,12 @@
-ghost use Rattle.std.specs.Prelude.{◌≡◌, ◌≢◌, Ok, Err, None, IfOk, MatchResult, option_map};
+ghost use Rattle.std.specs.Prelude.{◌≡◌, None, IfOk, option_map};
 ghost use Rattle.std.specs.Rc.{rc_slice_items};
 ghost use Rattle.serde_json.specs.Find.{get, as_str};
 ghost use Rattle.serde_json.specs.View.{view as data_of};
+ghost use Rattle.search_base.specs.Gives.{Gives};
 ghost use Rattle.index_settings.specs.Limits.{AreInOrder};
 ghost use Rattle.index_settings.specs.Patch.{chosen, patch_of, patched as patched_view};
-ghost use Rattle.index_settings.specs.Table.{patch_fault};
+ghost use Rattle.index_settings.specs.Table.{defaults, patch_fault};
 ghost use Rattle.index_settings.specs.Values.{number_in, texts_in, synonyms_in};
-ghost use Rattle.index_settings.specs.declared.fault.SettingsFault.TheVariants.{NoMemory as Memory};
 
 use crate::fault::SettingsFault;
 use crate::settings::Settings;
@@ -23,12 +23,19 @@ use std::rc::RcSlice;
 /// A member that is not named stays, and shares its list with `old`; null gives a member its default. The first member
 /// in byte order of names that is not acceptable decides which fault it is. `old` stays as it was.
 pub fn patch(alloc: Global, old: &Settings, members: &Value) -> Result<Settings, SettingsFault>
-    ensures { MatchResult result (λ settings. patch_of old.now (data_of members.now) ≡ Ok settings)
-        (λ fault. fault ≢ Memory → patch_of old.now (data_of members.now) ≡ Err fault) }
+    ensures { Gives (λ settings. settings) result (patch_of old.now (data_of members.now)) }
 {
     check_patch(alloc, members)?;
+    Ok(patch_checked(alloc, old, members)?)
+}
+
+/// The settings after a patch that `check_patch` accepts. `old` stays as it was.
+pub fn patch_checked(alloc: Global, old: &Settings, members: &Value) -> Result<Settings, NoMemory>
+    requires { patch_fault (data_of members.now) ≡ None }
+    ensures { IfOk result (λ settings. settings ≡ patched_view defaults old.now (data_of members.now)) }
+{
     let default = Settings::defaults(alloc)?;
-    Ok(patched(alloc, &default, old, members)?)
+    patched(alloc, &default, old, members)
 }
 
 /// The settings after a patch that has no fault. Null gives the member of `default`.
@@ -114,7 +121,8 @@ fn texts_after(
     value: Option<&Value>,
 ) -> Result<RcSlice<Word>, NoMemory>
     ensures { IfOk result (λ texts. rc_slice_items texts
-        ≡ chosen (rc_slice_items old.now) (rc_slice_items default.now) texts_in (option_map (λ v. data_of v.now) value.entry)) }
+        ≡ chosen (rc_slice_items old.now) (rc_slice_items default.now) texts_in
+        (option_map (λ v. data_of v.now) value.entry)) }
 {
     match value {
         None => Ok(old.clone()?),
@@ -136,7 +144,8 @@ fn synonyms_after(
     requires old { AreInOrder (rc_slice_items old.now) }
     requires default { AreInOrder (rc_slice_items default.now) }
     ensures lists { IfOk result (λ lists. rc_slice_items lists
-        ≡ chosen (rc_slice_items old.now) (rc_slice_items default.now) synonyms_in (option_map (λ v. data_of v.now) value.entry)) }
+        ≡ chosen (rc_slice_items old.now) (rc_slice_items default.now) synonyms_in
+        (option_map (λ v. data_of v.now) value.entry)) }
     ensures in_order { IfOk result (λ lists. AreInOrder (rc_slice_items lists)) }
 {
     match value {

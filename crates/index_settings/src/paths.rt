@@ -1,6 +1,9 @@
 ghost use Rattle.std.specs.Prelude.{◌≡◌};
-ghost use Rattle.index_settings.specs.Paths.{names as names_in, covers as covers_path, is_end_or_dot, is_covered as is_covered_in, rank_of as rank_in, is_displayed as is_displayed_in};
+ghost use Rattle.std.specs.List.{list_any};
+ghost use Rattle.index_settings.specs.Rules.{orders_by as orders_by_rule, rule_of};
+ghost use Rattle.index_settings.specs.Paths.{names as names_in, covers as covers_path, is_end_or_dot, is_covered as is_covered_in, rank_of as rank_in, is_faceted as is_faceted_in, is_displayed as is_displayed_in};
 
+use crate::rule::orders_by;
 use crate::settings::Settings;
 use search_base::Word;
 
@@ -27,6 +30,23 @@ pub fn is_covered(entries: &[Word], path: &str) -> bool
     ensures { result ≡ is_covered_in entries.now path.now }
 {
     entries.iter().any(|entry| covers(path, entry.as_str()))
+}
+
+/// Whether the values at a path are kept for filters and orders: an entry of the filterable or of the sortable
+/// attributes covers the path, or a ranking rule orders by exactly it. Takes no memory.
+pub fn is_faceted(settings: &Settings, path: &str) -> bool
+    ensures { result ≡ is_faceted_in settings.now path.now }
+{
+    is_covered(settings.filterable_attributes(), path)
+        || is_covered(settings.sortable_attributes(), path)
+        || is_ordered_by(settings.ranking_rules(), path)
+}
+
+/// Whether some ranking rule orders by exactly this path.
+fn is_ordered_by(rules: &[Word], path: &str) -> bool
+    ensures { result ≡ list_any (λ text. orders_by_rule path.now (rule_of text)) rules.now }
+{
+    rules.iter().any(|rule| orders_by(rule.as_str(), path))
 }
 
 /// Whether a hit shows the top-level member of this name. Takes no memory.

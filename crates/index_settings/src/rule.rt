@@ -1,5 +1,5 @@
 ghost use Rattle.std.specs.Prelude.{◌≡◌, IfOk, option_map, codes};
-ghost use Rattle.index_settings.specs.Rules.{before_ending, by_attribute, rule_of};
+ghost use Rattle.index_settings.specs.Rules.{before_ending, by_attribute, orders_by as orders_by_rule, rule_of};
 
 use search_base::{NoMemory, Word};
 use std::alloc::Global;
@@ -54,6 +54,20 @@ fn rule_by_attribute(alloc: Global, text: &str) -> Result<Option<RankingRule>, N
         return Ok(Some(RankingRule::Down { attribute }));
     }
     Ok(None)
+}
+
+/// Whether a text names a rule that orders by exactly this path. Takes no memory.
+#[tactic(auto, using(crate::proofs::RuleTexts::orders_by_ending))]
+pub(crate) fn orders_by(text: &str, path: &str) -> bool
+    ensures { result ≡ orders_by_rule path.now (rule_of text.now) }
+{
+    match before(text, ":asc") {
+        Some(attribute) => attribute == path,
+        None => match before(text, ":desc") {
+            Some(attribute) => attribute == path,
+            None => false,
+        },
+    }
 }
 
 /// What stands before an ending of a text, where something does.

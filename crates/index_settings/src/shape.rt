@@ -1,14 +1,14 @@
-ghost use Rattle.std.specs.Prelude.{◌≡◌, ◌≢◌, [], ◌∷◌, IfOk, MatchResult, Some, None};
+ghost use Rattle.std.specs.Prelude.{◌≡◌, [], ◌∷◌};
 ghost use Rattle.serde_json.specs.View.{view as data_of, items_view, members_view};
+ghost use Rattle.search_base.specs.Gives.{Checks, Turns};
 ghost use Rattle.index_settings.specs.Rules.{bad_rule};
 ghost use Rattle.index_settings.specs.Table.{shape_of as shape_at, shape_fault, member_fault, first_fault, patch_fault, inner_fault, first_inner, nested_fault, wrong_unless};
 ghost use Rattle.index_settings.specs.Values.{item_texts};
-ghost use Rattle.index_settings.specs.declared.fault.SettingsFault.TheVariants.{NoMemory as Memory};
 
-use crate::fault::SettingsFault;
+use crate::fault::{SettingsFault, SettingsRefusal};
 use crate::rule::ranking_rule;
 use crate::texts::{are_synonyms, are_texts, are_texts_up_to, is_number_up_to};
-use search_base::{NoMemory, Word};
+use search_base::{Fault, Word};
 use serde_json::{Map, Value};
 use std::alloc::Global;
 
@@ -50,22 +50,20 @@ pub(crate) fn shape_of(name: &str) -> Option<Shape>
     }
 }
 
-/// Tries a patch of settings, member by member in byte order of their names; whether it is accepted does not depend on the
-/// settings that it changes. Each fault is that of the first member that is not acceptable, or of the patch that is no object.
+/// Tries a patch of settings, member by member in byte order of their names; whether it is accepted does not depend
+/// on the settings that it changes. Each fault is that of the first member that is not acceptable, or of the patch
+/// that is no object.
 pub fn check_patch(alloc: Global, patch: &Value) -> Result<(), SettingsFault>
-    ensures { MatchResult result (λ _. patch_fault (data_of patch.now) ≡ None)
-        (λ fault. fault ≢ Memory → patch_fault (data_of patch.now) ≡ Some fault) }
+    ensures { Checks result (patch_fault (data_of patch.now)) }
 {
     match patch {
         Value::Object(members) => check_members(alloc, members),
-        _ => Err(wrong_shape(alloc, "")?),
+        _ => Err(wrong_shape(alloc, "")),
     }
 }
 
 fn check_members(alloc: Global, members: &Map<String, Value>) -> Result<(), SettingsFault>
-    ensures { MatchResult result (λ _. first_fault (members_view members.now.entries) ≡ None)
-        (λ fault. fault ≢ Memory
-        → first_fault (members_view members.now.entries) ≡ Some fault) }
+    ensures { Checks result (first_fault (members_view members.now.entries)) }
 {
     for (name, value) in members.iter() {
         check_member(alloc, name.as_str(), value)?;
@@ -74,13 +72,13 @@ fn check_members(alloc: Global, members: &Map<String, Value>) -> Result<(), Sett
 }
 
 fn check_member(alloc: Global, name: &str, value: &Value) -> Result<(), SettingsFault>
-    ensures { MatchResult result (λ _. member_fault name.now (data_of value.now) ≡ None)
-        (λ fault. fault ≢ Memory → member_fault name.now (data_of value.now) ≡ Some fault) }
+    ensures { Checks result (member_fault name.now (data_of value.now)) }
 {
     match shape_of(name) {
-        None => Err(SettingsFault::UnknownMember {
-            member: Word::new(alloc, name)?,
-        }),
+        None => {
+            let member = Word::new(alloc, name)?;
+            Err(Fault::Refused(SettingsRefusal::UnknownMember { member }))
+        }
         Some(shape) => if value.is_null() {
             Ok(())
         } else {
@@ -91,8 +89,7 @@ fn check_member(alloc: Global, name: &str, value: &Value) -> Result<(), Settings
 
 /// Tries a value that is not null.
 fn check_shape(alloc: Global, shape: Shape, name: &str, value: &Value) -> Result<(), SettingsFault>
-    ensures { MatchResult result (λ _. shape_fault shape name.now (data_of value.now) ≡ None)
-        (λ fault. fault ≢ Memory → shape_fault shape name.now (data_of value.now) ≡ Some fault) }
+    ensures { Checks result (shape_fault shape name.now (data_of value.now)) }
 {
     match shape {
         Shape::Entries => check_right(alloc, are_texts_up_to(value, 65_535), name),
@@ -106,48 +103,41 @@ fn check_shape(alloc: Global, shape: Shape, name: &str, value: &Value) -> Result
 }
 
 fn check_right(alloc: Global, right: bool, name: &str) -> Result<(), SettingsFault>
-    ensures { MatchResult result (λ _. wrong_unless right name.now ≡ None)
-        (λ fault. fault ≢ Memory → wrong_unless right name.now ≡ Some fault) }
+    ensures { Checks result (wrong_unless right name.now) }
 {
     if right {
         Ok(())
     } else {
-        Err(wrong_shape(alloc, name)?)
+        Err(wrong_shape(alloc, name))
     }
 }
 
-fn wrong_shape(alloc: Global, name: &str) -> Result<SettingsFault, NoMemory>
-    ensures { IfOk result (λ fault. fault ≡ SettingsFault.WrongShape name.now) }
+fn wrong_shape(alloc: Global, name: &str) -> SettingsFault
+    ensures { Turns (SettingsRefusal.WrongShape name.now) result }
 {
-    Ok(SettingsFault::WrongShape {
-        member: Word::new(alloc, name)?,
-    })
+    match Word::new(alloc, name) {
+        Ok(member) => Fault::Refused(SettingsRefusal::WrongShape { member }),
+        Err(_) => Fault::NoMemory,
+    }
 }
 
 /// A text would be right, and is not built yet.
 fn check_attribute(alloc: Global, name: &str, value: &Value) -> Result<(), SettingsFault>
-    ensures { MatchResult result
-        (λ _. shape_fault Shape.Attribute name.now (data_of value.now) ≡ None)
-        (λ fault. fault ≢ Memory
-        → shape_fault Shape.Attribute name.now (data_of value.now) ≡ Some fault) }
+    ensures { Checks result (shape_fault Shape.Attribute name.now (data_of value.now)) }
 {
     if value.is_string() {
-        Err(SettingsFault::NotBuilt {
-            member: Word::new(alloc, name)?,
-        })
+        let member = Word::new(alloc, name)?;
+        Err(Fault::Refused(SettingsRefusal::NotBuilt { member }))
     } else {
-        Err(wrong_shape(alloc, name)?)
+        Err(wrong_shape(alloc, name))
     }
 }
 
 fn check_rules(alloc: Global, name: &str, value: &Value) -> Result<(), SettingsFault>
-    ensures { MatchResult result
-        (λ _. shape_fault Shape.Rules name.now (data_of value.now) ≡ None)
-        (λ fault. fault ≢ Memory
-        → shape_fault Shape.Rules name.now (data_of value.now) ≡ Some fault) }
+    ensures { Checks result (shape_fault Shape.Rules name.now (data_of value.now)) }
 {
     if !are_texts_up_to(value, 32) {
-        return Err(wrong_shape(alloc, name)?);
+        return Err(wrong_shape(alloc, name));
     }
     match value {
         Value::Array(items) => check_rule_names(alloc, items),
@@ -156,9 +146,7 @@ fn check_rules(alloc: Global, name: &str, value: &Value) -> Result<(), SettingsF
 }
 
 fn check_rule_names(alloc: Global, items: &Vec<Value>) -> Result<(), SettingsFault>
-    ensures { MatchResult result (λ _. bad_rule (item_texts (items_view items.now.items)) ≡ None)
-        (λ fault. fault ≢ Memory
-        → bad_rule (item_texts (items_view items.now.items)) ≡ Some fault) }
+    ensures { Checks result (bad_rule (item_texts (items_view items.now.items))) }
 {
     for item in items {
         if let Some(text) = item.as_str() {
@@ -169,27 +157,24 @@ fn check_rule_names(alloc: Global, items: &Vec<Value>) -> Result<(), SettingsFau
 }
 
 fn check_rule_name(alloc: Global, text: &str) -> Result<(), SettingsFault>
-    ensures { MatchResult result (λ _. bad_rule (text.now ∷ []) ≡ None)
-        (λ fault. fault ≢ Memory → bad_rule (text.now ∷ []) ≡ Some fault) }
+    ensures { Checks result (bad_rule (text.now ∷ [])) }
 {
     match ranking_rule(alloc, text)? {
         Some(_) => Ok(()),
-        None => Err(SettingsFault::BadRankingRule {
-            text: Word::new(alloc, text)?,
-        }),
+        None => {
+            let text = Word::new(alloc, text)?;
+            Err(Fault::Refused(SettingsRefusal::BadRankingRule { text }))
+        }
     }
 }
 
 /// Tries an object that may have one member, a number.
 fn check_nested(alloc: Global, outer: &str, inner: &str, value: &Value) -> Result<(), SettingsFault>
-    ensures { MatchResult result
-        (λ _. nested_fault outer.now inner.now (data_of value.now) ≡ None)
-        (λ fault. fault ≢ Memory
-        → nested_fault outer.now inner.now (data_of value.now) ≡ Some fault) }
+    ensures { Checks result (nested_fault outer.now inner.now (data_of value.now)) }
 {
     match value {
         Value::Object(members) => check_inside(alloc, outer, inner, members),
-        _ => Err(wrong_shape(alloc, outer)?),
+        _ => Err(wrong_shape(alloc, outer)),
     }
 }
 
@@ -199,10 +184,7 @@ fn check_inside(
     inner: &str,
     members: &Map<String, Value>,
 ) -> Result<(), SettingsFault>
-    ensures { MatchResult result
-        (λ _. first_inner outer.now inner.now (members_view members.now.entries) ≡ None)
-        (λ fault. fault ≢ Memory
-        → first_inner outer.now inner.now (members_view members.now.entries) ≡ Some fault) }
+    ensures { Checks result (first_inner outer.now inner.now (members_view members.now.entries)) }
 {
     for (name, value) in members.iter() {
         check_inner(alloc, outer, inner, name.as_str(), value)?;
@@ -217,16 +199,12 @@ fn check_inner(
     name: &str,
     value: &Value,
 ) -> Result<(), SettingsFault>
-    ensures { MatchResult result
-        (λ _. inner_fault outer.now inner.now name.now (data_of value.now) ≡ None)
-        (λ fault. fault ≢ Memory
-        → inner_fault outer.now inner.now name.now (data_of value.now) ≡ Some fault) }
+    ensures { Checks result (inner_fault outer.now inner.now name.now (data_of value.now)) }
 {
     let whole = format!(in alloc; "{outer}.{name}")?;
     if name != inner {
-        return Err(SettingsFault::UnknownMember {
-            member: Word::from_string(whole)?,
-        });
+        let member = Word::from_string(whole)?;
+        return Err(Fault::Refused(SettingsRefusal::UnknownMember { member }));
     }
     check_right(
         alloc,

@@ -39,7 +39,8 @@ pub(crate) fn are_texts_up_to(value: &Value, most: usize) -> bool
 
 #[tactic(auto, using(crate::proofs::Lengths::items_len_of_view))]
 fn are_few_texts(items: &Vec<Value>, most: usize) -> bool
-    ensures { result ≡ (nat_le (items_len (items_view items.now.items)) most && items_are_texts (items_view items.now.items)) }
+    ensures { result ≡ (nat_le (items_len (items_view items.now.items)) most
+        && items_are_texts (items_view items.now.items)) }
 {
     items.len() <= most && items_are_text(items)
 }

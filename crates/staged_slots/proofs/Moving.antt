@@ -3,7 +3,7 @@ use Rattle.std.proofs.Common.{◌≡◌, ◌<◌, ◌≤◌, ◌+◌, ◌++◌, 
 use Rattle.std.proofs.Math.Seq.{take-set-lt}
 use Rattle.std.proofs.lemmas.Bool.Decides.{nat_tests}
 use Rattle.std.proofs.lemmas.Grind.{common_steps}
-use Rattle.std.proofs.lemmas.List.{drop-append-le, drop_more, drop-set-lt, length-append, length-set, length-take-le, map-append, take-set-le}
+use Rattle.std.proofs.lemmas.List.{get_or-set_same, get_or-set_other, get_or_append_left, drop-append-le, drop_more, drop-set-lt, length-append, length-set, length-take-le, map-append, take-set-le}
 use Rattle.std.proofs.lemmas.List.Elements.{filter_map-append}
 use Rattle.staged_slots.specs.Staged.{IsCut, filled, settled}
 
@@ -37,13 +37,18 @@ module _ {T : Type 0} where
   drop-moved : (items : List (Option T)) (next at : ℕ) (item : Option T) → at ≤ next → drop (next + 1) (moved items next at item) ≡ drop (next + 1) items
   drop-moved items next at item h = drop-set-lt (next + 1) (slice_set items next None) at item (omega arith) ∙ drop-set-lt (next + 1) items next None (omega arith)
 
+  -- behind the slots nothing is held up to the item that was taken, and there neither
+  emptied : (items : List (Option T)) (next k : ℕ) → (k < next → get_or items k None ≡ None) → next < length items → k < next + 1 → get_or (slice_set items next None) k None ≡ None
+  emptied items next k room h below = grind (arith, get_or-set_same, get_or-set_other)
+
   -- a list with an item moved is cut behind that item
   pub IsCut-moved :
-      (items : List (Option T)) (slots next at len : ℕ) (item : Option T) → IsCut items slots next → next < length items → at ≤ next → len ≤ next + 1
+      (items : List (Option T)) (slots next at len : ℕ) (item : Option T) → IsCut items slots next → next < length items → at ≤ next → len ≤ next + 1 → slots ≤ len → at < len
       → IsCut (moved items next at item) len (next + 1)
-  IsCut-moved items slots next at len item cut h i j = record {
+  IsCut-moved items slots next at len item cut h i j more behind = record {
     order = j;
     within = simp length-set (omega arith);
+    room = λ k from below. get_or-set_other (slice_set items next None) at k item None (omega arith) ∙ emptied items next k (λ low. cut.room k (omega arith) low) h below;
     staged =
         rw (drop-moved items next at item i)
         (others_staged (get_or items next None) (drop (next + 1) items) (rw (drop_more items next None h) at cut.staged));
@@ -77,6 +82,7 @@ module _ {T : Type 0} where
   IsCut-push items slots next value cut = record {
     order = cut.order;
     within = let w = cut.within in simp length-append (omega arith);
+    room = λ k from below. get_or_append_left items (Some value ∷ []) None k (let w = cut.within in omega arith) ∙ cut.room k from below;
     staged =
         drop-append-le next items (Some value ∷ []) cut.within ∙ ap (λ (xs : List (Option T)). xs ++ Some value ∷ []) cut.staged
         ∙ sym (map-append Some (filled (drop next items)) (value ∷ [])) ∙ sym (ap (map Some) (staged-push items next value cut.within));

@@ -1,5 +1,5 @@
 -- A list of slots, and values that are staged for it.
-use Rattle.std.specs.Prelude.{◌≡◌, ◌≤◌, ℕ, List, [], ◌∷◌, ◌++◌, map, drop, length, nat_lt, slice_set, Option, Some, refl, if◌then◌else◌}
+use Rattle.std.specs.Prelude.{◌≡◌, ◌≤◌, ◌<◌, ℕ, List, [], ◌∷◌, ◌++◌, map, drop, length, nat_lt, slice_set, slice_index_or, Option, None, Some, refl, if◌then◌else◌}
 use Rattle.std.specs.List.{filter_map}
 use Rattle.std.specs.Coded.{Coded, code_by, coded×, coded_list, coded_option}
 
@@ -22,12 +22,14 @@ module _ {T : Type 0} where
   abbrev pub filled : List (Option T) → List T
   filled items = filter_map (λ item. item) items
 
-  -- the first of the items are slots, and from another place on each one is staged
+  -- the first of the items are slots, from another place on each one is staged, and between them nothing is held
   pub record IsCut (items : List (Option T)) (slots next : ℕ) : Type 0 where
     pub order : slots ≤ next
     pub within : next ≤ length items
+    pub room : (k : ℕ) → slots ≤ k → k < next → slice_index_or items k None ≡ None
     pub staged : drop next items ≡ map Some (filled (drop next items))
 
   -- the slots with a value in one of them, or in a new one behind the others
   abbrev pub settled : ℕ → T → List (Option T) → List (Option T)
-  settled at value slots = if nat_lt at (length slots) then slice_set slots at (Some value) else slots ++ Some value ∷ []
+  settled at value slots =
+      if nat_lt at (length slots) then slice_set slots at (Some value) else slots ++ Some value ∷ []

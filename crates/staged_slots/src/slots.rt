@@ -6,7 +6,8 @@ use std::alloc::Global;
 use std::marker::Model;
 use std::mem;
 
-/// A list of slots, each with a value or empty, and behind them values that wait for a slot, in order. Seen as the two lists.
+/// A list of slots, each with a value or empty, and behind them values that wait for a slot, in order. Seen as the
+/// two lists.
 #[derive(Drop)]
 pub struct StagedSlots<T> {
     items: Vec<Option<T>>,
@@ -76,7 +77,8 @@ impl<T: Drop> StagedSlots<T> {
         &self.items[self.next..]
     }
 
-    /// Takes the memory in which some more values can be staged, so that they are not moved as they come. Nothing changes.
+    /// Takes the memory in which some more values can be staged, so that they are not moved as they come. Nothing
+    /// changes.
     pub fn reserve(&mut self, more: usize) -> Result<(), NoMemory>
         ensures slots { self.new.slots ≡ self.old.slots }
         ensures staged { self.new.staged ≡ self.old.staged }
@@ -104,8 +106,8 @@ impl<T: Drop> StagedSlots<T> {
         self.next = self.slots;
     }
 
-    /// Moves the first value that is staged into a slot, in place of what is there, or into a new one behind the others. Takes
-    /// no memory.
+    /// Moves the first value that is staged into a slot, in place of what is there, or into a new one behind the
+    /// others. Takes no memory.
     pub fn settle(&mut self, at: usize)
         requires staged { 0 < length self.old.staged }
         requires slot { at ≤ length self.old.slots }

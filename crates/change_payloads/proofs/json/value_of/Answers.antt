@@ -13,6 +13,6 @@ returns-else-is_memory c =
 
 pub returns-then-eq : goal.returns-then-eq
 returns-then-eq c =
-    let whole : has_float (view c.in-Ok.value) ≡ false = sym c.holds_float.ensures ∙ c.if-holds_float.false in
+    let whole : has_float (view c.in-Ok.value) ≡ false = sym c.has_float.ensures ∙ c.if-has_float.false in
     let same : c.in_ok-own.own.items ≡ c.args.bytes.now = sym c.as_slice.ensures.value ∙ (bytes_eq-Decides _ _).0 (sym c.eq.ensures ∙ c.if-eq.true) in
     sym (json_own (view c.in-Ok.value) c.args.bytes.now c.in-Ok.ensures.ok.0 c.in-Ok.ensures.ok.1 whole (sym (c.in_ok-own.ensures.text whole) ∙ same))

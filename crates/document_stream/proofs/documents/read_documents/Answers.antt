@@ -13,4 +13,4 @@ returns-in-Ok c =
     rw same at c.read_text.ensures
 
 pub returns-in-Err : goal.returns-in-Err
-returns-in-Err c = λ other. documents_read-no_text c.args.body.now c.in-Err.ensures.cases.0
+returns-in-Err c = documents_read-no_text c.args.body.now c.in-Err.ensures.cases.0

@@ -8,7 +8,8 @@ use Rattle.serde_json.specs.View.{view, number_view, members_view}
 use Rattle.serde_json.specs.declared.value.Value.{String, Number, Bool, Null, the_lemmas}
 use Rattle.serde_json.proofs.Views.{view-Array, view-Object, members_view-insert_entry}
 use Rattle.document_stream.specs.Reads.{value_at, items_at, members_at}
-use Rattle.document_stream.specs.declared.fault.BodyError.TheVariants.{NotJson}
+use Rattle.search_base.specs.declared.fault.Fault.TheVariants.{Refused}
+use Rattle.document_stream.specs.declared.fault.BodyRefusal.TheVariants.{NotJson}
 use Rattle.document_stream.proofs.Refusals.{broken, broken_part}
 use Rattle.document_stream.proofs.Turns.{members_onto, value_at-begin_array, value_at-begin_object, value_at-flat_array, value_at-flat_object, value_at-empty, items_over, item_read, item_refused, members_over, key_refused, member_read, member_refused, items_before, items_before-no_items, one_more_item}
 use Rattle.document_stream.proofs.values.+values.Goals as goal
@@ -45,15 +46,15 @@ read_items-returns-clause-items t c =
 pub read_members-returns-in_err-name-clause-members : goal.read_members-returns-in_err-name-clause-members
 read_members-returns-in_err-name-clause-members t c =
     let l = c.members in
-    let is : c.from_residual.result ≡ Err NotJson = grind arith in
-    broken _ _ _ _ is (l.invariant.all ∙ key_refused c.args.depth (members_view l.found.entries) l.reader c.in_err-name.ensures.value)
+    let is : c.from_residual.result ≡ Err (Refused NotJson) = grind arith in
+    broken _ _ _ _ is (l.invariant.all ∙ key_refused c.args.depth (members_view l.found.entries) l.reader c.in_err-name.ensures.1)
 
 pub read_members-returns-in_err-member-clause-members : goal.read_members-returns-in_err-member-clause-members
 read_members-returns-in_err-member-clause-members t c =
     let depth = c.args.depth in
     let l = c.members in
     let k = c.in-Some.name.now in
-    let s = c.next_key.new.self in
+    let s = c.next_name.new.reader in
     let named : read_key l.reader ≡ Some (Some k, s) = grind arith in
     let is : c.from_residual-in_err-member.result ≡ Err c.in_err-member.field-0.0 = grind arith in
     broken_part _ _ _ _ _ (value_at depth s) is c.in_err-member.ensures.value (λ none. l.invariant.all ∙ member_refused depth (members_view l.found.entries) k l.reader s named none)
@@ -64,7 +65,7 @@ read_members-members-preserved t c =
     let l = c.members in
     let old = members_view l.found.entries in
     let k = c.in-Some.name.now in
-    let s = c.next_key.new.self in
+    let s = c.next_name.new.reader in
     let named : read_key l.reader ≡ Some (Some k, s) = grind arith in
     let v = c.in_ok-member.member in
     let r = c.read_value.new.reader in
@@ -80,23 +81,23 @@ read_members-members-preserved t c =
 pub read_members-returns-clause-members : goal.read_members-returns-clause-members
 read_members-returns-clause-members t c =
     let l = c.members in
-    l.invariant.all ∙ members_over c.args.depth (members_view l.found.entries) l.reader c.next_key.new.self (grind arith)
+    l.invariant.all ∙ members_over c.args.depth (members_view l.found.entries) l.reader c.next_name.new.reader (grind arith)
 
 pub read_value-returns-in_err-first-clause-value : goal.read_value-returns-in_err-first-clause-value
 read_value-returns-in_err-first-clause-value t c =
     let empty : c.args.reader.now ≡ [] = grind arith in
-    let is : c.from_residual.result ≡ Err NotJson = grind arith in
+    let is : c.from_residual.result ≡ Err (Refused NotJson) = grind arith in
     broken _ _ _ _ is (ap (value_at c.args.depth) empty ∙ value_at-empty c.args.depth)
 
 pub value_from-returns-then-depth-eq0-clause-value : goal.value_from-returns-then-depth-eq0-clause-value
 value_from-returns-then-depth-eq0-clause-value t c =
     let none : c.args.depth ≡ 0 = omega arith in
-    λ other. (refl, ap (λ k. value_at c.args.depth (token_of k ∷ c.args.reader.now)) c.in-BeginArray.is ∙ value_at-flat_array c.args.depth c.args.reader.now none)
+    (refl, ap (λ k. value_at c.args.depth (token_of k ∷ c.args.reader.now)) c.in-BeginArray.is ∙ value_at-flat_array c.args.depth c.args.reader.now none)
 
 pub value_from-returns-then-depth-eq0-2-clause-value : goal.value_from-returns-then-depth-eq0-2-clause-value
 value_from-returns-then-depth-eq0-2-clause-value t c =
     let none : c.args.depth ≡ 0 = omega arith in
-    λ other. (refl, ap (λ k. value_at c.args.depth (token_of k ∷ c.args.reader.now)) c.in-BeginObject.is ∙ value_at-flat_object c.args.depth c.args.reader.now none)
+    (refl, ap (λ k. value_at c.args.depth (token_of k ∷ c.args.reader.now)) c.in-BeginObject.is ∙ value_at-flat_object c.args.depth c.args.reader.now none)
 
 pub value_from-returns-in_err-read_items-in-BeginArray-clause-value : goal.value_from-returns-in_err-read_items-in-BeginArray-clause-value
 value_from-returns-in_err-read_items-in-BeginArray-clause-value t c =
@@ -135,7 +136,7 @@ value_from-returns-in-Some-clause-value t c =
 pub value_from-returns-in-None-clause-value : goal.value_from-returns-in-None-clause-value
 value_from-returns-in-None-clause-value t c =
     let first = ap (λ k. value_at c.args.depth (token_of k ∷ c.args.reader.now)) c.in-Number.is in
-    λ other. (refl, first ∙ ap (converted of_json) (value_is c.args.depth _) ∙ rw (← c.in-None.ensures))
+    (refl, first ∙ ap (converted of_json) (value_is c.args.depth _) ∙ rw (← c.in-None.ensures))
 
 pub value_from-returns-in_ok-from_str-in-String-clause-value : goal.value_from-returns-in_ok-from_str-in-String-clause-value
 value_from-returns-in_ok-from_str-in-String-clause-value t c =
@@ -162,4 +163,4 @@ value_from-returns-in_ok-read_members-in-BeginObject-clause-value t c =
 pub value_from-returns-in-EndArray-clause-value : goal.value_from-returns-in-EndArray-clause-value
 value_from-returns-in-EndArray-clause-value t c =
     let none : value c.args.depth (token_of c.args.first ∷ c.args.reader.now) ≡ None = rw (value_is c.args.depth (token_of c.args.first ∷ c.args.reader.now)) (grind arith) in
-    λ other. (refl, ap (converted of_json) none)
+    (refl, ap (converted of_json) none)

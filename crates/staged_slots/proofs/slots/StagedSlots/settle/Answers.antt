@@ -12,7 +12,7 @@ invariant_of-self g c =
     rw c.replace-first.ensures.after
     (IsCut-moved s.items.items s.slots s.next c.args.at (s.slots + 1) c.replace-first.result c.self.invariant within
     (omega (arith, c.self.invariant, c.if-at-self.true))
-    (omega (arith, c.self.invariant)))
+    (omega (arith, c.self.invariant)) (omega arith) (omega (arith, c.if-at-self.true)))
 
 pub invariant_of-self-else-at-self : goal.invariant_of-self-else-at-self
 invariant_of-self-else-at-self g c =
@@ -24,7 +24,7 @@ invariant_of-self-else-at-self g c =
     rw c.replace-first.ensures.after
     (IsCut-moved s.items.items s.slots s.next c.args.at s.slots c.replace-first.result c.self.invariant within
     (omega (arith, c.self.invariant, n, m, c.requires.slot))
-    (omega (arith, c.self.invariant)))
+    (omega (arith, c.self.invariant)) (omega arith) (omega (arith, n, m, c.requires.slot, c.if-at-self.false)))
 
 pub returns-else-at-self : goal.returns-else-at-self
 returns-else-at-self g c =
