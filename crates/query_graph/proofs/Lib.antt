@@ -1,2 +1,5 @@
 pub mod ItemLemmas
-pub mod GraphLemmas
+pub mod LevelLemmas
+pub mod ReadingLemmas
+pub mod SoundLemmas
+pub mod CostLemmas

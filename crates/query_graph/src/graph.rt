@@ -1,58 +1,119 @@
-ghost use Rattle.std.specs.Prelude.{◌≡◌, ◌<◌, ◌≤◌, ◌++◌, length, map, IfOk, OnOk};
+ghost use Rattle.std.specs.Prelude.{◌≡◌, ◌<◌, ◌≤◌, ◌+◌, ◌++◌, ◌∷◌, List, [], length, map, filter, IfOk, OnOk};
 ghost use Rattle.search_base.specs.Graphs.{IsGraph};
+ghost use Rattle.search_base.specs.Query.{tuple_under};
+ghost use Rattle.search_base.specs.RowsView.{RowsView};
+ghost use Rattle.search_base.specs.Tuple.{tuple};
+ghost use Rattle.search_base.specs.declared.rule.Rule.{Rule};
 ghost use Rattle.query_graph.specs.Items.{most_items, AreItems};
-ghost use Rattle.query_graph.specs.ItemReadings.{block_of, choices};
-ghost use Rattle.query_graph.specs.Levels.{level_count, levels};
-ghost use Rattle.query_graph.specs.Graph.{placed_at, level_of, words_of, graph_of, ReadsAs};
+ghost use Rattle.query_graph.specs.ItemReadings.{words_of, query_for};
+ghost use Rattle.query_graph.specs.Levels.{word_count, with_words, most_dropped, has_items, levels};
+ghost use Rattle.query_graph.specs.Graph.{placed_at, blocks_at, level_of, HaveReadings};
 
+use crate::block::{choices, words_of};
 use crate::item::{Item, Items};
-use search_base::{Block, Graph, Kind, LevelGraph, NoMemory, PlacedBlock, Strategy, Term, Word};
+use search_base::{Block, Graph, LevelGraph, NoMemory, PlacedBlock, Strategy};
 use std::alloc::Global;
+use synonym_terms::SynonymTable;
 
-/// The graph of a query with these items: a level for each number of words that may be dropped
-/// from the end so that one stays, from none on; under `Strategy::All` none may be dropped.
+const MOST_JOINED: usize = 3;
+
+/// The graph of a query with these items and synonyms.
 ///
-/// Each word that a level keeps is a plain block, and the prefix word a prefix block too.
-pub fn build_graph(alloc: Global, items: &Items, strategy: Strategy) -> Result<Graph, NoMemory>
+/// It has a level for each number of words that may be dropped from the end so that an item stays,
+/// from none on; under `Strategy::All` none may be dropped, and a phrase never is. Each level has
+/// the readings of the items that it keeps, so each document has the costs that it has under the
+/// query. A block stands in its level once for all readings that begin, go on or end with it: a
+/// level of ten items has 27 parts at most, each with few blocks and with those of its synonyms.
+pub fn build_graph(
+    alloc: Global,
+    items: &Items,
+    table: &SynonymTable,
+    strategy: Strategy,
+) -> Result<Graph, NoMemory>
     requires { AreItems items.now }
-    ensures graph { IfOk result (λ graph. graph ≡ graph_of strategy items.now) }
-    ensures readings { IfOk result (λ graph. ReadsAs graph.levels (levels strategy items.now)) }
     ensures sound { IfOk result IsGraph }
+    ensures whole { IfOk result (λ graph. graph.whole ≡ words_of items.now) }
+    ensures paths { IfOk result (λ graph. HaveReadings graph.levels (query_for strategy table.now items.now).levels) }
+    ensures costs { IfOk result (λ graph. (rows : RowsView) (rules : List Rule)
+        → tuple rows graph rules ≡ tuple_under rows (query_for strategy table.now items.now) rules) }
 {
+    table.terms_have_words();
     let list = items.list.as_slice();
-    let levels = levels_of(alloc, list, strategy)?;
+    let levels = levels_of(alloc, list, table, strategy)?;
     let whole = words_of(alloc, list)?;
     Ok(Graph { levels, whole })
 }
 
-fn levels_of(alloc: Global, list: &[Item], strategy: Strategy) -> Result<Vec<LevelGraph>, NoMemory>
+fn levels_of(
+    alloc: Global,
+    list: &[Item],
+    table: &SynonymTable,
+    strategy: Strategy,
+) -> Result<Vec<LevelGraph>, NoMemory>
     requires { length list.now ≤ most_items }
-    ensures { IfOk result (λ graphs. graphs.items ≡ map level_of (levels strategy list.now)) }
+    ensures { IfOk result (λ graphs. graphs.items ≡ map (level_of table.now) (levels strategy list.now)) }
 {
+    let words = word_count(list);
+    let most = match strategy {
+        Strategy::Last => words,
+        Strategy::All => 0,
+    };
     let mut graphs = Vec::new(alloc);
-    for dropped in 0..level_count(strategy, list.len()) {
-        let kept = &list[..list.len() - dropped];
-        graphs.push(level_of(alloc, kept)?)?;
+    for dropped in 0..most + 1 {
+        let kept = with_words(alloc, words - dropped, list)?;
+        add_level(alloc, kept.as_slice(), table, &mut graphs)?;
     }
     Ok(graphs)
 }
 
-fn level_count(strategy: Strategy, items: usize) -> usize
-    ensures { result ≡ level_count strategy items }
+fn word_count(list: &[Item]) -> usize
+    ensures words { result ≡ word_count list.now }
+    ensures few { result ≤ length list.now }
 {
-    match strategy {
-        Strategy::Last => items,
-        Strategy::All => items.min(1),
-    }
+    list.iter().filter(|item| !item.phrase).count()
 }
 
-fn level_of(alloc: Global, kept: &[Item]) -> Result<LevelGraph, NoMemory>
+// The phrases, and the first words, as many as these.
+fn with_words(alloc: Global, words: usize, list: &[Item]) -> Result<Vec<Item>, NoMemory>
+    ensures { IfOk result (λ kept. kept.items ≡ with_words words list.now) }
+{
+    let mut kept = Vec::new(alloc);
+    let mut left = words;
+    for item in list {
+        if item.phrase {
+            kept.push(item.clone()?)?;
+        } else if left > 0 {
+            kept.push(item.clone()?)?;
+            left -= 1;
+        }
+    }
+    Ok(kept)
+}
+
+// The level that keeps these items, if there are any.
+fn add_level(
+    alloc: Global,
+    kept: &[Item],
+    table: &SynonymTable,
+    graphs: &mut Vec<LevelGraph>,
+) -> Result<(), NoMemory>
     requires { length kept.now ≤ most_items }
-    ensures { IfOk result (λ level. level ≡ level_of kept.now) }
+    ensures { OnOk result (graphs.new.items
+        ≡ graphs.old.items ++ map (level_of table.now) (filter has_items (kept.now ∷ []))) }
+{
+    if !kept.is_empty() {
+        graphs.push(level_of(alloc, kept, table)?)?;
+    }
+    Ok(())
+}
+
+fn level_of(alloc: Global, kept: &[Item], table: &SynonymTable) -> Result<LevelGraph, NoMemory>
+    requires { length kept.now ≤ most_items }
+    ensures { IfOk result (λ level. level ≡ level_of table.now kept.now) }
 {
     let mut blocks = Vec::new(alloc);
-    for (at, item) in kept.iter().enumerate() {
-        add_blocks(at as u8, item, &mut blocks)?;
+    for from in 0..kept.len() {
+        add_blocks(alloc, from, &kept[from..], table, &mut blocks)?;
     }
     Ok(LevelGraph {
         items: kept.len() as u8,
@@ -60,50 +121,40 @@ fn level_of(alloc: Global, kept: &[Item]) -> Result<LevelGraph, NoMemory>
     })
 }
 
-// The blocks that the item after this place may be read as.
-fn add_blocks(at: u8, item: &Item, blocks: &mut Vec<PlacedBlock>) -> Result<(), NoMemory>
-    requires { at < most_items }
-    ensures { OnOk result (blocks.new.items
-        ≡ blocks.old.items ++ map (placed_at at) (choices item.now)) }
+// The blocks that begin with the first of these items, which stands behind this place.
+fn add_blocks(
+    alloc: Global,
+    from: usize,
+    items: &[Item],
+    table: &SynonymTable,
+    blocks: &mut Vec<PlacedBlock>,
+) -> Result<(), NoMemory>
+    requires { from + length items.now ≤ most_items }
+    ensures { OnOk result (blocks.new.items ≡ blocks.old.items ++ blocks_at table.now from items.now) }
 {
-    blocks.push(placed(at, Kind::Plain, false, item)?)?;
-    if item.prefix {
-        blocks.push(placed(at, Kind::Prefix, true, item)?)?;
+    let most = items.len().min(MOST_JOINED);
+    for span in 1..most + 1 {
+        let part = choices(alloc, table, &items[..span])?;
+        place_all(from, span, part, blocks)?;
     }
     Ok(())
 }
 
-fn placed(at: u8, kind: Kind, prefix: bool, item: &Item) -> Result<PlacedBlock, NoMemory>
-    requires { at < most_items }
-    ensures { IfOk result (λ placed. placed ≡ placed_at at (block_of kind prefix item.now)) }
+fn place_all(
+    from: usize,
+    span: usize,
+    part: Vec<Block>,
+    blocks: &mut Vec<PlacedBlock>,
+) -> Result<(), NoMemory>
+    requires { from + span ≤ most_items }
+    ensures { OnOk result (blocks.new.items ≡ blocks.old.items ++ map (placed_at from span) part.items) }
 {
-    let words = item.words.clone()?;
-    Ok(PlacedBlock {
-        from: at,
-        to: at + 1,
-        block: Block {
-            span: 1,
-            term: Term { words, prefix },
-            kind,
-        },
-    })
-}
-
-fn words_of(alloc: Global, list: &[Item]) -> Result<Vec<Word>, NoMemory>
-    ensures { IfOk result (λ words. words.items ≡ words_of list.now) }
-{
-    let mut words = Vec::new(alloc);
-    for item in list {
-        add_words(item.words.as_slice(), &mut words)?;
-    }
-    Ok(words)
-}
-
-fn add_words(more: &[Word], words: &mut Vec<Word>) -> Result<(), NoMemory>
-    ensures { OnOk result (words.new.items ≡ words.old.items ++ more.now) }
-{
-    for word in more {
-        words.push(word.clone()?)?;
+    for block in part {
+        blocks.push(PlacedBlock {
+            from: from as u8,
+            to: (from + span) as u8,
+            block,
+        })?;
     }
     Ok(())
 }

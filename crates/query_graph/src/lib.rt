@@ -1,15 +1,15 @@
 //! What a query asks for: the items of its text, and the graph of how they may be read.
 //!
-//! Both calls are exactly their definitions in `specs/`, and the readings of a graph are those of
-//! the items that each level keeps. Contracts see `Items` as the list of its items, and an item as
-//! a record of lists. The form here has neither quoted phrases nor joined words nor synonyms: an
-//! item is a word. The crate stands on `token_words`, which cuts the text.
+//! `items` is exactly its definition in `specs/`. The graph that `build_graph` makes has the
+//! readings of the items that each level keeps, and so the costs of every document: a block is kept
+//! once, however many readings it is in, and no reading is ever listed. Contracts see `Items` as
+//! the list of its items, and an item as a record of lists. The crate stands on `token_words`,
+//! which cuts texts into words, and on `synonym_terms`.
 #![tactic(auto)]
 
+mod block;
 mod graph;
 mod item;
-#[cfg(test)]
-mod tests;
 mod text;
 
 pub use graph::build_graph;

@@ -1,43 +1,130 @@
-ghost use Rattle.std.specs.Prelude.{◌≡◌, ◌==◌, not, length, take, filter, IfOk};
+ghost use Rattle.std.specs.Prelude.{◌≡◌, ◌==◌, ◌&&◌, ◌++◌, not, length, map, take, filter, false, IfOk, OnOk};
 ghost use Rattle.std.specs.List.{list_any, list_all};
 ghost use Rattle.token_words.specs.Tokens.{tokens};
-ghost use Rattle.query_graph.specs.Items.{most_items, word_item, word_items, is_among, is_left_out, without_stop_words, items_of, AreItems};
+ghost use Rattle.query_graph.specs.Items.{parts, word_item, word_items, phrase_items, part_items, items_in};
+ghost use Rattle.query_graph.specs.Items.{first_items, is_among, is_left_out, without_stop_words, items_of, AreItems};
 
 use crate::item::{Item, Items};
-use search_base::{NoMemory, Word};
+use search_base::{NoMemory, Token, Word};
 use std::alloc::Global;
 use token_words::tokens;
 
 const MOST_ITEMS: usize = 10;
 
-/// The items of the query text `q`: its first ten words, each an item of its own.
+/// The items of the query text `q`, ten at most.
 ///
-/// The last word of the text, where it is among the ten and its segment ends where the text does,
-/// is the prefix word. An item whose word is one of `stop_words`, which are in normal form, is
-/// left out unless it is the prefix word; where that would leave no item, all stay. A double quote
-/// is a separator like any other: phrases are not read.
+/// Each double quote opens or closes a phrase, and one that is not closed runs to the end. The
+/// parts between quotes are cut into words apart. Outside quotes each word is an item; inside, the
+/// words together are one, where there are any. Of all items the first ten are read. The last word
+/// of the text is the prefix word where it is read, stands outside quotes and its segment ends
+/// where the text does. Then each word that is one of `stop_words`, which are in normal form, is
+/// left out unless it is the prefix word; where that would leave no item, all stay.
 pub fn items(alloc: Global, q: &str, stop_words: &[Word]) -> Result<Items, NoMemory>
     ensures items { IfOk result (λ list. list ≡ items_of q.now stop_words.now) }
-    ensures words { IfOk result AreItems }
+    ensures each { IfOk result AreItems }
 {
     let list = first_items(alloc, q)?;
     Ok(without_stop_words(list, stop_words))
 }
 
-// The words of the query, as many as are read.
 fn first_items(alloc: Global, q: &str) -> Result<Vec<Item>, NoMemory>
-    ensures { IfOk result (λ list. list.items ≡ take most_items (word_items q.now (tokens q.now))) }
+    ensures { IfOk result (λ list. list.items ≡ first_items q.now) }
 {
-    let words = tokens(alloc, q)?;
-    let words = words.as_slice();
-    let read = words.len().min(MOST_ITEMS);
-    let mut list = Vec::new(alloc);
-    for i in 0..read {
-        let token = &words[i];
-        let prefix = i + 1 == words.len() && token.end == q.len() as u64;
-        list.push(word_item(alloc, prefix, &token.word)?)?;
-    }
+    let mut list = all_items(alloc, q)?;
+    list.truncate(MOST_ITEMS);
     Ok(list)
+}
+
+fn all_items(alloc: Global, q: &str) -> Result<Vec<Item>, NoMemory>
+    ensures { IfOk result (λ list. list.items ≡ items_in false (parts q.now)) }
+{
+    let mut list = Vec::new(alloc);
+    let mut quoted = false;
+    let mut rest = q;
+    while let Some((part, behind)) = rest.split_once('"') {
+        add_part(alloc, quoted, false, part, &mut list)?;
+        quoted = !quoted;
+        rest = behind;
+    }
+    add_part(alloc, quoted, true, rest, &mut list)?;
+    Ok(list)
+}
+
+// The items of a part of the text, which may be the last one.
+fn add_part(
+    alloc: Global,
+    quoted: bool,
+    last: bool,
+    part: &str,
+    list: &mut Vec<Item>,
+) -> Result<(), NoMemory>
+    ensures { OnOk result (list.new.items ≡ list.old.items ++ part_items quoted last part.now) }
+{
+    let words = tokens(alloc, part)?;
+    if quoted {
+        add_phrase(alloc, words.as_slice(), list)
+    } else {
+        add_words(alloc, last, part.len() as u64, words.as_slice(), list)
+    }
+}
+
+fn add_phrase(alloc: Global, words: &[Token], list: &mut Vec<Item>) -> Result<(), NoMemory>
+    ensures { OnOk result (list.new.items ≡ list.old.items ++ phrase_items words.now) }
+{
+    if words.is_empty() {
+        return Ok(());
+    }
+    list.push(Item {
+        words: words_of(alloc, words)?,
+        phrase: true,
+        prefix: false,
+    })?;
+    Ok(())
+}
+
+fn words_of(alloc: Global, tokens: &[Token]) -> Result<Vec<Word>, NoMemory>
+    ensures { IfOk result (λ words. words.items ≡ map (λ token. token.word) tokens.now) }
+{
+    let mut words = Vec::new(alloc);
+    for token in tokens {
+        words.push(token.word.clone()?)?;
+    }
+    Ok(words)
+}
+
+// The words of a part that ends at this byte, each an item of its own.
+fn add_words(
+    alloc: Global,
+    last: bool,
+    end: u64,
+    words: &[Token],
+    list: &mut Vec<Item>,
+) -> Result<(), NoMemory>
+    ensures { OnOk result (list.new.items ≡ list.old.items ++ word_items last end words.now) }
+{
+    let Some((word, front)) = words.split_last() else {
+        return Ok(());
+    };
+    add_whole_words(alloc, front, list)?;
+    let prefix = ends_text(last, end, word);
+    list.push(word_item(alloc, prefix, &word.word)?)?;
+    Ok(())
+}
+
+fn add_whole_words(alloc: Global, words: &[Token], list: &mut Vec<Item>) -> Result<(), NoMemory>
+    ensures { OnOk result (list.new.items
+        ≡ list.old.items ++ map (λ token. word_item false token.word) words.now) }
+{
+    for word in words {
+        list.push(word_item(alloc, false, &word.word)?)?;
+    }
+    Ok(())
+}
+
+fn ends_text(last: bool, end: u64, word: &Token) -> bool
+    ensures { result ≡ (last && (word.now.end == end)) }
+{
+    last && word.end == end
 }
 
 fn word_item(alloc: Global, prefix: bool, word: &Word) -> Result<Item, NoMemory>
@@ -74,11 +161,11 @@ fn all_left_out(stop_words: &[Word], list: &[Item]) -> bool
     list.iter().all(|item| is_left_out(stop_words, item))
 }
 
-// Whether the item is a stop word, and not the prefix word.
+// Whether the item is a stop word, and not the prefix word. A phrase is none.
 fn is_left_out(stop_words: &[Word], item: &Item) -> bool
     ensures { result ≡ is_left_out stop_words.now item.now }
 {
-    !item.prefix && has_stop_word(stop_words, item.words.as_slice())
+    !item.phrase && !item.prefix && has_stop_word(stop_words, item.words.as_slice())
 }
 
 fn has_stop_word(stop_words: &[Word], words: &[Word]) -> bool

@@ -4,7 +4,7 @@ use Rattle.query_graph.specs.Items.{AreItems, without_stop_words}
 use Rattle.query_graph.proofs.ItemLemmas.{are_items}
 use Rattle.query_graph.proofs.text.items.Goals as goal
 
-pub returns-clause-words : goal.returns-clause-words
-returns-clause-words c =
+pub returns-clause-each : goal.returns-clause-each
+returns-clause-each c =
     let is = c.without_stop_words.ensures ∙ ap (λ (items : List ItemView). without_stop_words c.args.stop_words.now items) c.in_ok-list.ensures in
     subst AreItems (sym is) (are_items c.args.q.now c.args.stop_words.now)

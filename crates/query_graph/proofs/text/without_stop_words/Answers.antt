@@ -1,4 +1,4 @@
-use Rattle.std.proofs.Common.{◌≡◌, ◌∙◌, sym, ap, refl, true, false, not, List}
+use Rattle.std.proofs.Common.{◌≡◌, ◌∙◌, sym, ap, refl, true, false, List}
 use Rattle.std.specs.List.{list_all}
 use Rattle.query_graph.specs.ItemView.{ItemView}
 use Rattle.query_graph.specs.Items.{is_left_out}

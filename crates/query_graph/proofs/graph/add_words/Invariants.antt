@@ -1,6 +1,0 @@
-use Rattle.std.proofs.Common.{◌≡◌, ◌++◌, take}
-use Rattle.query_graph.proofs.graph.add_words.Given as goal
-
--- the words so far are added
-abbrev pub invariant-loop-word : goal.invariant-loop-word
-invariant-loop-word l = l.words.items ≡ l.initial.words.items ++ take l.word-index l.more

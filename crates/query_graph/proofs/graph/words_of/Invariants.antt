@@ -1,7 +1,0 @@
-use Rattle.std.proofs.Common.{◌≡◌, ◌++◌, drop}
-use Rattle.query_graph.specs.Graph.{words_of}
-use Rattle.query_graph.proofs.graph.words_of.Given as goal
-
--- the words so far and those of the items to come are the words of all items
-abbrev pub invariant-loop-item : goal.invariant-loop-item
-invariant-loop-item l = l.words.items ++ words_of (drop l.item-index l.fn.list) ≡ words_of l.fn.list
