@@ -1,3 +1,4 @@
+pub mod ApartLemmas
 pub mod PathLemmas
 pub mod StartLemmas
-pub mod TextLemmas
+pub mod ValueLemmas

@@ -1,4 +1,5 @@
 -- What a search sees of a document.
 pub mod Texts
 pub mod Grouped
+pub mod Facets
 pub mod Rows

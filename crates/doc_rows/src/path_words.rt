@@ -1,6 +1,10 @@
 ghost use Rattle.std.specs.Prelude.{◌≡◌, ◌+◌, ◌≤◌, ◌++◌, map, filter, min, OnOk};
+ghost use Rattle.std.specs.List.{filter_map};
 ghost use Rattle.doc_rows.specs.Rows.{place_of, next_start, is_searched, places_of as places_of_path, places_at};
+ghost use Rattle.doc_rows.specs.Texts.{leaf_text};
 
+use crate::path_texts::texts;
+use doc_values::Flat;
 use search_base::{NoMemory, PathId, Place, Token, Word};
 use std::alloc::Global;
 use token_words::tokens;
@@ -9,19 +13,23 @@ const LAST_SEARCHED: u128 = 65535;
 
 const TEXT_STEP: u128 = 8;
 
-// The words that are searched of the path with this number and rank, which has these texts. A path without a rank is not
-// searched.
-pub fn add_path(
+/// Adds the words that are searched of the path with this number and rank, which has these values. A path without a
+/// rank is not searched.
+pub fn add_places(
     alloc: Global,
     number: u16,
     rank: Option<u16>,
-    texts: &[Word],
+    values: &[Flat],
     places: &mut Vec<Place>,
 ) -> Result<(), NoMemory>
-    ensures { OnOk result (places.new.items ≡ places.old.items ++ places_at number rank texts.now) }
+    ensures { OnOk result (places.new.items
+        ≡ places.old.items ++ places_at number rank (filter_map leaf_text values.now)) }
 {
     match rank {
-        Some(rank) => add_texts(alloc, number, rank, texts, places),
+        Some(rank) => {
+            let texts = texts(alloc, values)?;
+            add_texts(alloc, number, rank, texts.as_slice(), places)
+        }
         None => Ok(()),
     }
 }

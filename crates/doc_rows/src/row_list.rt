@@ -1,40 +1,63 @@
-ghost use Rattle.std.specs.Prelude.{◌≡◌, ◌≤◌, length, IfOk};
-ghost use Rattle.doc_rows.specs.Rows.{rows_of};
+ghost use Rattle.std.specs.Prelude.{◌≡◌, ◌≤◌, length, IfOk, OnOk};
+ghost use Rattle.doc_rows.specs.Rows.{and_rows, path_rows, rows_of};
 
-use crate::path_texts::{texts_at, texts_by_path};
-use crate::path_words::add_path;
-use doc_values::{Document, flatten};
+use crate::path_facets::{add_leaves, add_marks};
+use crate::path_use::PathUse;
+use crate::path_values::{values_at, values_by_path};
+use crate::path_words::add_places;
+use doc_values::{Document, Flat, flatten};
 use search_base::{DocRows, NoMemory, Word};
 use std::alloc::Global;
 
-/// The words of a document, in an index whose registry of paths is `paths`, where a path is searched exactly if it has a
-/// rank in `ranks`, 0 the best: path by path in the registry's order, and in order of their positions.
+/// What a search sees of a document, in an index whose registry of paths is `paths` and which uses each of these as
+/// `uses` says: the words of the paths that have a rank, and the leaves and marks of those that are faceted, path
+/// by path in the registry's order. A path that is not in the registry is left out. The document is read once.
 ///
-/// The words of a path are the tokens of its leaves in the order of the walk, where a number
-/// counts as its decimal text and a truth value as `true` or `false`. The first word of a path has
-/// position 0, and the first word of a later leaf the position of the word before it plus eight. A
-/// word past position 65,535 is left out, and so is a path that is not in the registry. There are
-/// no leaves and no marks.
+/// The words of a path are the tokens of its leaves in the order of the walk, where a number counts as its decimal
+/// text and a truth value as `true` or `false`, and come in order of their positions. The first word of a path has
+/// position 0, and the first word of a later leaf the position of the word before it plus eight. A word past
+/// position 65,535 is left out.
+///
+/// The leaves of a path come in the order of the walk, each as the number, or as the normal form of its text, with
+/// its spelling. A mark of a path comes once: that it has a value, that one is null, that one is an empty text,
+/// array or object.
 pub fn rows(
     alloc: Global,
     document: &Document,
     paths: &[Word],
-    ranks: &[Option<u16>],
+    uses: &[PathUse],
 ) -> Result<DocRows, NoMemory>
     requires few { length paths.now ≤ 1000 }
-    requires ranks { length ranks.now ≡ length paths.now }
-    ensures { IfOk result (λ rows. rows ≡ rows_of document.now paths.now ranks.now) }
+    requires uses { length uses.now ≡ length paths.now }
+    ensures { IfOk result (λ rows. rows ≡ rows_of document.now paths.now uses.now) }
 {
-    let rows = flatten(alloc, document)?;
-    let texts = texts_by_path(alloc, rows.as_slice())?;
-    let mut places = Vec::new(alloc);
-    for (number, path) in paths.iter().enumerate() {
-        let texts = texts_at(&texts, path);
-        add_path(alloc, number as u16, ranks[number], texts, &mut places)?;
-    }
-    Ok(DocRows {
-        places,
+    let values = values_by_path(alloc, flatten(alloc, document)?)?;
+    let mut rows = DocRows {
+        places: Vec::new(alloc),
         leaves: Vec::new(alloc),
         marks: Vec::new(alloc),
-    })
+    };
+    for (number, path) in paths.iter().enumerate() {
+        let values = values_at(&values, path);
+        add_path(alloc, number as u16, &uses[number], values, &mut rows)?;
+    }
+    Ok(rows)
+}
+
+// What a search sees of the path with this number, which has these values.
+fn add_path(
+    alloc: Global,
+    number: u16,
+    path_use: &PathUse,
+    values: &[Flat],
+    rows: &mut DocRows,
+) -> Result<(), NoMemory>
+    ensures { OnOk result (rows.new ≡ and_rows rows.old (path_rows number path_use.now values.now)) }
+{
+    add_places(alloc, number, path_use.rank, values, &mut rows.places)?;
+    if path_use.faceted {
+        add_leaves(alloc, number, values, &mut rows.leaves)?;
+        add_marks(number, values, &mut rows.marks)?;
+    }
+    Ok(())
 }

@@ -1,21 +1,27 @@
 -- Rows that are packed in a table, which grows.
-use Rattle.std.proofs.Common.{◌≡◌, ◌<◌, ◌≤◌, arith, ℕ, zero, suc, Bool, true, false, cond, ltb, List, [], ◌∷◌, ◌++◌, length, map, set, Option, None, Some, Result, Ok, Err, OnOk, OnErr, refl, sym, ap, ap₂, subst, ◌∙◌}
-use Rattle.std.specs.Prelude.{bytes_eq, slice_get}
-use Rattle.std.specs.Option.{option_map}
-use Rattle.std.specs.List.{AllByRecursion}
+use Rattle.std.proofs.Common.{inl, inr, ◌≡◌, ◌+◌, ◌<◌, ◌≤◌, arith, ℕ, zero, suc, Bool, true, false, cond, ltb, List, [], ◌∷◌, ◌++◌, length, map, take, set, get_or, Option, None, Some, Result, Ok, Err, OnOk, OnErr, refl, sym, ap, ap₂, subst, ◌∙◌, append-nil, append_assoc}
+use Rattle.std.specs.Prelude.{Contains, bytes_eq, slice_get}
+use Rattle.std.specs.Option.{is_some, option_map}
+use Rattle.std.specs.Result.{is_err}
+use Rattle.std.specs.List.{AllByRecursion, cons_option, filter_map}
 use Rattle.std.specs.BTreeMap.{BTreeMap, get, UpdatesBy, is_at}
 use Rattle.std.specs.Map.{lookup}
 use Rattle.std.specs.Cmp.Lexicographic.{slice_cmp}
 use Rattle.std.specs.Ordering.{nat_cmp}
 use Rattle.std.proofs.lemmas.Map.Text.{is_eq-slice_cmp}
-use Rattle.std.proofs.lemmas.Bool.{cond-true, cond-false}
-use Rattle.std.proofs.lemmas.List.{map-set, map_push, length-map}
-use Rattle.search_base.specs.declared.document.Place.{Place}
+use Rattle.std.proofs.lemmas.Bool.{cond-true, cond-false, true≢false}
+use Rattle.std.proofs.lemmas.List.{map-set, map_push, length-map, take_more}
+use Rattle.std.proofs.lemmas.List.Elements.{filter_map-append, Contains-push_cases}
 use Rattle.std.proofs.lemmas.Slice.Eq.{bytes_eq-Decides}
-use Rattle.packed_rows.specs.declared.table.KeptPlace.{KeptPlace}
+use Rattle.search_base.specs.declared.document.Leaf.{Leaf}
+use Rattle.search_base.specs.declared.document.Mark.{Mark}
+use Rattle.search_base.specs.declared.document.Place.{Place}
 use Rattle.search_base.specs.RowsView.{RowsView}
 use Rattle.staged_slots.specs.Staged.{StagedView, settled}
-use Rattle.packed_rows.specs.Packed.{TableView, PackedView, KeptView, own_number, AreNumbers, IsWithin, AreWithin, place_read, rows_shown, rows_read, Keeps, kept_view, IsSlotWithin, AreKeptWithin}
+use Rattle.packed_rows.specs.declared.row.Row.{Row}
+use Rattle.packed_rows.specs.declared.row.Row.TheVariants as row
+use Rattle.packed_rows.specs.declared.table.Entry.{Entry}
+use Rattle.packed_rows.specs.Packed.{TableView, PackedView, KeptView, own_number, AreNumbers, IsWithin, AreWithin, entry_read, place_in, leaf_in, mark_in, and_row, rows_shown, rows_read, Keeps, kept_view, IsSlotWithin, AreKeptWithin}
 
 -- ---- each element
 
@@ -49,13 +55,15 @@ got-last (y ∷ xs) x = got-last xs x
 
 -- ---- the numbers of words
 
--- of a map with the same entries, and more words
-pub numbers-behind : (old new : BTreeMap (List ℕ) ℕ) (words more : List (List ℕ)) → new.entries ≡ old.entries → length (words ++ more) ≤ own_number → AreNumbers old words → AreNumbers new (words ++ more)
-numbers-behind old new words more same few h = record { few = few; each = λ word number found. got-behind words more number word (h.each word number (sym (ap (lookup (is_at (slice_cmp nat_cmp word))) same) ∙ found)) }
+-- of a map with the same entries
+pub numbers-same : (old new : BTreeMap (List ℕ) ℕ) (words : List (List ℕ)) → new.entries ≡ old.entries → AreNumbers old words → AreNumbers new words
+numbers-same old new words same h =
+    let at : (word : List ℕ) → get (slice_cmp nat_cmp) old word ≡ get (slice_cmp nat_cmp) new word = λ word. sym (ap (lookup (is_at (slice_cmp nat_cmp word))) same) in
+    record { few = h.few; each = λ word number found. h.each word number (at word ∙ found); all = λ word in_list. ap is_some (sym (at word)) ∙ h.all word in_list }
 
 -- of a map with one more word, whose number is its place
 pub numbers-more : (old new : BTreeMap (List ℕ) ℕ) (key : List ℕ) (words : List (List ℕ)) (w : List ℕ) → length (words ++ w ∷ []) ≤ own_number → AreNumbers old words → key ≡ w → UpdatesBy (slice_cmp nat_cmp) (slice_cmp nat_cmp key) old new (Some (length words)) → AreNumbers new (words ++ w ∷ [])
-numbers-more old new key words w few h is puts = record { few = few; each = λ word number found. by word number (bytes_eq w word) refl found }
+numbers-more old new key words w few h is puts = record { few = few; each = λ word number found. by word number (bytes_eq w word) refl found; all = λ word in_list. known word (bytes_eq w word) refl in_list }
   where
     same_some : (a b : ℕ) → Some a ≡ Some b → a ≡ b
     same_some a b e = cc
@@ -69,6 +77,22 @@ numbers-more old new key words w few h is puts = record { few = few; each = λ w
         ap (slice_get (words ++ w ∷ [])) (sym same) ∙ got-last words w ∙ ap (λ v. Some v) ((bytes_eq-Decides w q).0 e)
     by q number false e found = got-behind words (w ∷ []) number q (h.each q number (sym (at q ∙ cond-false _ _ _ e) ∙ found))
 
+    known : (q : List ℕ) (b : Bool) → bytes_eq w q ≡ b → Contains (words ++ w ∷ []) q → is_some (get (slice_cmp nat_cmp) new q) ≡ true
+    known q true e in_list = ap is_some (at q ∙ cond-true _ _ _ e)
+    known q false e in_list = ap is_some (at q ∙ cond-false _ _ _ e) ∙ elim (Contains-push_cases words w q in_list) [
+      | inl before ↦ h.all q before
+      | inr same ↦ absurd (true≢false (sym ((bytes_eq-Decides w q).1 same) ∙ e))
+    ]
+
+-- what a call that is no error ensures
+pub ok-holds : {V E P : Type 0} (r : Result V E) → is_err r ≡ false → OnOk r P → P
+ok-holds (Ok value) h p = p
+ok-holds (Err error) h p = absurd (cc)
+
+-- a word without a number is not in the table
+pub not-in : {P : Type 0} (numbers : BTreeMap (List ℕ) ℕ) (words : List (List ℕ)) (word : List ℕ) → AreNumbers numbers words → get (slice_cmp nat_cmp) numbers word ≡ None → Contains words word → P
+not-in numbers words word h none in_list = absurd (true≢false (sym (h.all word in_list) ∙ ap is_some none))
+
 -- ---- a table that grows
 
 -- a table keeps what is in it
@@ -79,17 +103,17 @@ keeps-same t = record { within = λ p h. h; same = λ own p h. refl }
 pub keeps-more : (t u v : TableView) → Keeps t u → Keeps u v → Keeps t v
 keeps-more t u v a b = record { within = λ p h. b.within p (a.within p h); same = λ own p h. b.same own p (a.within p h) ∙ a.same own p h }
 
--- places read in a table that grew are the same, and within it
-pub places-kept : (t u : TableView) (own : List ℕ) (places : List KeptPlace) → Keeps t u → AllByRecursion (IsWithin t) places
-    → (map (place_read u own) places ≡ map (place_read t own) places) × AllByRecursion (IsWithin u) places
-places-kept t u own [] keeps h = (refl, tt)
-places-kept t u own (p ∷ places) keeps h =
-    let rest = places-kept t u own places keeps h.1 in
-    (ap₂ (λ x xs. x ∷ xs) (keeps.same own p h.0) rest.0, (keeps.within p h.0, rest.1))
+-- entries read in a table that grew are the same, and within it
+pub entries-kept : (t u : TableView) (own : List ℕ) (entries : List Entry) → Keeps t u → AllByRecursion (IsWithin t) entries
+    → (map (entry_read u own) entries ≡ map (entry_read t own) entries) × AllByRecursion (IsWithin u) entries
+entries-kept t u own [] keeps h = (refl, tt)
+entries-kept t u own (e ∷ entries) keeps h =
+    let rest = entries-kept t u own entries keeps h.1 in
+    (ap₂ (λ x xs. x ∷ xs) (keeps.same own e h.0) rest.0, (keeps.within e h.0, rest.1))
 
 -- the same of the rows of a document
 rows-kept : (t u : TableView) (rows : PackedView) → Keeps t u → AreWithin t rows → (rows_read u rows ≡ rows_read t rows) × AreWithin u rows
-rows-kept t u rows keeps h = let both = places-kept t u rows.own rows.places keeps h in (ap rows_shown both.0, both.1)
+rows-kept t u rows keeps h = let both = entries-kept t u rows.own rows.entries keeps h in (ap rows_shown both.0, both.1)
 
 -- the same of a slot
 slot-kept : (t u : TableView) (slot : Option PackedView) → Keeps t u → IsSlotWithin t slot → (option_map (rows_read u) slot ≡ option_map (rows_read t) slot) × IsSlotWithin u slot
@@ -129,17 +153,17 @@ on-err (Ok value) p = tt
 on-err (Err error) p = p
 
 -- what is seen where rows are staged or refused: the slots as before, and behind the others the rows, or nothing
-pub record AreStaged {V E : Type 0} (u : TableView) (old : KeptView) (new : StagedView PackedView) (result : Result V E) (places : List Place) : Type 0 where
+pub record AreStaged {V E : Type 0} (u : TableView) (old : KeptView) (new : StagedView PackedView) (result : Result V E) (rows : RowsView) : Type 0 where
   pub within : AreKeptWithin u new
   pub slots : (kept_view u new).slots ≡ old.slots
-  pub staged : OnOk result ((kept_view u new).staged ≡ old.staged ++ rows_shown places ∷ [])
+  pub staged : OnOk result ((kept_view u new).staged ≡ old.staged ++ rows ∷ [])
   pub stays : OnErr result ((kept_view u new).staged ≡ old.staged)
 
 -- rows that were packed are staged in a table that grew, or refused
-pub kept-staged : {V E : Type 0} (t u : TableView) (old new : StagedView PackedView) (view : KeptView) (result : Result V E) (rows : PackedView) (places : List Place)
-    → kept_view t old ≡ view → Keeps t u → AreKeptWithin t old → AreWithin u rows → map (place_read u rows.own) rows.places ≡ places
-    → new.slots ≡ old.slots → OnOk result (new.staged ≡ old.staged ++ rows ∷ []) → OnErr result (new.staged ≡ old.staged) → AreStaged u view new result places
-kept-staged t u old new view (Ok value) rows places seen keeps h within read slots staged stays =
+pub kept-staged : {V E : Type 0} (t u : TableView) (old new : StagedView PackedView) (view : KeptView) (result : Result V E) (rows : PackedView) (shown : RowsView)
+    → kept_view t old ≡ view → Keeps t u → AreKeptWithin t old → AreWithin u rows → rows_read u rows ≡ shown
+    → new.slots ≡ old.slots → OnOk result (new.staged ≡ old.staged ++ rows ∷ []) → OnErr result (new.staged ≡ old.staged) → AreStaged u view new result shown
+kept-staged t u old new view (Ok value) rows shown seen keeps h within read slots staged stays =
     let both = all-kept t u old keeps h in
     record {
       within = record {
@@ -149,10 +173,10 @@ kept-staged t u old new view (Ok value) rows places seen keeps h within read slo
       slots = ap (map (λ slot. option_map (rows_read u) slot)) slots ∙ ap (λ (v : KeptView). v.slots) (both.0 ∙ seen);
       staged =
           ap (map (rows_read u)) staged ∙ map_push (rows_read u) old.staged rows
-          ∙ ap₂ (λ (v : KeptView) (shown : List Place). v.staged ++ rows_shown shown ∷ []) (both.0 ∙ seen) read;
+          ∙ ap₂ (λ (v : KeptView) (one : RowsView). v.staged ++ one ∷ []) (both.0 ∙ seen) read;
       stays = tt;
     }
-kept-staged t u old new view (Err error) rows places seen keeps h within read slots staged stays =
+kept-staged t u old new view (Err error) rows shown seen keeps h within read slots staged stays =
     let both = all-kept t u old keeps h in
     record {
       within = record {
@@ -220,24 +244,103 @@ settled-kept t old new view at seen h s some =
     let same = length-map old.staged (rows_read t) in
     subst (λ v. AreSettled t v new at) seen (settled_of t old new at old.staged refl h s (omega arith))
 
--- ---- the places of a document, packed one after the other
+-- ---- the rows of a document, packed one after the other
 
--- the places are packed as numbers of a table that grew
-pub record Packs (t u : TableView) (own : List ℕ) (packed : List KeptPlace) (places : List Place) : Type 0 where
+-- the rows are packed behind some entries, as numbers of a table that grew
+pub record Packs (t u : TableView) (own : List ℕ) (old new : List Entry) (rows : List Row) : Type 0 where
   pub keeps : Keeps t u
-  pub within : AllByRecursion (IsWithin u) packed
-  pub told : map (place_read u own) packed ≡ places
+  pub within : AllByRecursion (IsWithin u) new
+  pub told : map (entry_read u own) new ≡ map (entry_read t own) old ++ rows
 
--- with one more place packed, all are
-pub packs-more : (t u v : TableView) (own : List ℕ) (packed more : List KeptPlace) (one : KeptPlace) (places next : List Place) (place : Place) → Keeps u v → IsWithin v one → place_read v own one ≡ place → more ≡ packed ++ one ∷ [] → next ≡ places ++ place ∷ [] → Packs t u own packed places → Packs t v own more next
-packs-more t u v own packed more one places next place keeps within is grown longer h =
-    let both = places-kept u v own packed keeps h.within in
+-- no rows are packed
+pub packs-none : (t : TableView) (own : List ℕ) (old : List Entry) → AllByRecursion (IsWithin t) old → Packs t t own old old []
+packs-none t own old within = record { keeps = keeps-same t; within = within; told = sym (append-nil (map (entry_read t own) old)) }
+
+-- with one more row packed, all are
+pub packs-more : (t u v : TableView) (own : List ℕ) (old packed more : List Entry) (one : Entry) (rows next : List Row) (r : Row) → Keeps u v → IsWithin v one → entry_read v own one ≡ r
+    → more ≡ packed ++ one ∷ [] → next ≡ rows ++ r ∷ [] → Packs t u own old packed rows → Packs t v own old more next
+packs-more t u v own old packed more one rows next r keeps within is grown longer h =
+    let both = entries-kept u v own packed keeps h.within in
+    let before = map (entry_read t own) old in
     record {
       keeps = keeps-more t u v h.keeps keeps;
       within = subst (AllByRecursion (IsWithin v)) (sym grown) (all-push (IsWithin v) packed one both.1 within);
-      told = ap (map (place_read v own)) grown ∙ map_push (place_read v own) packed one ∙ ap₂ (λ xs x. xs ++ x ∷ []) (both.0 ∙ h.told) is ∙ sym longer;
+      told = ap (map (entry_read v own)) grown ∙ map_push (entry_read v own) packed one ∙ ap₂ (λ xs x. xs ++ x ∷ []) (both.0 ∙ h.told) is
+          ∙ append_assoc before rows (r ∷ []) ∙ ap (λ v. before ++ v) (sym longer);
     }
 
--- no places are packed
-pub packs-none : (t : TableView) (own : List ℕ) → Packs t t own [] []
-packs-none t own = record { keeps = keeps-same t; within = tt; told = refl }
+-- one more row of a kind
+pub next-of : {A : Type 0} (f : A → Row) (xs : List A) (i : ℕ) (d : A) → i < length xs → map f (take (i + 1) xs) ≡ map f (take i xs) ++ f (get_or xs i d) ∷ []
+next-of f xs i d h = ap (map f) (take_more xs i d h) ∙ map_push f (take i xs) (get_or xs i d)
+
+pub next-row : {A : Type 0} (f : A → Row) (xs : List A) (i : ℕ) (x : A) → i < length xs → x ≡ get_or xs i x → map f (take (i + 1) xs) ≡ map f (take i xs) ++ f x ∷ []
+next-row f xs i x h is = next-of f xs i x h ∙ ap (λ v. map f (take i xs) ++ f v ∷ []) (sym is)
+
+-- ---- rows among those of their kind
+
+all-of : {A : Type 0} (f : A → Row) (g : Row → Option A) (xs : List A) → ((x : A) → g (f x) ≡ Some x) → filter_map g (map f xs) ≡ xs
+all-of f g [] h = refl
+all-of f g (x ∷ xs) h = ap (λ o. cons_option o (filter_map g (map f xs))) (h x) ∙ ap (λ v. x ∷ v) (all-of f g xs h)
+
+none-of : {A B : Type 0} (f : A → Row) (g : Row → Option B) (xs : List A) → ((x : A) → g (f x) ≡ None) → filter_map g (map f xs) ≡ []
+none-of f g [] h = refl
+none-of f g (x ∷ xs) h = ap (λ o. cons_option o (filter_map g (map f xs))) (h x) ∙ none-of f g xs h
+
+three : {A : Type 0} (g : Row → Option A) (xs ys zs : List Row) → filter_map g ((xs ++ ys) ++ zs) ≡ (filter_map g xs ++ filter_map g ys) ++ filter_map g zs
+three g xs ys zs = filter_map-append g (xs ++ ys) zs ∙ ap (λ v. v ++ filter_map g zs) (filter_map-append g xs ys)
+
+-- the words, leaves and marks of a document, one behind the other, are its rows
+shown-all : (rows : RowsView) → rows_shown ((map row.Word rows.places ++ map row.Leaf rows.leaves) ++ map row.Mark rows.marks) ≡ rows
+shown-all rows =
+    let words = map row.Word rows.places in
+    let leaves = map row.Leaf rows.leaves in
+    let marks = map row.Mark rows.marks in
+    let places_are : filter_map place_in ((words ++ leaves) ++ marks) ≡ rows.places =
+    three place_in words leaves marks
+    ∙ ap₂ (λ a b. (filter_map place_in words ++ a) ++ b) (none-of row.Leaf place_in rows.leaves (λ x. refl)) (none-of row.Mark place_in rows.marks (λ x. refl))
+    ∙ append-nil (filter_map place_in words ++ []) ∙ append-nil (filter_map place_in words) ∙ all-of row.Word place_in rows.places (λ x. refl) in
+    let leaves_are : filter_map leaf_in ((words ++ leaves) ++ marks) ≡ rows.leaves =
+    three leaf_in words leaves marks
+    ∙ ap₂ (λ a b. (a ++ filter_map leaf_in leaves) ++ b) (none-of row.Word leaf_in rows.places (λ x. refl)) (none-of row.Mark leaf_in rows.marks (λ x. refl))
+    ∙ append-nil (filter_map leaf_in leaves) ∙ all-of row.Leaf leaf_in rows.leaves (λ x. refl) in
+    let marks_are : filter_map mark_in ((words ++ leaves) ++ marks) ≡ rows.marks =
+    three mark_in words leaves marks
+    ∙ ap₂ (λ a b. (a ++ b) ++ filter_map mark_in marks) (none-of row.Word mark_in rows.places (λ x. refl)) (none-of row.Leaf mark_in rows.leaves (λ x. refl))
+    ∙ all-of row.Mark mark_in rows.marks (λ x. refl) in
+    ap₂ (λ a (b : List Leaf × List Mark). record { places = a; leaves = b.0; marks = b.1 }) places_are (ap₂ (λ b c. (b, c)) leaves_are marks_are)
+
+-- rows that are read so are those that were packed
+pub shown-packed : (packed : List Row) (rows : RowsView) (ps : List Place) (ls : List Leaf) (ms : List Mark) → packed ≡ (map row.Word ps ++ map row.Leaf ls) ++ map row.Mark ms
+    → record { places = ps; leaves = ls; marks = ms } ≡ rows → rows_shown packed ≡ rows
+shown-packed packed rows ps ls ms h seen = ap rows_shown h ∙ shown-all (record { places = ps; leaves = ls; marks = ms }) ∙ seen
+
+-- one more row
+shown-more : (rows : List Row) (r : Row) → rows_shown (rows ++ r ∷ []) ≡ and_row (rows_shown rows) r
+shown-more rows r = ap₂ (λ a (b : List Leaf × List Mark). record { places = a; leaves = b.0; marks = b.1 }) (filter_map-append place_in rows (r ∷ [])) (ap₂ (λ b c. (b, c)) (filter_map-append leaf_in rows (r ∷ [])) (filter_map-append mark_in rows (r ∷ []))) ∙ by r
+  where
+    shown : List Place → List Leaf → List Mark → RowsView
+    shown ps ls ms = record { places = ps; leaves = ls; marks = ms }
+
+    ps : List Place
+    ps = filter_map place_in rows
+
+    ls : List Leaf
+    ls = filter_map leaf_in rows
+
+    ms : List Mark
+    ms = filter_map mark_in rows
+
+    by : (r : Row) → shown (ps ++ filter_map place_in (r ∷ [])) (ls ++ filter_map leaf_in (r ∷ [])) (ms ++ filter_map mark_in (r ∷ [])) ≡ and_row (rows_shown rows) r
+    by (row.Word place) = ap₂ (λ b c. shown (ps ++ place ∷ []) b c) (append-nil ls) (append-nil ms)
+    by (row.Leaf leaf) = ap₂ (λ a c. shown a (ls ++ leaf ∷ []) c) (append-nil ps) (append-nil ms)
+    by (row.Mark mark) = ap₂ (λ a b. shown a b (ms ++ mark ∷ [])) (append-nil ps) (append-nil ls)
+
+-- one more entry is read
+pub reads-more : (t : TableView) (own used : List ℕ) (entries items : List Entry) (i : ℕ) (d : Entry) (r : Row) (rows more : RowsView) → i < length items → items ≡ entries → used ≡ own
+    → r ≡ entry_read t used (get_or items i d) → more ≡ and_row rows r → rows ≡ rows_shown (map (entry_read t own) (take i entries)) → more ≡ rows_shown (map (entry_read t own) (take (i + 1) entries))
+reads-more t own used entries items i d r rows more h same_items same_own read grown told =
+    let read_all = entry_read t own in
+    let e = get_or items i d in
+    let next = next-of read_all items i d h in
+    grown ∙ ap₂ and_row (told ∙ ap (λ es. rows_shown (map read_all (take i es))) (sym same_items)) (read ∙ ap (λ o. entry_read t o e) same_own)
+    ∙ sym (shown-more (map read_all (take i items)) (read_all e)) ∙ ap rows_shown (sym next) ∙ ap (λ es. rows_shown (map read_all (take (i + 1) es))) same_items

@@ -1,36 +1,46 @@
--- What an index keeps of its documents, as the numbers of words and of searched paths in a table.
-use Rattle.std.specs.Prelude.{◌≡◌, ◌<◌, ◌≤◌, ◌==◌, ℕ, nat_lt, true, List, [], map, length, slice_index_or, slice_get, Option, None, Some, if◌then◌else◌}
-use Rattle.std.specs.Option.{option_map}
-use Rattle.std.specs.List.{AllByRecursion}
+-- What an index keeps of its documents: the numbers that their rows have in a table.
+use Rattle.std.specs.Prelude.{Contains, ◌≡◌, ◌<◌, ◌≤◌, ◌==◌, ℕ, pos, nat_lt, true, List, [], ◌∷◌, ◌++◌, map, length}
+use Rattle.std.specs.Prelude.{slice_index_or, slice_get, Option, None, Some, if◌then◌else◌}
+use Rattle.std.specs.Option.{is_some, option_map}
+use Rattle.std.specs.List.{AllByRecursion, filter_map}
 use Rattle.std.specs.BTreeMap.{BTreeMap, get}
 use Rattle.std.specs.Cmp.Lexicographic.{slice_cmp}
 use Rattle.std.specs.Ordering.{nat_cmp}
+use Rattle.search_base.specs.declared.document.Leaf.{Leaf}
+use Rattle.search_base.specs.declared.document.Mark.{Mark}
 use Rattle.search_base.specs.declared.document.Place.{Place}
+use Rattle.search_base.specs.declared.value.FacetValue.TheVariants as facet
 use Rattle.search_base.specs.RowsView.{RowsView}
 use Rattle.staged_slots.specs.Staged.{StagedView}
-use Rattle.packed_rows.specs.declared.table.KeptPlace.{KeptPlace}
-use Rattle.packed_rows.specs.declared.table.RankedPath.{RankedPath}
+use Rattle.packed_rows.specs.declared.row.Row.{Row}
+use Rattle.packed_rows.specs.declared.row.Row.TheVariants as row
+use Rattle.packed_rows.specs.declared.table.Entry.{Entry}
+use Rattle.packed_rows.specs.declared.table.Role.{Role}
+use Rattle.packed_rows.specs.declared.table.Role.TheVariants as role
 
--- the words and the searched paths, each under its place as its number
+-- the words, the roles of rows and the leaves, each under its place as its number
 pub record TableView : Type 0 where
   pub words : List (List ℕ)
-  pub paths : List RankedPath
+  pub roles : List Role
+  pub leaves : List Leaf
 
 abbrev pub empty_table : TableView
-empty_table = record { words = []; paths = [] }
+empty_table = record { words = []; roles = []; leaves = [] }
 
--- a document's own word, and the numbers of its words
+-- a document's own word, and the numbers of its rows
 pub record PackedView : Type 0 where
   pub own : List ℕ
-  pub places : List KeptPlace
+  pub entries : List Entry
 
 -- the number that stands for a document's own word
 abbrev pub own_number : ℕ
 own_number = 4294967295
 
--- the map knows the numbers of some of the words, and none is that of an own word
+-- the map knows the numbers of the words, and none is that of an own word
 pub record AreNumbers (numbers : BTreeMap (List ℕ) ℕ) (words : List (List ℕ)) : Type 0 where
-  pub each : (word : List ℕ) (number : ℕ) → get (slice_cmp nat_cmp) numbers word ≡ Some number → slice_get words number ≡ Some word
+  pub each : (word : List ℕ) (number : ℕ) → get (slice_cmp nat_cmp) numbers word ≡ Some number
+      → slice_get words number ≡ Some word
+  pub all : (word : List ℕ) → Contains words word → is_some (get (slice_cmp nat_cmp) numbers word) ≡ true
   pub few : length words ≤ own_number
 
 -- the number stands for a word: one of the table, or a document's own
@@ -40,36 +50,67 @@ IsWordWithin t number = (if number == own_number then true else nat_lt number (l
 abbrev pub word_read : TableView → List ℕ → ℕ → List ℕ
 word_read t own number = if number == own_number then own else slice_index_or t.words number []
 
-abbrev pub IsWithin : TableView → KeptPlace → Type 0
-IsWithin t p = IsWordWithin t p.word × (p.path < length t.paths)
+-- the number stands for what the role asks
+abbrev pub IsUnder : TableView → Option Role → ℕ → Type 0
+IsUnder t None number = ⊥
+IsUnder t (Some (role.Word at)) number = IsWordWithin t number
+IsUnder t (Some role.Leaf) number = number < length t.leaves
+IsUnder t (Some (role.Mark mark)) number = Unit {0}
 
-abbrev pub no_path : RankedPath
-no_path = record { path = record { 0 = 0 }; rank = 0 }
+abbrev pub IsWithin : TableView → Entry → Type 0
+IsWithin t e = IsUnder t (slice_get t.roles e.role) e.number
 
--- the word and the path that the numbers stand for
-abbrev pub place_read : TableView → List ℕ → KeptPlace → Place
-place_read t own p =
-    let at = slice_index_or t.paths p.path no_path in
-    record { path = at.path; rank = at.rank; position = p.position; word = word_read t own p.word }
+abbrev pub no_leaf : Leaf
+no_leaf = record { path = record { 0 = 0 }; value = facet.Number (pos 0); shown = [] }
+
+-- the row that an entry stands for under a role
+abbrev pub read_under : TableView → List ℕ → Option Role → Entry → Row
+read_under t own None e = row.Leaf no_leaf
+read_under t own (Some (role.Word at)) e =
+    row.Word (record { path = at.path; rank = at.rank; position = e.position; word = word_read t own e.number })
+read_under t own (Some role.Leaf) e = row.Leaf (slice_index_or t.leaves e.number no_leaf)
+read_under t own (Some (role.Mark mark)) e = row.Mark mark
+
+abbrev pub entry_read : TableView → List ℕ → Entry → Row
+entry_read t own e = read_under t own (slice_get t.roles e.role) e
 
 abbrev pub AreWithin : TableView → PackedView → Type 0
-AreWithin t rows = AllByRecursion (IsWithin t) rows.places
+AreWithin t rows = AllByRecursion (IsWithin t) rows.entries
 
-abbrev pub places_read : TableView → PackedView → List Place
-places_read t rows = map (place_read t rows.own) rows.places
+abbrev pub place_in : Row → Option Place
+place_in (row.Word place) = Some place
+place_in (row.Leaf leaf) = None
+place_in (row.Mark mark) = None
 
--- rows with these words. No path is filtered, sorted or counted
-abbrev pub rows_shown : List Place → RowsView
-rows_shown places = record { places = places; leaves = []; marks = [] }
+abbrev pub leaf_in : Row → Option Leaf
+leaf_in (row.Word place) = None
+leaf_in (row.Leaf leaf) = Some leaf
+leaf_in (row.Mark mark) = None
+
+abbrev pub mark_in : Row → Option Mark
+mark_in (row.Word place) = None
+mark_in (row.Leaf leaf) = None
+mark_in (row.Mark mark) = Some mark
+
+-- the rows, each among those of its kind
+abbrev pub rows_shown : List Row → RowsView
+rows_shown rows =
+    record { places = filter_map place_in rows; leaves = filter_map leaf_in rows; marks = filter_map mark_in rows }
+
+-- with one more row behind those of its kind
+abbrev pub and_row : RowsView → Row → RowsView
+and_row rows (row.Word place) = record { places = rows.places ++ place ∷ []; leaves = rows.leaves; marks = rows.marks }
+and_row rows (row.Leaf leaf) = record { places = rows.places; leaves = rows.leaves ++ leaf ∷ []; marks = rows.marks }
+and_row rows (row.Mark mark) = record { places = rows.places; leaves = rows.leaves; marks = rows.marks ++ mark ∷ [] }
 
 -- the rows of a document
 abbrev pub rows_read : TableView → PackedView → RowsView
-rows_read t rows = rows_shown (places_read t rows)
+rows_read t rows = rows_shown (map (entry_read t rows.own) rows.entries)
 
 -- what is within a table is within the other, and reads the same
 pub record Keeps (t u : TableView) : Type 0 where
-  pub within : (p : KeptPlace) → IsWithin t p → IsWithin u p
-  pub same : (own : List ℕ) (p : KeptPlace) → IsWithin t p → place_read u own p ≡ place_read t own p
+  pub within : (e : Entry) → IsWithin t e → IsWithin u e
+  pub same : (own : List ℕ) (e : Entry) → IsWithin t e → entry_read u own e ≡ entry_read t own e
 
 -- ---- a slot for each internal id that was given, and rows that are staged
 
@@ -79,7 +120,8 @@ pub record KeptView : Type 0 where
   pub staged : List RowsView
 
 abbrev pub kept_view : TableView → StagedView PackedView → KeptView
-kept_view t kept = record { slots = map (λ slot. option_map (rows_read t) slot) kept.slots; staged = map (rows_read t) kept.staged }
+kept_view t kept =
+    record { slots = map (λ slot. option_map (rows_read t) slot) kept.slots; staged = map (rows_read t) kept.staged }
 
 abbrev pub IsSlotWithin : TableView → Option PackedView → Type 0
 IsSlotWithin t None = Unit {0}

@@ -1,17 +1,17 @@
-ghost use Rattle.std.specs.Prelude.{◌≡◌, ◌<◌, ◌≤◌, ◌++◌, ◌∷◌, List, [], length, slice_set, slice_index_or, None, IfOk, OnOk, OnErr};
+ghost use Rattle.std.specs.Prelude.{◌≡◌, ◌<◌, ◌≤◌, ◌++◌, ◌∷◌, List, [], length, slice_set, slice_index_or, None};
+ghost use Rattle.std.specs.Prelude.{IfOk, OnOk, OnErr};
 ghost use Rattle.std.specs.Option.{is_some};
 ghost use Rattle.search_base.specs.RowsView.{RowsView};
 ghost use Rattle.staged_slots.specs.Staged.{settled};
-ghost use Rattle.packed_rows.specs.Packed.{rows_shown};
 
 use crate::table::{PackedRows, Table};
-use search_base::{DocId, DocRows, NoMemory, Place, Word};
+use search_base::{DocId, DocRows, NoMemory, Word};
 use staged_slots::StagedSlots;
 use std::alloc::Global;
 use std::marker::Model;
 
-/// What a search sees of each document, by its internal id, and None where the document is gone; and behind these the rows
-/// that are staged. Seen as the two lists.
+/// What a search sees of each document, by its internal id, and None where the document is gone; and behind these
+/// the rows that are staged. Seen as the two lists.
 #[derive(Drop)]
 pub struct PackedSlots {
     table: Table,
@@ -47,8 +47,8 @@ impl PackedSlots {
         self.slots.len()
     }
 
-    /// Takes the memory in which the rows of some more documents can be staged, so that they are not moved as they come.
-    /// Nothing changes.
+    /// Takes the memory in which the rows of some more documents can be staged, so that they are not moved as they
+    /// come. Nothing changes.
     pub fn reserve(&mut self, more: usize) -> Result<(), NoMemory>
         ensures slots { self.new.slots ≡ self.old.slots }
         ensures staged { self.new.staged ≡ self.old.staged }
@@ -56,15 +56,15 @@ impl PackedSlots {
         self.slots.reserve(more)
     }
 
-    /// Packs the words of a document, and stages them behind the others. The slots stay, and a refusal changes nothing. A
-    /// word that is spelled as `own`, the document's own word, shares its text and stands in no table.
-    pub fn stage(&mut self, alloc: Global, places: &[Place], own: &Word) -> Result<(), NoMemory>
+    /// Packs the rows of a document, and stages them behind the others. The slots stay, and a refusal changes
+    /// nothing. A word that is spelled as `own`, the document's own word, shares its text and stands in no table.
+    pub fn stage(&mut self, alloc: Global, rows: &DocRows, own: &Word) -> Result<(), NoMemory>
         ensures slots { self.new.slots ≡ self.old.slots }
-        ensures staged { OnOk result (self.new.staged ≡ self.old.staged ++ rows_shown places.now ∷ []) }
+        ensures staged { OnOk result (self.new.staged ≡ self.old.staged ++ rows.now ∷ []) }
         ensures stays { OnErr result (self.new.staged ≡ self.old.staged) }
     {
-        let rows = self.table.pack(alloc, places, own.clone()?)?;
-        self.slots.stage(rows)
+        let packed = self.table.pack(alloc, rows, own.clone()?)?;
+        self.slots.stage(packed)
     }
 
     /// Lets go what is staged. The slots stay. Takes no memory.
@@ -75,8 +75,8 @@ impl PackedSlots {
         self.slots.unstage();
     }
 
-    /// Moves the first rows that are staged into the slot of an internal id, in place of what is there, or into a new one
-    /// behind the others. Takes no memory.
+    /// Moves the first rows that are staged into the slot of an internal id, in place of what is there, or into a
+    /// new one behind the others. Takes no memory.
     pub fn settle(&mut self, id: DocId)
         requires staged { 0 < length self.old.staged }
         requires slot { id.0 ≤ length self.old.slots }

@@ -6,10 +6,15 @@
 //! the answer is. The crate stands on `search_base` alone.
 #![tactic(auto)]
 
+mod least;
 mod level;
+mod near;
+mod numbers;
 mod occurrence;
-#[cfg(test)]
-mod tests;
+mod pairs;
+mod sort_key;
+mod sums;
 mod tuple;
+mod whole;
 
 pub use tuple::{cost_tuple, the_first_match_counts};

@@ -1,7 +1,9 @@
-use Rattle.std.proofs.Common.{◌≡◌, ◌++◌, drop}
-use Rattle.doc_rows.specs.Rows.{places_from}
+use Rattle.std.proofs.Common.{◌≡◌, drop}
+use Rattle.doc_values.specs.Walk.{flat_rows}
+use Rattle.doc_rows.specs.Rows.{and_rows, rows_from, rows_of}
 use Rattle.doc_rows.proofs.row_list.rows.Given as goal
 
--- the words so far and those of the paths to come are the document's
+-- the rows so far and those of the paths to come are the document's
 abbrev pub invariant-loop-number : goal.invariant-loop-number
-invariant-loop-number l = l.places.items ++ places_from l.number l.fn.document (drop l.number l.fn.paths) (drop l.number l.fn.ranks) ≡ places_from 0 l.fn.document l.fn.paths l.fn.ranks
+invariant-loop-number l =
+    and_rows l.rows (rows_from l.number (flat_rows l.fn.document) (drop l.number l.fn.paths) (drop l.number l.fn.uses)) ≡ rows_of l.fn.document l.fn.paths l.fn.uses

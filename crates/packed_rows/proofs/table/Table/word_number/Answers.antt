@@ -1,11 +1,11 @@
 use Rattle.std.proofs.Common.{◌≡◌, ◌+◌, arith, length-append, [], ◌∷◌, ◌++◌, Some, ap, sym, ◌∙◌, subst, length, rules}
-use Rattle.std.specs.Prelude.{slice_get}
+use Rattle.std.specs.Prelude.{Contains, slice_get}
 use Rattle.std.specs.Option.{option_copied}
 use Rattle.std.specs.BTreeMap.{UpdatesBy}
 use Rattle.std.specs.Cmp.Lexicographic.{slice_cmp}
 use Rattle.std.specs.Ordering.{nat_cmp}
 use Rattle.packed_rows.specs.Packed.{TableView, AreNumbers}
-use Rattle.packed_rows.proofs.Packing.{numbers-behind, numbers-more, got-last, got-within}
+use Rattle.packed_rows.proofs.Packing.{numbers-more, not-in, ok-holds, got-last, got-within}
 use Rattle.packed_rows.proofs.table.Table.word_number.Goals as goal
 
 pub returns-in-Some-clause-number : goal.returns-in-Some-clause-number
@@ -19,22 +19,19 @@ returns-in-Some-clause-low c =
     let few = c.self.invariant.few in
     omega arith
 
-pub invariant_of-self-in_err-insert : goal.invariant_of-self-in_err-insert
-invariant_of-self-in_err-insert c =
+pub invariant_of-self-else-is_err : goal.invariant_of-self-else-is_err
+invariant_of-self-else-is_err c =
     let words = c.self.inside.words.items in
     let size : c.len-number.result ≡ length words = search rules in
     let longer : length (words ++ c.in_ok-kept.kept ∷ []) ≡ length words + 1 = length-append words (c.in_ok-kept.kept ∷ []) in
-    subst (AreNumbers c.insert.new.self) (sym c.in_ok-push.ensures.items)
-    (numbers-behind c.self.inside.numbers c.insert.new.self words (c.in_ok-kept.kept ∷ []) c.in_err-insert.ensures.err (omega arith) c.self.invariant)
-
-pub invariant_of-self-2 : goal.invariant_of-self-2
-invariant_of-self-2 c =
-    let words = c.self.inside.words.items in
-    let size : c.len-number.result ≡ length words = search rules in
-    let longer : length (words ++ c.in_ok-kept.kept ∷ []) ≡ length words + 1 = length-append words (c.in_ok-kept.kept ∷ []) in
+    let updates = ok-holds c.insert.result (sym c.is_err.ensures.value ∙ c.if-is_err.false) c.insert.ensures.updates in
     subst (AreNumbers c.insert.new.self) (sym c.in_ok-push.ensures.items)
     (numbers-more c.self.inside.numbers c.insert.new.self c.in_ok-named.named words c.in_ok-kept.kept (omega arith) c.self.invariant (c.in_ok-named.ensures.cases ∙ sym c.in_ok-kept.ensures.cases)
-    (subst (λ n. UpdatesBy (slice_cmp nat_cmp) (slice_cmp nat_cmp c.in_ok-named.named) c.self.inside.numbers c.insert.new.self (Some n)) size c.in_ok-insert.ensures.updates))
+    (subst (λ n. UpdatesBy (slice_cmp nat_cmp) (slice_cmp nat_cmp c.in_ok-named.named) c.self.inside.numbers c.insert.new.self (Some n)) size updates))
+
+pub returns-clause-known : goal.returns-clause-known
+returns-clause-known c = λ in_list.
+    not-in c.self.inside.numbers c.self.inside.words.items c.args.word.now c.self.invariant (sym c.get.ensures.value ∙ ap option_copied c.in_default.is) (subst (λ (t : TableView). Contains t.words c.args.word.now) (sym c.self.view_is) in_list)
 
 pub returns-clause-number : goal.returns-clause-number
 returns-clause-number c =

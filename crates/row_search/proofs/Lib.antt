@@ -1,0 +1,5 @@
+pub mod Order
+pub mod Placing
+pub mod Searching
+pub mod Collecting
+pub mod Free
