@@ -1,25 +1,35 @@
 -- Documents found by their ids.
-use Rattle.std.proofs.Common.{◌≡◌, ℕ, zero, suc, ◌+◌, ◌-◌, ◌<◌, ◌≤◌, ◌==◌, Bool, true, false, List, [], ◌∷◌, ◌++◌, length, map, filter, take, drop, slice_index_or, Option, None, Some, refl, sym, ap, subst, ◌∙◌, arith, append_assoc}
+use Rattle.std.proofs.Common.{◌≡◌, ℕ, zero, suc, ◌+◌, ◌-◌, ◌<◌, ◌≤◌, ◌==◌, Bool, true, false, List, [], ◌∷◌, ◌++◌, length, map, take, drop, slice_index_or, Option, None, Some, refl, sym, ap, subst, ◌∙◌, arith, append_assoc}
 use Rattle.std.specs.Prelude.{bytes_eq}
 use Rattle.std.specs.Option.{option_map, is_some}
-use Rattle.std.specs.List.{AllByRecursion, filter_map, cons_option, flat_map}
-use Rattle.std.proofs.lemmas.Bool.{cond-true, cond-false, cond_both, eq-eqb, ne_eqb}
+use Rattle.std.specs.List.{AllByRecursion, filter_map, cons_option}
+use Rattle.std.proofs.lemmas.Bool.{cond-true, cond-false, eq-eqb, ne_eqb}
 use Rattle.std.proofs.lemmas.List.{take_more, take-map, drop-map}
 use Rattle.std.proofs.lemmas.List.Elements.{filter_map-append}
 use Rattle.serde_json.specs.Data.{Data}
 use Rattle.search_base.specs.declared.document.DocId.{DocId}
+use Rattle.search_base.specs.declared.cost_key.CostKey.{CostKey}
+use Rattle.search_base.specs.CostOrder.{before}
+use Rattle.search_base.specs.Hits.{Match}
 use Rattle.search_base.specs.declared.rule.Rule.{Rule}
 use Rattle.search_base.specs.GraphView.{GraphView}
+use Rattle.search_base.specs.Query.{tuple_under}
+use Rattle.search_base.specs.RowsView.{RowsView}
+use Rattle.search_base.specs.Tuple.{tuple}
+use Rattle.row_search.specs.Hits.{costs_of, id_of as id_of_match, hits_of}
+use Rattle.row_search.specs.Matching.{match_at, matches_among, matches_in}
+use Rattle.search_call.specs.SearchView.{SearchView}
 use Rattle.doc_store.specs.Store.{Row, Store, id_of, row_at}
 use Rattle.doc_store.specs.Sound.{Increase, IsSound}
-use Rattle.index_core.specs.declared.call.SearchCall.{SearchCall}
 use Rattle.index_settings.specs.View.{SettingsView}
 use Rattle.index_core.specs.Index.{Index, document_under}
-use Rattle.index_core.specs.Kept.{KeptRows, kept_at, AreKept, AreOf}
-use Rattle.index_core.specs.Matching.{Match, match_at, match_of, matching, query_of, rows_with, rules_of}
-use Rattle.index_core.specs.Hits.{hit_at, numbers, hits_of, window_end, most_hits, place_among}
-use Rattle.index_core.specs.Ordered.{matches_in, RiseFrom, IdsRise}
-use Rattle.index_core.proofs.Placing.{AllAre}
+use Rattle.row_search.specs.Slots.{KeptRows, kept_at}
+use Rattle.index_core.specs.Kept.{AreKept, AreOf}
+use Rattle.index_core.specs.Matching.{Matching, with_costs, match_of, matching, query_in, rows_in, rules_in, rows_with}
+use Rattle.index_core.specs.Found.{hit_of, asked_of, most_hits, window_end, window_size, found}
+use Rattle.index_core.specs.Shown.{hit_at}
+use Rattle.index_core.specs.Slots.{AreInSlots}
+use Rattle.index_core.proofs.HitLemmas.{all-hits, hits-seen}
 
 -- ---- a list of documents that are read one after the other
 
@@ -123,12 +133,12 @@ all-there before (r ∷ rows) high h = (
 pub rows-there : (s : Store) → IsSound s → AllByRecursion (IsThere s.rows) s.rows
 rows-there s sound = all-there [] s.rows s.next_id sound.increase
 
-rows-drop : (P : Row → Type 0) (n : ℕ) (rows : List Row) → AllByRecursion P rows → AllByRecursion P (drop n rows)
+pub rows-drop : (P : Row → Type 0) (n : ℕ) (rows : List Row) → AllByRecursion P rows → AllByRecursion P (drop n rows)
 rows-drop P zero rows all = all
 rows-drop P (suc n) [] all = tt
 rows-drop P (suc n) (r ∷ rows) all = rows-drop P n rows all.1
 
-rows-take : (P : Row → Type 0) (n : ℕ) (rows : List Row) → AllByRecursion P rows → AllByRecursion P (take n rows)
+pub rows-take : (P : Row → Type 0) (n : ℕ) (rows : List Row) → AllByRecursion P rows → AllByRecursion P (take n rows)
 rows-take P zero rows all = tt
 rows-take P (suc n) [] all = tt
 rows-take P (suc n) (r ∷ rows) all = (all.0, rows-take P n rows all.1)
@@ -167,83 +177,73 @@ same-lengths f g (x ∷ xs) (y ∷ ys) e = let rest : map f xs ≡ map g ys = cc
 
 -- ---- hits are documents that are there
 
-kept-rise : (st : SettingsView) (s : Store) (low : ℕ) (rows : List Row) (high : ℕ) → Increase low rows high → RiseFrom low (map (λ r. kept_at r.id (rows_with st s.paths r.document)) rows)
-kept-rise st s low [] high h = tt
-kept-rise st s low (r ∷ rows) high h = (h.0, kept-rise st s (suc r.id) rows high h.1)
+-- a document that matches, as a search collects it
+abbrev pub as_match : Matching → Match
+as_match m = record { costs = m.costs; id = m.row.id }
 
-pub ids-rise : (st : SettingsView) (s : Store) (kept : List KeptRows) → AreKept kept st s → IdsRise kept
-ids-rise st s kept h = record { each = subst (RiseFrom 0) (sym h.same) (kept-rise st s 0 s.rows s.next_id h.sound.increase) }
-
-matches-kept : (st : SettingsView) (s : Store) (query : GraphView) (rules : List Rule) (rows : List Row) → matches_in query rules (map (λ r. kept_at r.id (rows_with st s.paths r.document)) rows) ≡ filter_map (λ r. match_of query rules r.id (rows_with st s.paths r.document)) rows
-matches-kept st s query rules [] = refl
-matches-kept st s query rules (r ∷ rows) = ap (cons_option (match_of query rules r.id (rows_with st s.paths r.document))) (matches-kept st s query rules rows)
-
-pub matches-same : (index : Index) (kept : List KeptRows) (q : List ℕ) → AreKept kept index.settings index.store → matches_in (query_of index q) (rules_of index.settings) kept ≡ matching index q
-matches-same index kept q h = ap (matches_in (query_of index q) (rules_of index.settings)) h.same ∙ matches-kept index.settings index.store (query_of index q) (rules_of index.settings) index.store.rows
-
-abbrev IsStored : List Row → Match → Type 0
-IsStored all m = is_some (document_at m.id all) ≡ true
-
-match-stored : (all : List Row) (id : ℕ) (m : Match) (found : Option (List _)) → option_map (match_at id) found ≡ Some m → is_some (document_at id all) ≡ true → IsStored all m
-match-stored all id m None e h = absurd (cc)
-match-stored all id m (Some costs) e h = let same : match_at id costs ≡ m = cc in subst (λ (v : Match). is_some (document_at v.id all) ≡ true) same h
-
-matching-stored : (st : SettingsView) (s : Store) (query : GraphView) (rules : List Rule) (all rows : List Row) → AllByRecursion (IsThere all) rows → AllAre (IsStored all) (filter_map (λ r. match_of query rules r.id (rows_with st s.paths r.document)) rows)
-matching-stored st s query rules all [] h = tt
-matching-stored st s query rules all (r ∷ rows) h = by (match_of query rules r.id (rows_with st s.paths r.document)) refl (matching-stored st s query rules all rows h.1)
+-- documents that match are there
+matching-there : (index : Index) (call : SearchView) (all rows : List Row) → AllByRecursion (IsThere all) rows → AllByRecursion (λ m. IsThere all m.row) (filter_map (match_of index call) rows)
+matching-there index call all [] h = tt
+matching-there index call all (r ∷ rows) h = by (tuple_under (rows_in index r.document) (query_in index call) (rules_in index)) (matching-there index call all rows h.1)
   where
-    by : (o : Option Match) → match_of query rules r.id (rows_with st s.paths r.document) ≡ o → AllAre (IsStored all) (filter_map (λ r. match_of query rules r.id (rows_with st s.paths r.document)) rows)
-        → AllAre (IsStored all) (cons_option (match_of query rules r.id (rows_with st s.paths r.document)) (filter_map (λ r. match_of query rules r.id (rows_with st s.paths r.document)) rows))
-    by None e rest = subst (λ o. AllAre (IsStored all) (cons_option o (filter_map (λ r. match_of query rules r.id (rows_with st s.paths r.document)) rows))) (sym e) rest
-    by (Some m) e rest = subst (λ o. AllAre (IsStored all) (cons_option o (filter_map (λ r. match_of query rules r.id (rows_with st s.paths r.document)) rows))) (sym e)
-        (match-stored all r.id m _ e (ap (λ o. is_some (option_map (λ (v : Row). v.document) o)) h.0), rest)
+    by : (o : Option (List CostKey)) → AllByRecursion (λ m. IsThere all m.row) (filter_map (match_of index call) rows) → AllByRecursion (λ m. IsThere all m.row) (cons_option (option_map (with_costs r) o) (filter_map (match_of index call) rows))
+    by None rest = rest
+    by (Some costs) rest = (h.0, rest)
 
-all-filter : (P : Match → Type 0) (p : Match → Bool) (ms : List Match) → AllAre P ms → AllAre P (filter p ms)
-all-filter P p [] h = tt
-all-filter P p (m ∷ ms) h = cond_both (p m) (m ∷ filter p ms) (filter p ms) (AllAre P) (λ _. (h.0, all-filter P p ms h.1)) (λ _. all-filter P p ms h.1)
+-- and so are those that are asked for
+pub asked-there : (index : Index) (call : SearchView) → IsSound index.store → AllByRecursion (λ m. IsThere index.store.rows m.row) (asked_of (most_hits index) call (matching index call))
+asked-there index call sound =
+    all-hits before (λ m. m.costs) (λ m. m.row.id) (λ m. IsThere index.store.rows m.row) (matching index call) call.offset (window_size (most_hits index) call) (matching-there index call index.store.rows index.store.rows (rows-there index.store sound))
 
-all-join : (P : Match → Type 0) (xs ys : List Match) → AllAre P xs → AllAre P ys → AllAre P (xs ++ ys)
-all-join P [] ys h k = k
-all-join P (x ∷ xs) ys h k = (h.0, all-join P xs ys h.1 k)
+pub hits-read : (rows : List Row) (hits : List Matching) → AllByRecursion (λ m. IsThere rows m.row) hits → filter_map (hit_at rows) (map as_match hits) ≡ map hit_of hits
+hits-read rows [] h = refl
+hits-read rows (m ∷ hits) h =
+    ap (λ o. cons_option (option_map (λ (row : Row). record { document = row.document; costs = m.costs }) o) (filter_map (hit_at rows) (map as_match hits))) h.0
+    ∙ ap (λ v. hit_of m ∷ v) (hits-read rows hits h.1)
 
-all-hits : (P : Match → Type 0) (ms : List Match) (ns : List ℕ) → AllAre P ms → AllAre P (flat_map (hit_at ms) ns)
-all-hits P ms [] h = tt
-all-hits P ms (n ∷ ns) h = all-join P (hit_at ms n) (flat_map (hit_at ms) ns) (all-filter P (λ m. place_among ms m == n) ms h) (all-hits P ms ns h)
-
-reads-hits : (all : List Row) (hits : List Match) (ids : List DocId) → map (λ id. id.0) ids ≡ map (λ m. m.id) hits → filter_map (λ id. document_at id.0 all) ids ≡ filter_map (λ m. document_at m.id all) hits
-reads-hits all [] [] e = refl
-reads-hits all [] (id ∷ ids) e = absurd (cc)
-reads-hits all (m ∷ hits) [] e = absurd (cc)
-reads-hits all (m ∷ hits) (id ∷ ids) e =
-    let first : id.0 ≡ m.id = cc in
-    let rest : map (λ id. id.0) ids ≡ map (λ m. m.id) hits = cc in
-    ap (λ n. cons_option (document_at n all) (filter_map (λ id. document_at id.0 all) ids)) first ∙ ap (cons_option (document_at m.id all)) (reads-hits all hits ids rest)
-
-stored-length : (all : List Row) (hits : List Match) → AllAre (IsStored all) hits → length hits ≡ length (filter_map (λ m. document_at m.id all) hits)
-stored-length all [] h = refl
-stored-length all (m ∷ hits) h = by (document_at m.id all) refl (stored-length all hits h.1)
+-- the matches that a search collects are those of the index
+matches-same : (index : Index) (call : SearchView) (graph : GraphView) (rules : List Rule) (slots : List (Option RowsView)) → AreInSlots slots index.settings index.store
+    → ((rows : RowsView) → tuple rows graph (rules_in index) ≡ tuple_under rows (query_in index call) (rules_in index)) → rules ≡ rules_in index → matches_in graph rules slots ≡ map as_match (matching index call)
+matches-same index call graph rules slots h same is =
+    ap (λ rs. matches_in graph rs slots) is ∙ ap (matches_among graph (rules_in index)) h.kept.same ∙ among index.store.rows
   where
-    by : (o : Option Data) → document_at m.id all ≡ o → length hits ≡ length (filter_map (λ m. document_at m.id all) hits) → suc (length hits) ≡ length (cons_option (document_at m.id all) (filter_map (λ m. document_at m.id all) hits))
-    by None e again = absurd (let some = sym (ap is_some e) ∙ h.0 in cc)
-    by (Some d) e again = ap suc again ∙ ap (λ o. length (cons_option o (filter_map (λ m. document_at m.id all) hits))) (sym e)
+    among : (rows : List Row) → matches_among graph (rules_in index) (map (λ r. kept_at r.id (rows_in index r.document)) rows) ≡ map as_match (filter_map (match_of index call) rows)
+    among [] = refl
+    among (r ∷ rows) =
+        ap (λ o. cons_option (option_map (match_at r.id) o) (matches_among graph (rules_in index) (map (λ r. kept_at r.id (rows_in index r.document)) rows))) (same (rows_in index r.document))
+        ∙ by (tuple_under (rows_in index r.document) (query_in index call) (rules_in index)) (among rows)
+      where
+        by : (o : Option (List CostKey)) → matches_among graph (rules_in index) (map (λ r. kept_at r.id (rows_in index r.document)) rows) ≡ map as_match (filter_map (match_of index call) rows)
+            → cons_option (option_map (match_at r.id) o) (matches_among graph (rules_in index) (map (λ r. kept_at r.id (rows_in index r.document)) rows))
+            ≡ map as_match (cons_option (option_map (with_costs r) o) (filter_map (match_of index call) rows))
+        by None rest = rest
+        by (Some costs) rest = ap (λ v. match_at r.id costs ∷ v) rest
 
-pub hits-read : (index : Index) (kept : List KeptRows) (ids : List DocId) (call : SearchCall) → AreKept kept index.settings index.store
-    → map (λ id. id.0) ids ≡ map (λ m. m.id) (hits_of (most_hits index) call (matches_in (query_of index call.q) (rules_of index.settings) kept))
-    → filter_map (λ id. option_map (λ r. r.document) (row_at id.0 index.store.rows)) ids
-    ≡ filter_map (λ m. option_map (λ r. r.document) (row_at m.id index.store.rows)) (hits_of (most_hits index) call (matching index call.q))
-hits-read index kept ids call h is =
-    reads-hits index.store.rows (hits_of (most_hits index) call (matching index call.q)) ids
-    (is ∙ ap (λ ms. map (λ m. m.id) (hits_of (most_hits index) call ms)) (matches-same index kept call.q h))
+length-map : {X Y : Type 0} (f : X → Y) (xs : List X) → length (map f xs) ≡ length xs
+length-map f [] = refl
+length-map f (x ∷ xs) = ap suc (length-map f xs)
 
-pub hits-length : (index : Index) (kept : List KeptRows) (ids : List DocId) (call : SearchCall) → AreKept kept index.settings index.store
-    → map (λ id. id.0) ids ≡ map (λ m. m.id) (hits_of (most_hits index) call (matches_in (query_of index call.q) (rules_of index.settings) kept))
-    → length ids ≡ length (filter_map (λ m. option_map (λ r. r.document) (row_at m.id index.store.rows)) (hits_of (most_hits index) call (matching index call.q)))
-hits-length index kept ids call h is =
-    let rows = index.store.rows in
-    let most = most_hits index in
-    let hits = hits_of most call (matching index call.q) in
-    same-lengths (λ id. id.0) (λ m. m.id) ids hits (is ∙ ap (λ ms. map (λ m. m.id) (hits_of most call ms)) (matches-same index kept call.q h))
-    ∙ stored-length rows hits (all-hits (IsStored rows) (matching index call.q) (numbers call.offset (window_end most call - call.offset)) (matching-stored index.settings index.store (query_of index call.q) (rules_of index.settings) rows rows (rows-there index.store h.sound)))
+-- what was ranked is what the search finds
+pub record Finds (index : Index) (call : SearchView) (ranked : List Match) (total : ℕ) : Type 0 where
+  pub hits : filter_map (hit_at index.store.rows) ranked ≡ (found index call).hits
+  pub number : length ranked ≡ length (found index call).hits
+  pub matches : total ≡ length (matching index call)
+
+pub finds : (index : Index) (call : SearchView) (graph : GraphView) (rules : List Rule) (slots : List (Option RowsView)) (end total : ℕ) (ranked : List Match) → AreInSlots slots index.settings index.store
+    → ((rows : RowsView) → tuple rows graph (rules_in index) ≡ tuple_under rows (query_in index call) (rules_in index)) → rules ≡ rules_in index → end ≡ window_end (most_hits index) call
+    → ranked ≡ hits_of (matches_in graph rules slots) call.offset (end - call.offset) → total ≡ length (matches_in graph rules slots) → Finds index call ranked total
+finds index call graph rules slots end total ranked h same is ends hits counted =
+    let all = matches-same index call graph rules slots h same is in
+    let size = window_size (most_hits index) call in
+    let asked = asked_of (most_hits index) call (matching index call) in
+    let seen : ranked ≡ map as_match asked =
+    hits ∙ ap (λ n. hits_of (matches_in graph rules slots) call.offset (n - call.offset)) ends ∙ ap (λ ms. hits_of ms call.offset size) all
+    ∙ sym (hits-seen before costs_of id_of_match as_match (matching index call) call.offset size) in
+    record {
+      hits = ap (filter_map (hit_at index.store.rows)) seen ∙ hits-read index.store.rows asked (asked-there index call h.kept.sound);
+      number = ap length seen ∙ length-map as_match asked ∙ sym (length-map hit_of asked);
+      matches = counted ∙ ap length all ∙ length-map as_match (matching index call);
+    }
 
 -- ---- the documents of which something is kept
 

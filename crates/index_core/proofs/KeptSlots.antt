@@ -6,26 +6,27 @@ use Rattle.std.specs.Prelude.{bytes_eq, max}
 use Rattle.std.specs.Option.{is_some, option_map, unwrap_or}
 use Rattle.std.specs.List.{AllByRecursion}
 use Rattle.std.proofs.lemmas.List.{drop_more, drop-map, take-map, length-set}
-use Rattle.search_base.specs.declared.cost_key.CostKey.{CostKey}
-use Rattle.search_base.specs.declared.rule.Rule.{Rule}
-use Rattle.search_base.specs.GraphView.{GraphView}
 use Rattle.search_base.specs.RowsView.{RowsView}
 use Rattle.index_settings.specs.View.{SettingsView}
+use Rattle.doc_rows.specs.declared.path_use.PathUse.{PathUse}
 use Rattle.doc_rows.specs.Rows.{rows_of}
 use Rattle.doc_store.specs.declared.rows.StoreRow.{StoreRow}
 use Rattle.doc_store.specs.Store.{Row, Store, id_of, id_given, ids_given, stored, all_stored, without, removed}
 use Rattle.doc_store.specs.Sound.{Increase}
 use Rattle.doc_store.proofs.SoundLemmas.{IsWhole, whole-stored, sound-removed, increase-low}
 use Rattle.doc_store.proofs.StoreLemmas.{store_same}
-use Rattle.index_core.specs.Kept.{KeptRows, kept_at}
-use Rattle.index_core.specs.Slots.{kept_from, AreInSlots, HaveSlots, slots_after, costs_in, rows_at, anew}
-use Rattle.index_core.specs.Ordered.{placed, RiseFrom, IdsRise}
-use Rattle.index_core.specs.Matching.{Match, match_at, rows_with}
+use Rattle.row_search.specs.Slots.{KeptRows, kept_at, kept_from}
+use Rattle.index_core.specs.Slots.{AreInSlots, HaveSlots, slots_after, rows_at, anew}
+use Rattle.index_core.specs.Matching.{rows_with}
 use Rattle.index_core.specs.Plans.{cleared}
 use Rattle.index_core.specs.Putting.{put_kept, HasPlace}
-use Rattle.index_core.proofs.Collecting.{Collecting, collecting-match, collecting-none}
 use Rattle.index_core.proofs.Finding.{IsThere}
 use Rattle.index_core.proofs.Putting.{kept_in, rows_come}
+
+-- the internal ids rise
+abbrev RiseFrom : ℕ → List KeptRows → Type 0
+RiseFrom low [] = Unit {0}
+RiseFrom low (k ∷ kept) = (low ≤ k.id.0) × RiseFrom (suc k.id.0) kept
 
 rise-lower : (low high : ℕ) (kept : List KeptRows) → low ≤ high → RiseFrom high kept → RiseFrom low kept
 rise-lower low high [] le h = tt
@@ -35,9 +36,6 @@ slots-rise-from : (id : ℕ) (slots : List (Option RowsView)) → RiseFrom id (k
 slots-rise-from id [] = tt
 slots-rise-from id (None ∷ slots) = rise-lower id (suc id) (kept_from (suc id) slots) (omega arith) (slots-rise-from (suc id) slots)
 slots-rise-from id (Some rows ∷ slots) = (omega arith, slots-rise-from (suc id) slots)
-
-pub slots-rise : (slots : List (Option RowsView)) → IdsRise (kept_from 0 slots)
-slots-rise slots = record { each = slots-rise-from 0 slots }
 
 no-place : (id low : ℕ) (kept : List KeptRows) → id < low → RiseFrom low kept → HasPlace id kept → kept ≡ []
 no-place id low [] less rise h = refl
@@ -182,56 +180,38 @@ pub length-slots : (at : ℕ) (slot : Option RowsView) (slots : List (Option Row
 length-slots at None slots = ap (λ n. length (kept_from n slots)) (let e : suc at ≡ at + 1 = omega arith in e) ∙ (let e : length (kept_from (at + 1) slots) ≡ 0 + length (kept_from (at + 1) slots) = omega arith in e)
 length-slots at (Some rows) slots = ap (λ n. suc (length (kept_from n slots))) (let e : suc at ≡ at + 1 = omega arith in e) ∙ (let e : suc (length (kept_from (at + 1) slots)) ≡ 1 + length (kept_from (at + 1) slots) = omega arith in e)
 
--- the document of a slot that matches
-pub slot-match : (query : GraphView) (rules : List Rule) (kept : List KeptRows) (at : ℕ) (slots rest : List (Option RowsView)) (slot : Option RowsView) (most : ℕ) (first more : List Match) (total next : ℕ) (costs : List CostKey) → slots ≡ slot ∷ rest
-    → costs_in query rules slot ≡ Some costs → more ≡ take most (placed (match_at at costs) first) → next ≡ total + 1 → Collecting query rules kept (kept_from at slots) most first total → Collecting query rules kept (kept_from (at + 1) rest) most more next
-slot-match query rules kept at slots rest None most first more total next costs is found grown one h = absurd (cc)
-slot-match query rules kept at slots rest (Some rows) most first more total next costs is found grown one h =
-    subst (λ n. Collecting query rules kept (kept_from n rest) most more next) (let e : suc at ≡ at + 1 = omega arith in e)
-    (collecting-match query rules kept (kept_from at slots) (kept_at at rows) (kept_from (suc at) rest) most first more total next (match_at at costs) (ap (kept_from at) is) (ap (option_map (match_at at)) found) grown one h)
-
--- a slot without
-pub slot-none : (query : GraphView) (rules : List Rule) (kept : List KeptRows) (at : ℕ) (slots rest : List (Option RowsView)) (slot : Option RowsView) (most : ℕ) (first more : List Match) (total next : ℕ) → slots ≡ slot ∷ rest
-    → costs_in query rules slot ≡ None → more ≡ first → next ≡ total → Collecting query rules kept (kept_from at slots) most first total → Collecting query rules kept (kept_from (at + 1) rest) most more next
-slot-none query rules kept at slots rest None most first more total next is none stays same h =
-    subst (λ n. Collecting query rules kept (kept_from n rest) most more next) (let e : suc at ≡ at + 1 = omega arith in e)
-    (subst (λ n. Collecting query rules kept (kept_from (suc at) rest) most more n) (sym same) (subst (λ v. Collecting query rules kept (kept_from (suc at) rest) most v total) (sym stays) (subst (λ v. Collecting query rules kept (kept_from at v) most first total) is h)))
-slot-none query rules kept at slots rest (Some rows) most first more total next is none stays same h =
-    subst (λ n. Collecting query rules kept (kept_from n rest) most more next) (let e : suc at ≡ at + 1 = omega arith in e)
-    (collecting-none query rules kept (kept_from at slots) (kept_at at rows) (kept_from (suc at) rest) most first more total next (ap (kept_from at) is) (ap (option_map (match_at at)) none) stays same h)
-
 -- ---- rows anew
 
-abbrev pub anew_from : ℕ → List (Option ℕ) → Store → List (Option RowsView) → List (Option RowsView)
-anew_from at ranks s [] = []
-anew_from at ranks s (slot ∷ slots) = anew at ranks s slot ∷ anew_from (at + 1) ranks s slots
+abbrev pub anew_from : ℕ → List PathUse → Store → List (Option RowsView) → List (Option RowsView)
+anew_from at uses s [] = []
+anew_from at uses s (slot ∷ slots) = anew at uses s slot ∷ anew_from (at + 1) uses s slots
 
-pub anew-more : (at : ℕ) (ranks : List (Option ℕ)) (s : Store) (slots : List (Option RowsView)) (slot : Option RowsView) (all more whole : List (Option RowsView)) → at < length slots → slot ≡ get_or slots at slot
-    → more ≡ all ++ anew at ranks s slot ∷ [] → all ++ anew_from at ranks s (drop at slots) ≡ whole → more ++ anew_from (at + 1) ranks s (drop (at + 1) slots) ≡ whole
-anew-more at ranks s slots slot all more whole less is pushed told =
-    ap (λ v. v ++ anew_from (at + 1) ranks s (drop (at + 1) slots)) pushed ∙ append_assoc all (anew at ranks s slot ∷ []) (anew_from (at + 1) ranks s (drop (at + 1) slots))
-    ∙ ap (λ v. all ++ anew_from at ranks s v) (sym (slots-next at slots slot less is)) ∙ told
+pub anew-more : (at : ℕ) (uses : List PathUse) (s : Store) (slots : List (Option RowsView)) (slot : Option RowsView) (all more whole : List (Option RowsView)) → at < length slots → slot ≡ get_or slots at slot
+    → more ≡ all ++ anew at uses s slot ∷ [] → all ++ anew_from at uses s (drop at slots) ≡ whole → more ++ anew_from (at + 1) uses s (drop (at + 1) slots) ≡ whole
+anew-more at uses s slots slot all more whole less is pushed told =
+    ap (λ v. v ++ anew_from (at + 1) uses s (drop (at + 1) slots)) pushed ∙ append_assoc all (anew at uses s slot ∷ []) (anew_from (at + 1) uses s (drop (at + 1) slots))
+    ∙ ap (λ v. all ++ anew_from at uses s v) (sym (slots-next at slots slot less is)) ∙ told
 
-pub anew-length : (at : ℕ) (ranks : List (Option ℕ)) (s : Store) (slots : List (Option RowsView)) → length (anew_from at ranks s slots) ≡ length slots
-anew-length at ranks s [] = refl
-anew-length at ranks s (slot ∷ slots) = ap suc (anew-length (at + 1) ranks s slots)
+pub anew-length : (at : ℕ) (uses : List PathUse) (s : Store) (slots : List (Option RowsView)) → length (anew_from at uses s slots) ≡ length slots
+anew-length at uses s [] = refl
+anew-length at uses s (slot ∷ slots) = ap suc (anew-length (at + 1) uses s slots)
 
-pub anew-kept : (at : ℕ) (ranks : List (Option ℕ)) (s : Store) (slots : List (Option RowsView)) (rows : List Row) → map (λ k. k.id.0) (kept_from at slots) ≡ map (λ r. r.id) rows → AllByRecursion (IsThere s.rows) rows
-    → kept_from at (anew_from at ranks s slots) ≡ map (λ r. kept_at r.id (rows_of r.document s.paths ranks)) rows
-anew-kept at ranks s [] [] e h = refl
-anew-kept at ranks s [] (r ∷ rows) e h = absurd (cc)
-anew-kept at ranks s (None ∷ slots) rows e h =
+pub anew-kept : (at : ℕ) (uses : List PathUse) (s : Store) (slots : List (Option RowsView)) (rows : List Row) → map (λ k. k.id.0) (kept_from at slots) ≡ map (λ r. r.id) rows → AllByRecursion (IsThere s.rows) rows
+    → kept_from at (anew_from at uses s slots) ≡ map (λ r. kept_at r.id (rows_of r.document s.paths uses)) rows
+anew-kept at uses s [] [] e h = refl
+anew-kept at uses s [] (r ∷ rows) e h = absurd (cc)
+anew-kept at uses s (None ∷ slots) rows e h =
     let next : suc at ≡ at + 1 = omega arith in
-    ap (λ n. kept_from n (anew_from (at + 1) ranks s slots)) next ∙ anew-kept (at + 1) ranks s slots rows (ap (λ n. map (λ (k : KeptRows). k.id.0) (kept_from n slots)) (sym next) ∙ e) h
-anew-kept at ranks s (Some x ∷ slots) [] e h = absurd (cc)
-anew-kept at ranks s (Some x ∷ slots) (r ∷ rows) e h =
+    ap (λ n. kept_from n (anew_from (at + 1) uses s slots)) next ∙ anew-kept (at + 1) uses s slots rows (ap (λ n. map (λ (k : KeptRows). k.id.0) (kept_from n slots)) (sym next) ∙ e) h
+anew-kept at uses s (Some x ∷ slots) [] e h = absurd (cc)
+anew-kept at uses s (Some x ∷ slots) (r ∷ rows) e h =
     let next : suc at ≡ at + 1 = omega arith in
     let first : at ≡ r.id = cc in
     let left : map (λ k. k.id.0) (kept_from (suc at) slots) ≡ map (λ r. r.id) rows = cc in
-    let here : rows_at at ranks s ≡ Some (rows_of r.document s.paths ranks) = ap (λ n. rows_at n ranks s) first ∙ ap (option_map (λ (r : Row). rows_of r.document s.paths ranks)) h.0 in
-    ap (λ o. kept_from at (o ∷ anew_from (at + 1) ranks s slots)) here ∙ ap (λ n. kept_at n (rows_of r.document s.paths ranks) ∷ kept_from (suc at) (anew_from (at + 1) ranks s slots)) first
-    ∙ ap (λ n. kept_at r.id (rows_of r.document s.paths ranks) ∷ kept_from n (anew_from (at + 1) ranks s slots)) next
-    ∙ ap (λ v. kept_at r.id (rows_of r.document s.paths ranks) ∷ v) (anew-kept (at + 1) ranks s slots rows (ap (λ n. map (λ (k : KeptRows). k.id.0) (kept_from n slots)) (sym next) ∙ left) h.1)
+    let here : rows_at at uses s ≡ Some (rows_of r.document s.paths uses) = ap (λ n. rows_at n uses s) first ∙ ap (option_map (λ (r : Row). rows_of r.document s.paths uses)) h.0 in
+    ap (λ o. kept_from at (o ∷ anew_from (at + 1) uses s slots)) here ∙ ap (λ n. kept_at n (rows_of r.document s.paths uses) ∷ kept_from (suc at) (anew_from (at + 1) uses s slots)) first
+    ∙ ap (λ n. kept_at r.id (rows_of r.document s.paths uses) ∷ kept_from n (anew_from (at + 1) uses s slots)) next
+    ∙ ap (λ v. kept_at r.id (rows_of r.document s.paths uses) ∷ v) (anew-kept (at + 1) uses s slots rows (ap (λ n. map (λ (k : KeptRows). k.id.0) (kept_from n slots)) (sym next) ∙ left) h.1)
 
 -- ---- lists of internal ids
 

@@ -1,6 +1,7 @@
 -- What stays of an index whatever change it takes.
-use Rattle.std.proofs.Common.{◌≡◌, ℕ, ◌-◌, ◌<◌, ◌≤◌, ◌==◌, Bool, true, false, cond, List, [], ◌∷◌, ◌++◌, suc, length, map, filter, take, drop, Option, Some, None, Result, Ok, Err, refl, sym, ap, subst, ◌∙◌, arith, bytes_eq, append_assoc, append-nil}
+use Rattle.std.proofs.Common.{◌≡◌, ℕ, ◌<◌, ◌≤◌, ◌==◌, Bool, true, false, cond, List, [], ◌∷◌, ◌++◌, suc, length, map, filter, take, drop, Option, Some, None, Result, Ok, Err, refl, sym, ap, subst, ◌∙◌, arith, bytes_eq, append_assoc, append-nil}
 use Rattle.std.specs.Prelude.{not}
+use Rattle.std.specs.List.{flat_map, filter_map}
 use Rattle.index_core.specs.Updating.{updated_rows}
 use Rattle.std.proofs.lemmas.Bool.{cond-true, cond-false, cond_both}
 use Rattle.serde_json.specs.Data.{Data}
@@ -8,34 +9,41 @@ use Rattle.doc_values.specs.Changes.{KindData}
 use Rattle.doc_values.specs.Changes as kind
 use Rattle.doc_values.specs.Walk.{paths_of}
 use Rattle.doc_store.specs.declared.rows.StoreRow.{StoreRow}
-use Rattle.doc_store.specs.declared.rows.StoreFault.{StoreFault}
+use Rattle.doc_store.specs.declared.rows.StoreRefusal.{StoreRefusal}
 use Rattle.doc_store.specs.Paths.{has_path, with_path, registered}
 use Rattle.doc_store.specs.Store.{Row, Store, row_at, stored, all_stored, spent}
 use Rattle.doc_store.proofs.LawLemmas.{never_given_again}
 use Rattle.doc_store.proofs.RowLemmas.{next_id-grows}
-use Rattle.index_settings.specs.declared.fault.SettingsFault.{SettingsFault}
+use Rattle.index_settings.specs.declared.fault.SettingsRefusal.{SettingsRefusal}
 use Rattle.index_settings.specs.View.{SettingsView}
 use Rattle.index_settings.specs.Table.{defaults, patch_fault}
-use Rattle.index_settings.specs.Values.{texts_in}
-use Rattle.index_settings.specs.Patch.{chosen, patched}
-use Rattle.index_core.specs.declared.fault.CoreFault.{CoreFault}
-use Rattle.index_core.specs.declared.fault.CoreFault.TheVariants.{KeyDiffers}
+use Rattle.index_settings.specs.Patch.{patched}
+use Rattle.index_settings.specs.Rules.{rule_of}
+use Rattle.doc_rows.specs.Rows.{rows_of}
+use Rattle.search_base.specs.Trying.{◌>>=◌}
+use Rattle.index_core.specs.declared.refusal.CoreRefusal.{CoreRefusal}
+use Rattle.index_core.specs.declared.refusal.CoreRefusal.TheVariants.{KeyDiffers}
 use Rattle.index_core.specs.Index.{Index, documents}
 use Rattle.index_core.specs.PlanView.{PlanView, Work, replace, update, remove, clear, patch, reset}
-use Rattle.index_core.specs.Plans.{◌>>=◌, key_for, rows_for, plan_of, documents_planned, patch_planned, planned, is_named, after_work, settings_after, unless_spent, applied}
-use Rattle.index_core.specs.Kept.{KeptRows, kept_of, AreKept}
-use Rattle.index_core.specs.Matching.{query_of, rules_of}
-use Rattle.index_core.specs.Hits.{window_end, most_hits}
-use Rattle.index_core.specs.Fetches.{search_alike, needed, needed_under}
-use Rattle.index_core.specs.Laws.{KeyStays, PathsStay, IdsAreSpentOnce, NoWordFindsTheList, LeavesSearch, OtherPatchesLeaveSearch, SettingsReadOnce}
-use Rattle.index_core.proofs.Collecting.{hits-empty}
-use Rattle.index_core.proofs.Finding.{ids-rise, hits-read, part-read}
+use Rattle.index_core.specs.Plans.{key_for, rows_for, plan_of, documents_planned, patch_planned, planned, is_named, after_work, settings_after, unless_spent, applied}
+use Rattle.index_core.specs.Rules.{entries_named}
+use Rattle.index_core.specs.Fetches.{use_alike, needed_under}
+use Rattle.search_base.specs.CostOrder.{before}
+use Rattle.row_search.specs.Hits.{costs_of, id_of, hits_of}
+use Rattle.index_core.specs.Matching.{matching, rules_in, with_costs}
+use Rattle.index_core.specs.Found.{asked_of, most_hits, window_size}
+use Rattle.index_core.specs.Shown.{hit_at}
+use Rattle.index_core.proofs.HitLemmas.{hits-seen}
+use Rattle.index_core.proofs.Finding.{as_match, hits-read, asked-there}
+use Rattle.index_core.proofs.NoWord.{no_costs, empty-matching, listed, some-there, documents-of}
+use Rattle.std.proofs.lemmas.List.{drop-map, take-map}
+use Rattle.index_core.specs.Laws.{KeyStays, PathsStay, IdsAreSpentOnce, NoWordFindsTheList, LeavesRanking, OtherPatchesLeaveRanking, SettingsReadOnce}
 use Rattle.index_core.proofs.Updating.{updated-stored}
-use Rattle.index_core.proofs.Settling.{alike-texts}
+use Rattle.index_core.proofs.Settling.{uses-patched, rules-patched, alike-patched}
 
 -- ---- the key
 
-pub bind_ok : {A B : Type 0} (r : Result A CoreFault) (f : A → Result B CoreFault) (y : B) → r >>= f ≡ Ok y → (x : A) × (r ≡ Ok x) × (f x ≡ Ok y)
+pub bind_ok : {A B : Type 0} (r : Result A CoreRefusal) (f : A → Result B CoreRefusal) (y : B) → r >>= f ≡ Ok y → (x : A) × (r ≡ Ok x) × (f x ≡ Ok y)
 bind_ok (Ok x) f y h = (x, refl, h)
 bind_ok (Err fault) f y h = absurd (cc)
 
@@ -54,13 +62,13 @@ key_documents own given ds work plan h =
     let same : plan_of a.0 (work b.0) ≡ plan = (let e = b.2 in cc) in
     ap (λ (p : PlanView). p.key) (sym same) ∙ sym (key_kept own given ds a.0 a.1)
 
-abbrev found_good : PlanView → Result PlanView CoreFault
+abbrev found_good : PlanView → Result PlanView CoreRefusal
 found_good plan = Ok plan
 
 key_same : (key : Option (List ℕ)) (work : Work) (plan : PlanView) → found_good (plan_of key work) ≡ Ok plan → plan.key ≡ key
 key_same key work plan h = let same : plan_of key work ≡ plan = cc in ap (λ (p : PlanView). p.key) (sym same)
 
-key_patched : (key : Option (List ℕ)) (members : Data) (fault : Option SettingsFault) (plan : PlanView) → patch_planned key members fault ≡ Ok plan → plan.key ≡ key
+key_patched : (key : Option (List ℕ)) (members : Data) (fault : Option SettingsRefusal) (plan : PlanView) → patch_planned key members fault ≡ Ok plan → plan.key ≡ key
 key_patched key members None plan h = key_same key (patch members) plan h
 key_patched key members (Some fault) plan h = absurd (cc)
 
@@ -74,7 +82,7 @@ key_planned index kind.drop_index plan own is h = key_same index.key (replace []
 key_planned index (kind.patch d) plan own is h = key_patched index.key d (patch_fault d) plan h ∙ is
 key_planned index kind.reset plan own is h = key_same index.key reset plan h ∙ is
 
-unless_ok : (index after : Index) (fault : Option StoreFault) → unless_spent index fault ≡ Ok after → index ≡ after
+unless_ok : (index after : Index) (fault : Option StoreRefusal) → unless_spent index fault ≡ Ok after → index ≡ after
 unless_ok index after None h = cc
 unless_ok index after (Some fault) h = cc
 
@@ -149,25 +157,24 @@ ids_are_spent_once index after change id takes low gone = subst (λ (i : Index).
 
 -- ---- no word
 
-ids-in : (kept : List KeptRows) → map (λ id. id.0) (map (λ k. k.id) kept) ≡ map (λ k. k.id.0) kept
-ids-in [] = refl
-ids-in (k ∷ kept) = ap (λ v. k.id.0 ∷ v) (ids-in kept)
-
 pub no_word_finds_the_list : NoWordFindsTheList
-no_word_finds_the_list index call sound none =
-    let s = index.store in
-    let kept = kept_of index.settings s in
-    let most = most_hits index in
-    let n = window_end most call - call.offset in
-    let all : AreKept kept index.settings s = record { same = refl; sound = sound } in
-    let some = take n (drop call.offset kept) in
-    let ids = map (λ (k : KeptRows). k.id) some in
-    sym (hits-read index kept ids call all (ids-in some ∙ hits-empty most call (query_of index call.q) (rules_of index.settings) kept (ids-rise index.settings s kept all) none)) ∙ part-read index.settings s kept ids call.offset n all (ids-in some)
+no_word_finds_the_list index call sound none ask =
+    let asked = asked_of (most_hits index) call (matching index call) in
+    let size = window_size (most_hits index) call in
+    let rows = index.store.rows in
+    let costs = no_costs (rules_in index) in
+    let all = empty-matching index call none ask rows in
+    let some = take size (drop call.offset rows) in
+    let seen : map as_match asked ≡ map as_match (map (λ r. with_costs r costs) some) =
+    hits-seen before costs_of id_of as_match (matching index call) call.offset size ∙ ap (λ ms. hits_of (map as_match ms) call.offset size) all
+    ∙ listed costs rows index.store.next_id call.offset size sound.increase in
+    ap (map (λ hit. hit.document)) (sym (hits-read rows asked (asked-there index call sound)) ∙ ap (filter_map (hit_at rows)) seen ∙ hits-read rows (map (λ r. with_costs r costs) some) (some-there index call.offset size costs sound))
+    ∙ documents-of costs some ∙ sym (ap (take size) (drop-map (λ (r : Row). r.document) call.offset rows) ∙ take-map (λ (r : Row). r.document) size (drop call.offset rows))
 
 -- ---- settings
 
-pub other_patches_leave_search : OtherPatchesLeaveSearch
-other_patches_leave_search index d plan none h = by (patch_fault d) h
+pub other_patches_leave_ranking : OtherPatchesLeaveRanking
+other_patches_leave_ranking index after d plan leaves h became = by (patch_fault d) h
   where
     old : SettingsView
     old = index.settings
@@ -175,14 +182,18 @@ other_patches_leave_search index d plan none h = by (patch_fault d) h
     new : SettingsView
     new = patched defaults old d
 
-    stays : new.searchable_attributes ≡ old.searchable_attributes
-    stays = ap (chosen old.searchable_attributes defaults.searchable_attributes texts_in) none
+    leaves_ranking : LeavesRanking index (after_plan (plan_of index.key (patch d)) index) (plan_of index.key (patch d))
+    leaves_ranking = record {
+      rows = λ document. ap (rows_of document index.store.paths) (uses-patched old d leaves index.store.paths);
+      rules = ap (λ texts. flat_map (λ text. entries_named index.store.paths (rule_of text)) texts) (rules-patched old d leaves);
+      reads = cond-true (use_alike new old index.store.paths) _ _ (alike-patched old d leaves index.store.paths);
+    }
 
-    reads : needed (patch d) index ≡ 0
-    reads = cond-true (search_alike new old) _ _ (alike-texts new.searchable_attributes old.searchable_attributes stays)
-
-    by : (fault : Option SettingsFault) → patch_planned index.key d fault ≡ Ok plan → LeavesSearch index plan
-    by None is = let same : plan_of index.key (patch d) ≡ plan = cc in subst (LeavesSearch index) same (record { attributes = stays; reads = reads })
+    by : (fault : Option SettingsRefusal) → patch_planned index.key d fault ≡ Ok plan → LeavesRanking index after plan
+    by None is =
+        let same : plan_of index.key (patch d) ≡ plan = cc in
+        subst (λ (i : Index). LeavesRanking index i plan) (applied-is plan index after became)
+        (subst (λ (p : PlanView). LeavesRanking index (after_plan p index) p) same leaves_ranking)
     by (Some fault) is = absurd (cc)
 
 count-documents : (rows : List Row) → length (map (λ r. r.document) rows) ≡ length rows
@@ -192,7 +203,7 @@ count-documents (r ∷ rows) = ap suc (count-documents rows)
 read-once : (settings : SettingsView) (index : Index) → needed_under settings index ≤ length (documents index)
 read-once settings index =
     let same = count-documents index.store.rows in
-    cond_both (search_alike settings index.settings) 0 (length index.store.rows) (λ n. n ≤ length (documents index)) (λ _. omega arith) (λ _. omega arith)
+    cond_both (use_alike settings index.settings index.store.paths) 0 (length index.store.rows) (λ n. n ≤ length (documents index)) (λ _. omega arith) (λ _. omega arith)
 
 pub settings_read_once : SettingsReadOnce
 settings_read_once index members = (read-once (patched defaults index.settings members) index, read-once defaults index)

@@ -1,9 +1,8 @@
-pub mod Found
-pub mod Order
-pub mod Placing
-pub mod Searching
-pub mod Collecting
+pub mod Behind
+pub mod HitLemmas
 pub mod Finding
+pub mod NoWord
+pub mod SynonymLemmas
 pub mod Stable
 pub mod Putting
 pub mod Removing

@@ -9,8 +9,9 @@ use Rattle.doc_store.specs.Store.{Row, Store, id_of, put, stored, all_stored, id
 use Rattle.doc_store.specs.StoreView.{AdmissionView, IsAdmitted}
 use Rattle.doc_store.specs.Sound.{Increase, StandOnce, IsSound}
 use Rattle.doc_store.proofs.SoundLemmas.{IsWhole, whole-stored, sound-all_stored}
-use Rattle.index_core.specs.Kept.{KeptRows, kept_at, AreKept}
-use Rattle.index_core.specs.Matching.{rows_with, ranks_from}
+use Rattle.row_search.specs.Slots.{KeptRows, kept_at}
+use Rattle.index_core.specs.Kept.{AreKept}
+use Rattle.index_core.specs.Matching.{rows_with, uses_from}
 use Rattle.index_core.specs.Putting.{put_kept, put_all, HasPlace, HavePlaces, rows_given, rows_shown}
 use Rattle.index_core.proofs.Stable.{all-stay}
 
@@ -45,7 +46,7 @@ given-low external low rows next h = by (id_of external rows) refl
 
 -- the rows of documents that come with these internal ids, in an index with these settings and paths
 abbrev pub rows_come : SettingsView → List (List ℕ) → List StoreRow → List ℕ → List KeptRows
-rows_come st paths rs ids = rows_given ids (rows_shown (ranks_from st 0 paths) paths (map Some rs))
+rows_come st paths rs ids = rows_given ids (rows_shown (uses_from st 0 paths) paths (map Some rs))
 
 -- one document put
 put-one : (st : SettingsView) (paths : List (List ℕ)) (new : StoreRow) (low next : ℕ) (rows : List Row) → Increase low rows next

@@ -1,23 +1,20 @@
 -- What a search sees of a document stays when the registry grows by paths that the document does not have.
 use Rattle.std.proofs.Common.{◌≡◌, ℕ, ◌+◌, Bool, true, false, ◌||◌, List, [], ◌∷◌, ◌++◌, map, Option, None, Some, refl, sym, ap, ◌∙◌}
 use Rattle.std.specs.Prelude.{bytes_eq}
-use Rattle.std.specs.List.{filter_map}
 use Rattle.std.proofs.lemmas.Bool.{cond-false, true≢false}
 use Rattle.serde_json.specs.Data.{Data}
-use Rattle.doc_values.specs.Walk.{Visit, walk, visited, paths_of}
-use Rattle.doc_values.specs.Leaves.{found_at}
-use Rattle.doc_rows.specs.Texts.{leaf_text, texts_of}
-use Rattle.doc_rows.specs.Rows.{places_at, places_from}
+use Rattle.doc_values.specs.Walk.{Visit, walk, visited, paths_of, members_in, flat_rows}
+use Rattle.doc_values.specs.Leaves.{found_at, said_of}
+use Rattle.doc_rows.specs.declared.path_use.PathUse.{PathUse}
+use Rattle.doc_rows.specs.Rows.{no_rows, and_rows, path_rows, rows_from}
 use Rattle.index_settings.specs.View.{SettingsView}
-use Rattle.index_settings.specs.Paths.{rank_of}
-use Rattle.index_core.specs.Matching.{ranks_from, rows_with}
-use Rattle.doc_values.specs.Walk.{members_in}
+use Rattle.index_core.specs.Matching.{use_of, uses_from, rows_with}
 use Rattle.doc_values.proofs.Leaves.{members_say}
 use Rattle.doc_store.proofs.NameLemmas.{same_bytes, bytes_eq-turned}
 use Rattle.doc_store.specs.Paths.{has_path}
 use Rattle.doc_store.specs.Store.{Row}
 use Rattle.doc_store.specs.Sound.{StandOnce, AreRegistered, CoverRows}
-use Rattle.index_core.specs.Kept.{kept_at}
+use Rattle.row_search.specs.Slots.{kept_at}
 
 -- a path that no visit is at holds nothing
 found-none : (path : List ℕ) (paths : List (List ℕ)) (visits : List Visit) → has_path path paths ≡ false → AreRegistered (visited visits) paths → found_at path visits ≡ []
@@ -28,32 +25,37 @@ found-none path paths (visit ∷ visits) absent h = by (bytes_eq path visit.path
     by true e rest = absurd (true≢false (sym (ap (λ p. has_path p paths) (same_bytes path visit.path e) ∙ h.0) ∙ absent))
     by false e rest = cond-false _ _ _ e ∙ rest
 
-texts-none : (path : List ℕ) (paths : List (List ℕ)) (d : Data) → has_path path paths ≡ false → AreRegistered (paths_of d) paths → texts_of d path ≡ []
-texts-none path paths d absent h = ap (filter_map leaf_text) (members_say path None (members_in d) ∙ found-none path paths (walk d) absent h)
+values-none : (path : List ℕ) (paths : List (List ℕ)) (d : Data) → has_path path paths ≡ false → AreRegistered (paths_of d) paths → said_of path (flat_rows d) ≡ []
+values-none path paths d absent h = members_say path None (members_in d) ∙ found-none path paths (walk d) absent h
 
 -- each of these paths is not among the others
 abbrev AreAbsent : List (List ℕ) → List (List ℕ) → Type 0
 AreAbsent [] paths = Unit {0}
 AreAbsent (path ∷ more) paths = (has_path path paths ≡ false) × AreAbsent more paths
 
-no-texts : (number : ℕ) (rank : Option ℕ) → places_at number rank [] ≡ []
-no-texts number None = refl
-no-texts number (Some rank) = refl
+no-values : (number : ℕ) (path_use : PathUse) → path_rows number path_use [] ≡ no_rows
+no-values number path_use = by path_use.rank path_use.faceted
+  where
+    by : (rank : Option ℕ) (faceted : Bool) → path_rows number (record { rank = rank; faceted = faceted }) [] ≡ no_rows
+    by None true = refl
+    by None false = refl
+    by (Some rank) true = refl
+    by (Some rank) false = refl
 
-places-none : (st : SettingsView) (number : ℕ) (d : Data) (more paths : List (List ℕ)) → AreAbsent more paths → AreRegistered (paths_of d) paths → places_from number d more (ranks_from st number more) ≡ []
-places-none st number d [] paths absent h = refl
-places-none st number d (path ∷ more) paths absent h =
-    let later = places_from (number + 1) d more (ranks_from st (number + 1) more) in
-    ap (λ texts. places_at number (rank_of st path number) texts ++ later) (texts-none path paths d absent.0 h)
-    ∙ ap (λ v. v ++ later) (no-texts number (rank_of st path number)) ∙ places-none st (number + 1) d more paths absent.1 h
+rows-none : (st : SettingsView) (number : ℕ) (d : Data) (more paths : List (List ℕ)) → AreAbsent more paths → AreRegistered (paths_of d) paths → rows_from number (flat_rows d) more (uses_from st number more) ≡ no_rows
+rows-none st number d [] paths absent h = refl
+rows-none st number d (path ∷ more) paths absent h =
+    let later = rows_from (number + 1) (flat_rows d) more (uses_from st (number + 1) more) in
+    ap (λ values. and_rows (path_rows number (use_of st path number) values) later) (values-none path paths d absent.0 h)
+    ∙ ap (λ v. and_rows v later) (no-values number (use_of st path number)) ∙ rows-none st (number + 1) d more paths absent.1 h
 
-places-append : (st : SettingsView) (number : ℕ) (d : Data) (more paths before : List (List ℕ)) → AreAbsent more before → AreRegistered (paths_of d) before
-    → places_from number d (paths ++ more) (ranks_from st number (paths ++ more)) ≡ places_from number d paths (ranks_from st number paths)
-places-append st number d more [] before absent h = places-none st number d more before absent h
-places-append st number d more (path ∷ paths) before absent h = ap (λ v. places_at number (rank_of st path number) (texts_of d path) ++ v) (places-append st (number + 1) d more paths before absent h)
+rows-append : (st : SettingsView) (number : ℕ) (d : Data) (more paths before : List (List ℕ)) → AreAbsent more before → AreRegistered (paths_of d) before
+    → rows_from number (flat_rows d) (paths ++ more) (uses_from st number (paths ++ more)) ≡ rows_from number (flat_rows d) paths (uses_from st number paths)
+rows-append st number d more [] before absent h = rows-none st number d more before absent h
+rows-append st number d more (path ∷ paths) before absent h = ap (and_rows (path_rows number (use_of st path number) (said_of path (flat_rows d)))) (rows-append st (number + 1) d more paths before absent h)
 
-pub rows-stay : (st : SettingsView) (d : Data) (paths more : List (List ℕ)) → AreAbsent more paths → AreRegistered (paths_of d) paths → rows_with st (paths ++ more) d ≡ rows_with st paths d
-rows-stay st d paths more absent h = ap (λ v. record { places = v; leaves = []; marks = [] }) (places-append st 0 d more paths paths absent h)
+rows-stay : (st : SettingsView) (d : Data) (paths more : List (List ℕ)) → AreAbsent more paths → AreRegistered (paths_of d) paths → rows_with st (paths ++ more) d ≡ rows_with st paths d
+rows-stay st d paths more absent h = rows-append st 0 d more paths paths absent h
 
 -- ---- paths that stand once
 

@@ -9,6 +9,7 @@ use Rattle.std.proofs.lemmas.List.{take_more}
 use Rattle.search_base.specs.RowsView.{RowsView}
 use Rattle.staged_slots.specs.Staged.{settled}
 use Rattle.packed_rows.specs.Packed.{KeptView}
+use Rattle.doc_rows.specs.declared.path_use.PathUse.{PathUse}
 use Rattle.doc_rows.specs.Rows.{rows_of}
 use Rattle.doc_store.specs.declared.rows.StoreRow.{StoreRow}
 use Rattle.serde_json.specs.Data.{Data}
@@ -16,32 +17,33 @@ use Rattle.doc_store.specs.Store.{Row, Store, all_stored, ids_given, row_at, sto
 use Rattle.doc_store.specs.StoreView.{AdmissionView, IsAdmitted}
 use Rattle.doc_store.proofs.SoundLemmas.{IsWhole}
 use Rattle.index_settings.specs.View.{SettingsView}
-use Rattle.index_core.specs.Kept.{AreKept, KeptRows, kept_at}
-use Rattle.index_core.specs.Matching.{ranks_from}
+use Rattle.row_search.specs.Slots.{KeptRows, kept_at, kept_from}
+use Rattle.index_core.specs.Kept.{AreKept}
+use Rattle.index_core.specs.Matching.{uses_from}
 use Rattle.index_core.specs.Putting.{put_kept, put_all, HasPlace, HavePlaces, rows_given, rows_shown}
-use Rattle.index_core.specs.Slots.{kept_from, AreInSlots, HaveSlots, slots_after, rows_at}
+use Rattle.index_core.specs.Slots.{AreInSlots, HaveSlots, slots_after, rows_at}
 use Rattle.index_core.proofs.KeptSlots.{slot-put, slot-pushed, come-slots}
 use Rattle.index_core.proofs.Putting.{admitted-puts, rows_come}
 
 -- ---- rows of documents
 
 -- the rows of some documents and of more are those of all
-shown-append : (ranks : List (Option ℕ)) (paths : List (List ℕ)) (xs ys : List (Option StoreRow)) → rows_shown ranks paths (xs ++ ys) ≡ rows_shown ranks paths xs ++ rows_shown ranks paths ys
-shown-append ranks paths [] ys = refl
-shown-append ranks paths (None ∷ xs) ys = shown-append ranks paths xs ys
-shown-append ranks paths (Some r ∷ xs) ys = ap (λ v. rows_of r.document paths ranks ∷ v) (shown-append ranks paths xs ys)
+shown-append : (uses : List PathUse) (paths : List (List ℕ)) (xs ys : List (Option StoreRow)) → rows_shown uses paths (xs ++ ys) ≡ rows_shown uses paths xs ++ rows_shown uses paths ys
+shown-append uses paths [] ys = refl
+shown-append uses paths (None ∷ xs) ys = shown-append uses paths xs ys
+shown-append uses paths (Some r ∷ xs) ys = ap (λ v. rows_of r.document paths uses ∷ v) (shown-append uses paths xs ys)
 
 -- the rows of one document more
-pub shown-more : (ranks : List (Option ℕ)) (paths : List (List ℕ)) (documents : List (Option StoreRow)) (at : ℕ) (row : Option StoreRow) (before after : List RowsView) → at < length documents → row ≡ get_or documents at row
-    → before ≡ rows_shown ranks paths (take at documents) → after ≡ before ++ rows_shown ranks paths (row ∷ []) → after ≡ rows_shown ranks paths (take (at + 1) documents)
-shown-more ranks paths documents at row before after less is so_far staged =
-    staged ∙ ap (λ v. v ++ rows_shown ranks paths (row ∷ [])) so_far ∙ sym (shown-append ranks paths (take at documents) (row ∷ []))
-    ∙ ap (rows_shown ranks paths) (sym (take_more documents at row less ∙ ap (λ v. take at documents ++ v ∷ []) (sym is)))
+pub shown-more : (uses : List PathUse) (paths : List (List ℕ)) (documents : List (Option StoreRow)) (at : ℕ) (row : Option StoreRow) (before after : List RowsView) → at < length documents → row ≡ get_or documents at row
+    → before ≡ rows_shown uses paths (take at documents) → after ≡ before ++ rows_shown uses paths (row ∷ []) → after ≡ rows_shown uses paths (take (at + 1) documents)
+shown-more uses paths documents at row before after less is so_far staged =
+    staged ∙ ap (λ v. v ++ rows_shown uses paths (row ∷ [])) so_far ∙ sym (shown-append uses paths (take at documents) (row ∷ []))
+    ∙ ap (rows_shown uses paths) (sym (take_more documents at row less ∙ ap (λ v. take at documents ++ v ∷ []) (sym is)))
 
 -- as many rows as documents, and as many ids
-shown-counted : (ranks : List (Option ℕ)) (paths : List (List ℕ)) (rs : List StoreRow) (s : Store) → length (ids_given rs s) ≡ length (rows_shown ranks paths (map Some rs))
-shown-counted ranks paths [] s = refl
-shown-counted ranks paths (r ∷ rs) s = ap suc (shown-counted ranks paths rs (stored r s))
+shown-counted : (uses : List PathUse) (paths : List (List ℕ)) (rs : List StoreRow) (s : Store) → length (ids_given rs s) ≡ length (rows_shown uses paths (map Some rs))
+shown-counted uses paths [] s = refl
+shown-counted uses paths (r ∷ rs) s = ap suc (shown-counted uses paths rs (stored r s))
 
 -- ---- one document settled
 
@@ -114,7 +116,7 @@ pub record Stores (st : SettingsView) (slots : List (Option RowsView)) (ids : Li
 -- documents that were admitted, with the ids that they are given and their rows
 pub admitted-stores : (st : SettingsView) (rs : List StoreRow) (s : Store) (admission : AdmissionView) (slots : List (Option RowsView)) (ids : List ℕ) (staged : List RowsView) (paths : List (List ℕ))
     → AreInSlots slots st s → IsAdmitted s rs admission → paths ≡ s.paths ++ admission.added → ids ≡ ids_given rs s
-    → staged ≡ rows_shown (ranks_from st 0 paths) paths (map Some rs) → Stores st slots ids staged (all_stored rs s)
+    → staged ≡ rows_shown (uses_from st 0 paths) paths (map Some rs) → Stores st slots ids staged (all_stored rs s)
 admitted-stores st rs s admission slots ids staged paths h admitted is given shown =
     let sound = h.kept.sound in
     let whole : IsWhole s = record { increase = sound.increase; apart = sound.apart; once = sound.once; cover = sound.cover } in
@@ -122,7 +124,7 @@ admitted-stores st rs s admission slots ids staged paths h admitted is given sho
     let puts = admitted-puts st rs s admission (kept_from 0 slots) (rows_given ids staged) paths h.kept admitted is comes in
     let come = come-slots st paths rs s whole in
     record {
-      counted = ap length given ∙ shown-counted (ranks_from st 0 paths) paths rs s ∙ ap length (sym shown);
+      counted = ap length given ∙ shown-counted (uses_from st 0 paths) paths rs s ∙ ap length (sym shown);
       places = puts.places;
       have = subst (λ v. HaveSlots v (length slots)) (sym comes) (subst (HaveSlots (rows_come st paths rs (ids_given rs s))) (sym h.many) come.0);
       becomes = puts.becomes;
@@ -136,10 +138,10 @@ pub settled-behind : (id : ℕ) (slots : List (Option RowsView)) (rows : RowsVie
 settled-behind id slots rows is = cond-false (nat_lt id (length slots)) _ _ (le-ltb id (length slots) (omega arith))
 
 -- what a search sees of a document that is there
-pub rows-found : (id : ℕ) (ranks : List (Option ℕ)) (s : Store) (document : Data) → option_map (λ r. r.document) (row_at id s.rows) ≡ Some document
-    → rows_at id ranks s ≡ Some (rows_of document s.paths ranks)
-rows-found id ranks s document h = by (row_at id s.rows) h
+pub rows-found : (id : ℕ) (uses : List PathUse) (s : Store) (document : Data) → option_map (λ r. r.document) (row_at id s.rows) ≡ Some document
+    → rows_at id uses s ≡ Some (rows_of document s.paths uses)
+rows-found id uses s document h = by (row_at id s.rows) h
   where
-    by : (o : Option Row) → option_map (λ r. r.document) o ≡ Some document → option_map (λ r. rows_of r.document s.paths ranks) o ≡ Some (rows_of document s.paths ranks)
+    by : (o : Option Row) → option_map (λ r. r.document) o ≡ Some document → option_map (λ r. rows_of r.document s.paths uses) o ≡ Some (rows_of document s.paths uses)
     by None e = absurd (cc)
-    by (Some r) e = ap (option_map (λ (d : Data). rows_of d s.paths ranks)) e
+    by (Some r) e = ap (option_map (λ (d : Data). rows_of d s.paths uses)) e

@@ -10,12 +10,13 @@ use Rattle.doc_store.specs.declared.rows.StoreRow.{StoreRow}
 use Rattle.doc_store.specs.Store.{Row, Store, id_of}
 use Rattle.doc_store.proofs.LawLemmas.{ids_stay}
 use Rattle.doc_store.proofs.NameLemmas.{same_bytes}
-use Rattle.index_settings.specs.declared.fault.SettingsFault.{SettingsFault}
+use Rattle.index_settings.specs.declared.fault.SettingsRefusal.{SettingsRefusal}
 use Rattle.index_settings.specs.Table.{patch_fault}
-use Rattle.index_core.specs.declared.fault.CoreFault.{CoreFault}
+use Rattle.search_base.specs.Trying.{◌>>=◌}
+use Rattle.index_core.specs.declared.refusal.CoreRefusal.{CoreRefusal}
 use Rattle.index_core.specs.Index.{Index}
 use Rattle.index_core.specs.PlanView.{PlanView, Work, replace, update, remove, clear, patch, reset}
-use Rattle.index_core.specs.Plans.{◌>>=◌, key_for, rows_for, plan_of, documents_planned, patch_planned, planned, is_named, after_work}
+use Rattle.index_core.specs.Plans.{key_for, rows_for, plan_of, documents_planned, patch_planned, planned, is_named, after_work}
 use Rattle.index_core.specs.Updating.{updated_rows}
 use Rattle.index_core.specs.Laws.{Spares, DocumentsStay}
 use Rattle.index_core.proofs.LawLemmas.{bind_ok, applied-is}
@@ -30,7 +31,7 @@ SparesIn clear external = ⊥
 SparesIn (patch members) external = Unit {0}
 SparesIn reset external = Unit {0}
 
-abbrev fine : PlanView → Result PlanView CoreFault
+abbrev fine : PlanView → Result PlanView CoreRefusal
 fine plan = Ok plan
 
 spared : (external : List ℕ) (key : Option (List ℕ)) (work : Work) (plan : PlanView) → SparesIn work external → fine (plan_of key work) ≡ Ok plan → SparesIn plan.work external
@@ -43,7 +44,7 @@ spared-documents external own given ds work plan h is =
     let b = bind_ok (rows_for a.0 ds) (λ rows. Ok (plan_of a.0 (work rows))) plan a.2 in
     spared external a.0 (work b.0) plan (h b.0) b.2
 
-spared-patched : (external : List ℕ) (key : Option (List ℕ)) (members : Data) (fault : Option SettingsFault) (plan : PlanView) → patch_planned key members fault ≡ Ok plan → SparesIn plan.work external
+spared-patched : (external : List ℕ) (key : Option (List ℕ)) (members : Data) (fault : Option SettingsRefusal) (plan : PlanView) → patch_planned key members fault ≡ Ok plan → SparesIn plan.work external
 spared-patched external key members None plan is = spared external key (patch members) plan tt is
 spared-patched external key members (Some fault) plan is = absurd (cc)
 

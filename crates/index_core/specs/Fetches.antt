@@ -1,25 +1,45 @@
 -- How many stored documents a change has to read.
-use Rattle.std.specs.Prelude.{ℕ, Bool, length, filter, if◌then◌else◌}
+use Rattle.std.specs.Prelude.{ℕ, ◌≡◌, ◌==◌, ◌&&◌, Bool, true, false, List, length, filter, codes, Option, None, Some, if◌then◌else◌}
+use Rattle.std.specs.Bool.{beq}
 use Rattle.std.specs.Cmp.Lexicographic.{pointwise}
-use Rattle.std.specs.Str.{bytes_eq}
+use Rattle.serde_json.specs.Data.{Data}
+use Rattle.serde_json.specs.Find.{get}
+use Rattle.doc_rows.specs.declared.path_use.PathUse.{PathUse}
+use Rattle.doc_store.specs.Store.{externals}
 use Rattle.index_settings.specs.View.{SettingsView}
 use Rattle.index_settings.specs.Table.{defaults}
 use Rattle.index_settings.specs.Patch.{patched}
-use Rattle.doc_store.specs.Store.{externals}
 use Rattle.index_core.specs.Index.{Index}
+use Rattle.index_core.specs.Matching.{uses_from}
 use Rattle.index_core.specs.PlanView.{Work, replace, update, remove, clear, patch, reset}
 use Rattle.index_core.specs.Plans.{is_named}
 
--- both search the same paths, with the same ranks
-abbrev pub search_alike : SettingsView → SettingsView → Bool
-search_alike s t = pointwise bytes_eq s.searchable_attributes t.searchable_attributes
+abbrev pub same_rank : Option ℕ → Option ℕ → Bool
+same_rank None None = true
+same_rank None (Some n) = false
+same_rank (Some m) None = false
+same_rank (Some m) (Some n) = m == n
 
--- all documents, where these settings search other paths than the index does, or rank them otherwise
+abbrev pub same_use : PathUse → PathUse → Bool
+same_use a b = same_rank a.rank b.rank && beq a.faceted b.faceted
+
+-- both settings use each of these paths alike
+abbrev pub use_alike : SettingsView → SettingsView → List (List ℕ) → Bool
+use_alike s t paths = pointwise same_use (uses_from s 0 paths) (uses_from t 0 paths)
+
+-- a patch names none of the members that say how paths are used
+pub record LeavesUses (members : Data) : Type 0 where
+  pub searchable : get (codes "searchableAttributes") members ≡ None
+  pub filterable : get (codes "filterableAttributes") members ≡ None
+  pub sortable : get (codes "sortableAttributes") members ≡ None
+  pub rules : get (codes "rankingRules") members ≡ None
+
+-- all documents, where these settings use some path of the index otherwise than the index does
 abbrev pub needed_under : SettingsView → Index → ℕ
-needed_under settings index = if search_alike settings index.settings then 0 else length index.store.rows
+needed_under settings index = if use_alike settings index.settings index.store.paths then 0 else length index.store.rows
 
--- An update reads each stored document that it names once, and settings that search other paths or rank them otherwise
--- read each document once; no other change reads one.
+-- An update reads each stored document that it names once, and settings that use some path otherwise read each document
+-- once; no other change reads one.
 abbrev pub needed : Work → Index → ℕ
 needed (replace rows) index = 0
 needed (update rows) index = length (filter (is_named (externals rows)) index.store.rows)

@@ -1,19 +1,10 @@
 -- What an index keeps of each document so that no search reads it.
-use Rattle.std.specs.Prelude.{◌≡◌, ℕ, List, map}
-use Rattle.search_base.specs.declared.document.DocId.{DocId}
-use Rattle.search_base.specs.RowsView.{RowsView}
+use Rattle.std.specs.Prelude.{◌≡◌, List, map}
+use Rattle.row_search.specs.Slots.{KeptRows, kept_at}
 use Rattle.index_settings.specs.View.{SettingsView}
 use Rattle.doc_store.specs.Store.{Store}
 use Rattle.doc_store.specs.Sound.{IsSound}
 use Rattle.index_core.specs.Matching.{rows_with}
-
--- what a search sees of a document, with its internal id
-pub record KeptRows : Type 0 where
-  pub id : DocId
-  pub rows : RowsView
-
-abbrev pub kept_at : ℕ → RowsView → KeptRows
-kept_at id rows = record { id = record { 0 = id }; rows = rows }
 
 -- the rows of each document under these settings, in the order of internal ids
 abbrev pub kept_of : SettingsView → Store → List KeptRows

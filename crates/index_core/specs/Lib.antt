@@ -1,15 +1,19 @@
+-- An index: what it holds, what a change does to it, and what a search finds in it.
 pub mod Codes
 pub mod Index
-pub mod Faults
+pub mod Refusals
 pub mod PlanView
 pub mod Plans
+pub mod QueryWords
+pub mod Rules
 pub mod Matching
-pub mod Hits
-pub mod Ordered
+pub mod Found
 pub mod Fetches
-pub mod Kept
 pub mod Laws
+pub mod Kept
+pub mod Slots
+pub mod Whole
+pub mod Shown
 pub mod Putting
 pub mod Removing
 pub mod Updating
-pub mod Slots

@@ -1,5 +1,5 @@
 -- What contracts see of a plan: the key after the change, and what is to be done.
-use Rattle.std.specs.Prelude.{◌≡◌, ◌⊎◌, ℕ, List, Option, refl}
+use Rattle.std.specs.Prelude.{◌≡◌, ◌⊎◌, ℕ, List, Option, None, refl}
 use Rattle.std.specs.Coded.{Coded, code_by, coded×, coded⊎, coded_ℕ, coded_list, coded_option}
 use Rattle.std.proofs.Common.{inl, inr}
 use base.Stored.{coded_unit}
@@ -8,6 +8,7 @@ use Rattle.doc_store.specs.Codes.{store_row_code}
 use Rattle.doc_values.specs.DataCode.{data_code}
 use Rattle.serde_json.specs.Data.{Data}
 use Rattle.serde_json.specs.View.{view}
+use Rattle.index_settings.specs.Table.{patch_fault}
 use Rattle.index_core.specs.declared.plan.Work.{Work as WorkParts}
 use Rattle.index_core.specs.declared.plan.Work.TheVariants as work
 
@@ -32,6 +33,11 @@ work_view (work.Remove ids) = remove ids.items
 work_view work.Clear = clear
 work_view (work.Patch members) = patch (view members)
 work_view work.Reset = reset
+
+-- a patch is one that is not refused
+abbrev pub IsGood : Work → Type 0
+IsGood (patch members) = patch_fault members ≡ None
+IsGood other = Unit {0}
 
 -- how the logic stores a plan
 abbrev WorkCode : Type 0
@@ -62,7 +68,11 @@ work_whole-work_parts (patch members) = refl
 work_whole-work_parts reset = refl
 
 abbrev pub work_code : Coded Work
-work_code = code_by WorkCode (coded⊎ (coded_list store_row_code) (coded⊎ (coded_list store_row_code) (coded⊎ (coded_list (coded_list coded_ℕ)) (coded⊎ coded_unit (coded⊎ data_code coded_unit))))) work_parts work_whole work_whole-work_parts
+work_code = code_by WorkCode (coded⊎ (coded_list store_row_code) (coded⊎ (coded_list store_row_code) (coded⊎
+    (coded_list (coded_list coded_ℕ)) (coded⊎ coded_unit
+    (coded⊎ data_code coded_unit))))) work_parts work_whole work_whole-work_parts
 
 abbrev pub plan_code : Coded PlanView
-plan_code = code_by (Option (List ℕ) × Work) (coded× (coded_option (coded_list coded_ℕ)) work_code) (λ p. (p.key, p.work)) (λ p. record { key = p.0; work = p.1 }) (λ _. refl)
+plan_code = code_by (Option (List ℕ)
+    × Work) (coded× (coded_option (coded_list coded_ℕ)) work_code) (λ p. (p.key, p.work))
+    (λ p. record { key = p.0; work = p.1 }) (λ _. refl)

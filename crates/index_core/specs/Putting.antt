@@ -1,9 +1,10 @@
 -- The rows that an index keeps, as a change of documents puts them.
 use Rattle.std.specs.Prelude.{◌≡◌, ◌<◌, ◌⊎◌, ℕ, ◌==◌, List, [], ◌∷◌, Option, None, Some, if◌then◌else◌}
 use Rattle.search_base.specs.RowsView.{RowsView}
+use Rattle.doc_rows.specs.declared.path_use.PathUse.{PathUse}
 use Rattle.doc_rows.specs.Rows.{rows_of}
 use Rattle.doc_store.specs.declared.rows.StoreRow.{StoreRow}
-use Rattle.index_core.specs.Kept.{KeptRows, kept_at}
+use Rattle.row_search.specs.Slots.{KeptRows, kept_at}
 
 -- the rows in place of those of their internal id, or else behind the others
 abbrev pub put_kept : KeptRows → List KeptRows → List KeptRows
@@ -29,8 +30,8 @@ rows_given [] rows = []
 rows_given (id ∷ ids) [] = []
 rows_given (id ∷ ids) (one ∷ rows) = kept_at id one ∷ rows_given ids rows
 
--- the rows of documents that are staged, in an index with these paths and their ranks
-abbrev pub rows_shown : List (Option ℕ) → List (List ℕ) → List (Option StoreRow) → List RowsView
-rows_shown ranks paths [] = []
-rows_shown ranks paths (None ∷ slots) = rows_shown ranks paths slots
-rows_shown ranks paths (Some r ∷ slots) = rows_of r.document paths ranks ∷ rows_shown ranks paths slots
+-- the rows of documents that are staged, in an index with these paths and their uses
+abbrev pub rows_shown : List PathUse → List (List ℕ) → List (Option StoreRow) → List RowsView
+rows_shown uses paths [] = []
+rows_shown uses paths (None ∷ slots) = rows_shown uses paths slots
+rows_shown uses paths (Some r ∷ slots) = rows_of r.document paths uses ∷ rows_shown uses paths slots

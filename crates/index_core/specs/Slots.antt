@@ -1,21 +1,13 @@
 -- What an index keeps of its documents, in a slot for each internal id that was given.
 use Rattle.std.specs.Prelude.{◌≡◌, ◌≤◌, ℕ, suc, max, List, [], ◌∷◌, length, Option, None, Some}
-use Rattle.search_base.specs.declared.cost_key.CostKey.{CostKey}
-use Rattle.search_base.specs.declared.rule.Rule.{Rule}
-use Rattle.search_base.specs.GraphView.{GraphView}
 use Rattle.search_base.specs.RowsView.{RowsView}
-use Rattle.search_base.specs.Tuple.{tuple}
 use Rattle.index_settings.specs.View.{SettingsView}
 use Rattle.std.specs.Option.{option_map}
+use Rattle.doc_rows.specs.declared.path_use.PathUse.{PathUse}
 use Rattle.doc_rows.specs.Rows.{rows_of}
 use Rattle.doc_store.specs.Store.{Store, row_at}
-use Rattle.index_core.specs.Kept.{KeptRows, kept_at, AreKept}
-
--- the rows in the slots, of which the first has the internal id
-abbrev pub kept_from : ℕ → List (Option RowsView) → List KeptRows
-kept_from id [] = []
-kept_from id (None ∷ slots) = kept_from (suc id) slots
-kept_from id (Some rows ∷ slots) = kept_at id rows ∷ kept_from (suc id) slots
+use Rattle.row_search.specs.Slots.{KeptRows, kept_from}
+use Rattle.index_core.specs.Kept.{AreKept}
 
 -- these are the rows of the store's documents, and each internal id that was given has a slot
 pub record AreInSlots (slots : List (Option RowsView)) (settings : SettingsView) (s : Store) : Type 0 where
@@ -32,16 +24,11 @@ abbrev pub slots_after : List KeptRows → ℕ → ℕ
 slots_after [] many = many
 slots_after (one ∷ more) many = slots_after more (max many (suc one.id.0))
 
--- the costs of a document that matches, where there is one
-abbrev pub costs_in : GraphView → List Rule → Option RowsView → Option (List CostKey)
-costs_in query rules None = None
-costs_in query rules (Some rows) = tuple rows query rules
-
--- what a search sees of the document with an internal id, where there is one, by the ranks of the paths
-abbrev pub rows_at : ℕ → List (Option ℕ) → Store → Option RowsView
-rows_at id ranks s = option_map (λ r. rows_of r.document s.paths ranks) (row_at id s.rows)
+-- what a search sees of the document with an internal id, where there is one, by the uses of the paths
+abbrev pub rows_at : ℕ → List PathUse → Store → Option RowsView
+rows_at id uses s = option_map (λ r. rows_of r.document s.paths uses) (row_at id s.rows)
 
 -- the same for the document in a slot, and none in an empty slot
-abbrev pub anew : ℕ → List (Option ℕ) → Store → Option RowsView → Option RowsView
-anew id ranks s None = None
-anew id ranks s (Some rows) = rows_at id ranks s
+abbrev pub anew : ℕ → List PathUse → Store → Option RowsView → Option RowsView
+anew id uses s None = None
+anew id uses s (Some rows) = rows_at id uses s

@@ -21,7 +21,8 @@ or_else (Some d) other = Some d
 -- the last document of an external id
 abbrev pub last_of : List ℕ → List StoreRow → Option Data
 last_of external [] = None
-last_of external (r ∷ rows) = or_else (last_of external rows) (if bytes_eq r.external external then Some r.document else None)
+last_of external (r ∷ rows) = or_else (last_of external rows)
+    (if bytes_eq r.external external then Some r.document else None)
 
 -- the document at a place
 abbrev pub document_at : List StoreRow → Option ℕ → Option Data
@@ -31,7 +32,8 @@ document_at rows (Some place) = option_map (λ r. r.document) (slice_get rows pl
 -- the map has the place of the last document of each external id
 pub record ArePlaces (places : BTreeMap (List ℕ) ℕ) (rows : List StoreRow) : Type 0 where
   pub each : (external : List ℕ) → document_at rows (get (slice_cmp nat_cmp) places external) ≡ last_of external rows
-  pub within : (external : List ℕ) (place : ℕ) → get (slice_cmp nat_cmp) places external ≡ Some place → place < length rows
+  pub within : (external : List ℕ) (place : ℕ) → get (slice_cmp nat_cmp) places external ≡ Some place
+      → place < length rows
 
 -- how many documents are read for one that comes: the stored one, where none of its id came before
 abbrev pub reads : Option Data → Option ℕ → ℕ

@@ -1,22 +1,19 @@
 use doc_values::DocumentText;
-use search_base::Word;
+use search_base::CostKey;
 
-/// What a search asks for: the documents that match the words of `q`, without the first `offset` of them, and at most
-/// `limit` of the rest.
-///
-/// A text without words asks for every document. A double quote counts as a separator between words.
-#[derive(Debug, Drop)]
-pub struct SearchCall {
-    pub q: Word,
-    pub offset: u64,
-    pub limit: u64,
+/// A document that a search found, and its costs: an entry for each ranking rule that is built, in the order of the
+/// rules.
+#[derive(Drop)]
+pub struct Hit<'a> {
+    pub document: &'a DocumentText,
+    pub costs: Vec<CostKey>,
 }
 
-/// What a search found: the documents that were asked for, the best match first, and how many documents match. No more
+/// What a search found: the hits that were asked for, the best match first, and how many documents match. No more
 /// matches are counted or handed out than the settings say.
 #[derive(Drop)]
 pub struct SearchResult<'a> {
-    pub hits: Vec<&'a DocumentText>,
+    pub hits: Vec<Hit<'a>>,
     pub total: u64,
 }
 

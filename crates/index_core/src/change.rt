@@ -1,20 +1,20 @@
-ghost use Rattle.std.specs.Prelude.{◌≡◌, ◌≢◌, ◌<◌, ◌++◌, length, None, Some, IfOk, IfErr, OnOk, OnErr};
+ghost use Rattle.std.specs.Prelude.{◌≡◌, ◌<◌, ◌++◌, [], length, IfOk, OnOk, OnErr};
 ghost use Rattle.std.specs.Option.{option_map};
 ghost use Rattle.doc_store.specs.Store.{all_stored, removed, spent};
 ghost use Rattle.index_settings.specs.View.{SettingsView};
-ghost use Rattle.index_core.specs.Faults.{store_refusal};
+ghost use Rattle.search_base.specs.Gives.{Checks};
+ghost use Rattle.index_core.specs.Refusals.{store_refusal};
 ghost use Rattle.doc_store.specs.Sound.{IsSound};
 ghost use Rattle.index_core.specs.Slots.{AreInSlots};
 ghost use Rattle.index_core.specs.Plans.{all_removed, cleared};
 ghost use Rattle.index_core.specs.Removing.{removed_under};
-ghost use Rattle.index_core.specs.declared.fault.CoreFault.TheVariants.{NoMemory as Memory};
 
-use crate::fault::CoreFault;
 use crate::kept::{put_all, stage_rows};
+use crate::refusal::{CoreFault, of_store};
 use doc_store::{DocStore, StoreRow};
 use index_settings::Settings;
 use packed_rows::PackedSlots;
-use search_base::{DocId, NoMemory, Word};
+use search_base::{DocId, Fault, NoMemory, Word};
 use std::alloc::Global;
 
 /// Stores documents one after the other, and keeps their rows. All memory is taken before anything changes.
@@ -25,15 +25,20 @@ pub(crate) fn store_documents(
     kept: &mut PackedSlots,
     documents: Vec<StoreRow>,
 ) -> Result<(), CoreFault>
-    requires { AreInSlots kept.old.slots settings.now store.old.content }
+    requires kept { AreInSlots kept.old.slots settings.now store.old.content }
+    requires no_rows { kept.old.staged ≡ [] }
+    requires no_documents { store.old.staged ≡ [] }
     ensures kept { AreInSlots kept.new.slots settings.now store.new.content }
+    ensures no_rows { kept.new.staged ≡ [] }
+    ensures no_documents { store.new.staged ≡ [] }
     ensures stored { OnOk result (store.new.content ≡ all_stored documents.items store.old.content) }
-    ensures within { OnOk result (spent (all_stored documents.items store.old.content) ≡ None) }
+    ensures within { Checks result (option_map store_refusal (spent (all_stored documents.items store.old.content))) }
     ensures stays { OnErr result (store.new.content ≡ store.old.content) }
-    ensures fault { IfErr result (λ fault. fault ≢ Memory
-        → option_map store_refusal (spent (all_stored documents.items store.old.content)) ≡ Some fault) }
 {
-    let admission = store.admit(alloc, documents.as_slice())?;
+    let admission = match store.admit(alloc, documents.as_slice()) {
+        Ok(admission) => admission,
+        Err(fault) => return Err(of_store(fault)),
+    };
     let paths = joined(alloc, store.paths(), admission.added())?;
     let plan = store.prepare(documents, admission)?;
     match stage_rows(alloc, settings, paths.as_slice(), store.staged(), kept) {
@@ -42,10 +47,10 @@ pub(crate) fn store_documents(
             put_all(kept, ids.as_slice());
             Ok(())
         }
-        Err(_refused) => {
+        Err(NoMemory) => {
             store.unstage();
             kept.unstage();
-            Err(CoreFault::NoMemory)
+            Err(Fault::NoMemory)
         }
     }
 }
@@ -74,8 +79,11 @@ fn add_paths(paths: &[Word], all: &mut Vec<Word>) -> Result<(), NoMemory>
 pub(crate) fn remove_documents(store: &mut DocStore, kept: &mut PackedSlots, ids: &[Word])
     requires sound { IsSound store.old.content }
     requires slots { length kept.old.slots ≡ store.old.content.next_id }
-    ensures kept { (settings : SettingsView) → AreInSlots kept.old.slots settings store.old.content → AreInSlots kept.new.slots settings store.new.content }
+    ensures kept { (settings : SettingsView) → AreInSlots kept.old.slots settings store.old.content
+        → AreInSlots kept.new.slots settings store.new.content }
     ensures removed { store.new.content ≡ all_removed ids.now store.old.content }
+    ensures rows_staged { kept.new.staged ≡ kept.old.staged }
+    ensures documents_staged { store.new.staged ≡ store.old.staged }
 {
     for id in ids {
         remove_document(store, kept, id);
@@ -85,9 +93,12 @@ pub(crate) fn remove_documents(store: &mut DocStore, kept: &mut PackedSlots, ids
 fn remove_document(store: &mut DocStore, kept: &mut PackedSlots, external: &Word)
     requires sound { IsSound store.old.content }
     requires slots { length kept.old.slots ≡ store.old.content.next_id }
-    ensures kept { (settings : SettingsView) → AreInSlots kept.old.slots settings store.old.content → AreInSlots kept.new.slots settings store.new.content }
+    ensures kept { (settings : SettingsView) → AreInSlots kept.old.slots settings store.old.content
+        → AreInSlots kept.new.slots settings store.new.content }
     ensures slots { length kept.new.slots ≡ store.new.content.next_id }
     ensures removed { store.new.content ≡ removed_under external.now store.old.content }
+    ensures rows_staged { kept.new.staged ≡ kept.old.staged }
+    ensures documents_staged { store.new.staged ≡ store.old.staged }
 {
     match store.id_of(external) {
         Some(id) => remove_at(store, kept, id),
@@ -99,9 +110,12 @@ fn remove_document(store: &mut DocStore, kept: &mut PackedSlots, external: &Word
 fn remove_at(store: &mut DocStore, kept: &mut PackedSlots, id: DocId)
     requires slots { length kept.old.slots ≡ store.old.content.next_id }
     requires within { id.0 < length kept.old.slots }
-    ensures kept { (settings : SettingsView) → AreInSlots kept.old.slots settings store.old.content → AreInSlots kept.new.slots settings store.new.content }
+    ensures kept { (settings : SettingsView) → AreInSlots kept.old.slots settings store.old.content
+        → AreInSlots kept.new.slots settings store.new.content }
     ensures slots { length kept.new.slots ≡ store.new.content.next_id }
     ensures removed { store.new.content ≡ removed id.0 store.old.content }
+    ensures rows_staged { kept.new.staged ≡ kept.old.staged }
+    ensures documents_staged { store.new.staged ≡ store.old.staged }
 {
     let _found = store.remove(id);
     kept.empty(id);
@@ -111,8 +125,11 @@ fn remove_at(store: &mut DocStore, kept: &mut PackedSlots, id: DocId)
 pub(crate) fn clear_documents(store: &mut DocStore, kept: &mut PackedSlots)
     requires sound { IsSound store.old.content }
     requires slots { length kept.old.slots ≡ store.old.content.next_id }
-    ensures kept { (settings : SettingsView) → AreInSlots kept.old.slots settings store.old.content → AreInSlots kept.new.slots settings store.new.content }
+    ensures kept { (settings : SettingsView) → AreInSlots kept.old.slots settings store.old.content
+        → AreInSlots kept.new.slots settings store.new.content }
     ensures cleared { store.new.content ≡ cleared store.old.content }
+    ensures rows_staged { kept.new.staged ≡ kept.old.staged }
+    ensures documents_staged { store.new.staged ≡ store.old.staged }
 {
     for id in 0..kept.len() {
         remove_at(store, kept, DocId(id as u32));

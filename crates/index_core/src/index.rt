@@ -1,49 +1,52 @@
-ghost use Rattle.std.specs.Prelude.{◌≡◌, ◌≢◌, ◌+◌, ◌≤◌, length, map, take, drop, Ok, Err, None, Some, IfOk, IfErr, OnOk, OnErr, IsTrue, ◌↔◌, MatchResult, if◌then◌else◌};
+ghost use Rattle.std.specs.Prelude.{◌≡◌, ◌+◌, ◌≤◌, length, map, take, drop, IfOk, OnOk, OnErr, IsTrue, ◌↔◌, if◌then◌else◌};
 ghost use Rattle.std.specs.Option.{option_copied, option_map, is_some};
+ghost use Rattle.search_base.specs.Gives.{Gives, Checks};
 ghost use Rattle.doc_values.specs.Changes.{kind_view};
-ghost use Rattle.index_core.specs.Index.{empty_index, documents as documents_in, document_under};
+ghost use Rattle.doc_store.specs.Sound.{IsSound};
 ghost use Rattle.doc_store.specs.Store.{spent};
-ghost use Rattle.index_core.specs.Faults.{store_refusal};
-ghost use Rattle.index_core.specs.PlanView.{work_view};
-ghost use Rattle.index_core.specs.Plans.{planned, applied, after_work, settings_after};
+ghost use Rattle.index_core.specs.Index.{empty_index, documents as documents_in, document_under};
+ghost use Rattle.index_core.specs.Refusals.{store_refusal};
+ghost use Rattle.index_core.specs.PlanView.{work_view, IsGood};
+ghost use Rattle.index_core.specs.Plans.{planned, applied, after_work, settings_after, IsPlanFor};
 ghost use Rattle.index_core.specs.Fetches.{needed};
-ghost use Rattle.index_core.specs.Hits.{found};
-ghost use Rattle.index_core.specs.declared.fault.CoreFault.TheVariants.{NoMemory as Memory};
+ghost use Rattle.index_core.specs.Found.{found, window_end as end_of_window};
+ghost use Rattle.index_core.specs.Shown.{hit_shown};
 
-use crate::call::{Listing, SearchCall, SearchResult};
+use crate::call::{Listing, SearchResult};
 use crate::change::{clear_documents, remove_documents, store_documents};
-use crate::fault::CoreFault;
+use crate::new_settings::{patch_settings, reset_settings};
 use crate::plan::{
     Plan, Work, keeping_key, no_work, planned_patch, planned_replace, planned_update,
 };
-use crate::read::read;
-use crate::search::rank;
-use crate::settle::{patch_settings, reset_settings};
+use crate::query_words::QueryWords;
+use crate::read::{read, read_hits};
+use crate::refusal::CoreFault;
+use crate::rules::rules_of;
 use crate::update::update_rows;
 use doc_store::DocStore;
 use doc_values::{ChangeKind, DocumentText};
 use index_settings::Settings;
 use packed_rows::PackedSlots;
+use row_search::rank;
 use search_base::{NoMemory, Steps, Word};
+use search_call::SearchCall;
 use std::alloc::Global;
 use std::marker::Model;
 
 /// One index, seen as its primary key, its store and its settings. What it keeps so that a search reads no document and
-/// cuts no stop word is not seen.
+/// cuts no words of the settings is not seen. Nothing is staged in it between two calls.
 #[derive(Drop)]
 pub struct IndexCore {
     key: Option<Word>,
     store: DocStore,
     settings: Settings,
-    stops: Vec<Word>,
+    words: QueryWords,
     kept: PackedSlots,
 }
 
 impl Model for IndexCore {
-    ghost use Rattle.std.specs.Prelude.{◌≡◌};
     ghost use Rattle.index_core.specs.Index.{Index, index_code};
-    ghost use Rattle.index_core.specs.Matching.{stop_words_of};
-    ghost use Rattle.index_core.specs.Slots.{AreInSlots};
+    ghost use Rattle.index_core.specs.Whole.{IsWhole};
 
     ghost Value = { Index };
 
@@ -51,8 +54,7 @@ impl Model for IndexCore {
 
     ghost view = { λ index. record { key = index.key; store = index.store.content; settings = index.settings } };
 
-    ghost invariant = { λ index. AreInSlots index.kept.slots index.settings index.store.content
-        × (index.stops.items ≡ stop_words_of index.settings) };
+    ghost invariant = { λ index. IsWhole index.store index.settings index.words index.kept };
 }
 
 impl IndexCore {
@@ -60,11 +62,12 @@ impl IndexCore {
     pub fn new(alloc: Global) -> Result<IndexCore, NoMemory>
         ensures { IfOk result (λ index. index ≡ empty_index) }
     {
+        let settings = Settings::defaults(alloc)?;
         Ok(IndexCore {
             key: None,
             store: DocStore::new(alloc)?,
-            settings: Settings::defaults(alloc)?,
-            stops: Vec::new(alloc),
+            words: QueryWords::of(alloc, &settings)?,
+            settings,
             kept: PackedSlots::new(alloc),
         })
     }
@@ -85,7 +88,8 @@ impl IndexCore {
 
     /// How many documents the index holds. Takes no memory.
     pub fn len(&self) -> u64
-        ensures { result ≡ length (documents_in self.now) }
+        ensures count { result ≡ length (documents_in self.now) }
+        ensures sound { IsSound self.now.store }
     {
         self.store.len()
     }
@@ -103,35 +107,36 @@ impl IndexCore {
     /// A change that makes an index or drops it is planned as one of no documents. A change of 2^32 documents or more
     /// counts as one for which there is no memory.
     pub fn plan(&self, alloc: Global, change: ChangeKind) -> Result<Plan, CoreFault>
-        ensures { MatchResult result (λ plan. planned self.now (kind_view change) ≡ Ok plan)
-            (λ fault. fault ≢ Memory → planned self.now (kind_view change) ≡ Err fault) }
+        ensures plan { Gives (λ plan. plan) result (planned self.now (kind_view change)) }
+        ensures fits { IfOk result (λ plan. IsPlanFor plan self.now) }
     {
         let own = self.key.as_ref();
         match change {
             ChangeKind::Replace { key, documents } => planned_replace(alloc, own, key, documents),
             ChangeKind::Update { key, documents } => planned_update(alloc, own, key, documents),
-            ChangeKind::Remove { ids } => keeping_key(own, Work::Remove { ids }),
-            ChangeKind::Clear => keeping_key(own, Work::Clear),
-            ChangeKind::Patch { members } => planned_patch(alloc, own, &self.settings, members),
-            ChangeKind::Reset => keeping_key(own, Work::Reset),
-            _ => keeping_key(own, no_work(alloc)),
+            ChangeKind::Remove { ids } => Ok(keeping_key(own, Work::Remove { ids })?),
+            ChangeKind::Clear => Ok(keeping_key(own, Work::Clear)?),
+            ChangeKind::Patch { members } => planned_patch(alloc, own, members),
+            ChangeKind::Reset => Ok(keeping_key(own, Work::Reset)?),
+            _ => Ok(keeping_key(own, no_work(alloc))?),
         }
     }
 
-    /// Does what a plan says, under its key. Takes its memory before it changes anything: a refusal, want of memory
-    /// too, leaves the index as it was.
+    /// Does what a plan says, under its key. The index has taken no other change since the plan was made, or at least
+    /// none that gave it another key. Takes its memory before it changes anything: a refusal, want of memory too,
+    /// leaves the index as it was.
     ///
     /// Where ids or paths are spent, ids are named first. An update reads each stored document that it names once, and
-    /// new settings read each document once where they search other paths or rank them otherwise; no other change reads
-    /// one. What a patch does not name is not looked at, and shares its list with the settings before.
+    /// new settings read each document once where they use some path otherwise; no other change reads one. What a patch
+    /// does not name is not looked at, and shares its list with the settings before.
     pub fn apply<F>(
         &mut self,
         alloc: Global,
         plan: Plan,
         fetches: &mut Steps<F>,
     ) -> Result<(), CoreFault>
-        ensures answer { MatchResult result (λ _. applied plan self.old ≡ Ok self.new)
-            (λ fault. fault ≢ Memory → applied plan self.old ≡ Err fault) }
+        requires { IsPlanFor plan self.old }
+        ensures answer { Gives (λ _. self.new) result (applied plan self.old) }
         ensures stays { OnErr result (self.new ≡ self.old) }
         ensures fetches { OnOk result (fetches.new ≡ fetches.old + needed plan.work self.old) }
         ensures at_most { fetches.new ≤ fetches.old + needed plan.work self.old }
@@ -148,11 +153,10 @@ impl IndexCore {
         work: Work,
         fetches: &mut Steps<F>,
     ) -> Result<(), CoreFault>
+        requires { IsGood (work_view work) }
         ensures key { self.new.key ≡ self.old.key }
         ensures done { OnOk result (self.new.store ≡ after_work (work_view work) self.old.store) }
-        ensures within { OnOk result (spent (after_work (work_view work) self.old.store) ≡ None) }
-        ensures fault { IfErr result (λ fault. fault ≢ Memory
-            → option_map store_refusal (spent (after_work (work_view work) self.old.store)) ≡ Some fault) }
+        ensures within { Checks result (option_map store_refusal (spent (after_work (work_view work) self.old.store))) }
         ensures settings { OnOk result (self.new.settings ≡ settings_after (work_view work) self.old.settings) }
         ensures stays { OnErr result (self.new ≡ self.old) }
         ensures fetches { OnOk result (fetches.new ≡ fetches.old + needed (work_view work) self.old) }
@@ -175,23 +179,24 @@ impl IndexCore {
                 Ok(())
             }
             Work::Patch { members } => {
-                let (kept, stops) = (&mut self.kept, &mut self.stops);
+                let (kept, words) = (&mut self.kept, &mut self.words);
                 let settings = &mut self.settings;
-                patch_settings(alloc, &self.store, kept, stops, settings, &members, fetches)?;
+                patch_settings(alloc, &self.store, kept, words, settings, &members, fetches)?;
                 Ok(())
             }
             Work::Reset => {
-                let (kept, stops) = (&mut self.kept, &mut self.stops);
+                let (kept, words) = (&mut self.kept, &mut self.words);
                 let settings = &mut self.settings;
-                reset_settings(alloc, &self.store, kept, stops, settings, fetches)?;
+                reset_settings(alloc, &self.store, kept, words, settings, fetches)?;
                 Ok(())
             }
         }
     }
 
-    /// The hits of a search, each a stored document: the asked slice of the documents that match, ranked by how many
-    /// words of the query were dropped before they matched and then by their internal ids. The settings say which paths
-    /// are searched, which words of a query are left out, and how many matches are counted or handed out.
+    /// The hits of a search, each a stored document with its costs: the asked slice of the documents that match, in
+    /// the order of their costs and then of their internal ids. The settings say which costs count and in which
+    /// order, which paths are searched, which words of a query are left out or stand for others, and how many matches
+    /// are counted or handed out.
     ///
     /// Reads no other document than the hits, and each of them once.
     pub fn search<F>(
@@ -200,30 +205,33 @@ impl IndexCore {
         call: &SearchCall,
         fetches: &mut Steps<F>,
     ) -> Result<SearchResult, NoMemory>
-        ensures hits { IfOk result (λ result. map (λ document. document.now) result.hits.items
-            ≡ (found self.now call.now).hits) }
+        ensures hits { IfOk result (λ result. map hit_shown result.hits.items ≡ (found self.now call.now).hits) }
         ensures total { IfOk result (λ result. result.total ≡ (found self.now call.now).total) }
         ensures fetches { OnOk result (fetches.new ≡ fetches.old + length (found self.now call.now).hits) }
         ensures starved { OnErr result (fetches.new ≡ fetches.old) }
     {
+        let query = self.words.query(alloc, call)?;
+        let rules = rules_of(alloc, &self.settings, self.store.paths())?;
+        let most = self.settings.max_total_hits();
+        let end = window_end(most, call);
         let ranked = rank(
             alloc,
-            &self.settings,
-            self.stops.as_slice(),
-            &self.store,
             &self.kept,
-            call,
+            &query,
+            rules.as_slice(),
+            call.offset,
+            end,
         )?;
-        let hits = read(alloc, &self.store, ranked.ids.as_slice(), fetches)?;
         Ok(SearchResult {
-            hits,
-            total: ranked.total.min(self.settings.max_total_hits()),
+            hits: read_hits(alloc, &self.store, ranked.hits, fetches)?,
+            total: ranked.total.min(most),
         })
     }
 
     /// The document with an external id. Reads that document once, and none where there is none. Takes no memory.
     pub fn get<F>(&self, external: &Word, fetches: &mut Steps<F>) -> Option<&DocumentText>
-        ensures document { option_map (λ document. document.now) result ≡ document_under external.now self.now.store.rows }
+        ensures document { option_map (λ document. document.now) result
+            ≡ document_under external.now self.now.store.rows }
         ensures fetches { fetches.new ≡ fetches.old + (if is_some result then 1 else 0) }
     {
         match self.store.id_of(external) {
@@ -232,8 +240,8 @@ impl IndexCore {
         }
     }
 
-    /// The documents without the first `offset` of them, and at most `limit` of the rest, in the order of their internal
-    /// ids. Reads no other documents, and each of them once.
+    /// The documents without the first `offset` of them, and at most `limit` of the rest, in the order of their
+    /// internal ids. Reads no other documents, and each of them once.
     pub fn list<F>(
         &self,
         alloc: Global,
@@ -244,7 +252,8 @@ impl IndexCore {
         ensures documents { IfOk result (λ listing. map (λ document. document.now) listing.documents.items
             ≡ take limit (drop offset (documents_in self.now))) }
         ensures total { IfOk result (λ listing. listing.total ≡ length (documents_in self.now)) }
-        ensures fetches { OnOk result (fetches.new ≡ fetches.old + length (take limit (drop offset (documents_in self.now)))) }
+        ensures fetches { OnOk result (fetches.new ≡ fetches.old
+            + length (take limit (drop offset (documents_in self.now)))) }
         ensures starved { OnErr result (fetches.new ≡ fetches.old) }
     {
         let ids = self.store.ids(alloc, offset, limit)?;
@@ -254,4 +263,11 @@ impl IndexCore {
             documents,
         })
     }
+}
+
+// The place of the first hit that a search does not ask for, where no more than `most` are handed out.
+fn window_end(most: u64, call: &SearchCall) -> u64
+    ensures { result ≡ end_of_window most call.now }
+{
+    call.offset.saturating_add(call.limit).min(most)
 }

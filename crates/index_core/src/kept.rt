@@ -1,13 +1,13 @@
-ghost use Rattle.std.specs.Prelude.{◌≡◌, ◌+◌, ◌<◌, ◌≤◌, ◌++◌, ◌∷◌, [], List, suc, max, length, map, take, drop, OnOk, OnErr};
+ghost use Rattle.std.specs.Prelude.{◌≡◌, ◌+◌, ◌<◌, ◌≤◌, ◌++◌, ◌∷◌, [], List, suc, max, length, map, OnOk, OnErr};
 ghost use Rattle.search_base.specs.RowsView.{RowsView};
 ghost use Rattle.doc_rows.specs.Rows.{rows_of};
-ghost use Rattle.index_core.specs.Kept.{kept_at};
-ghost use Rattle.index_core.specs.Matching.{ranks_from};
+ghost use Rattle.row_search.specs.Slots.{kept_at, kept_from};
+ghost use Rattle.index_core.specs.Matching.{uses_from};
 ghost use Rattle.index_core.specs.Putting.{put_kept as kept_with, put_all as kept_with_all, HasPlace, HavePlaces, rows_shown, rows_given};
-ghost use Rattle.index_core.specs.Slots.{kept_from, HaveSlots, slots_after};
+ghost use Rattle.index_core.specs.Slots.{HaveSlots, slots_after};
 
-use crate::settle::ranks_of;
-use doc_rows::rows;
+use crate::uses::uses_of;
+use doc_rows::{PathUse, rows};
 use doc_store::StoreRow;
 use doc_values::DocumentText;
 use index_settings::Settings;
@@ -15,18 +15,8 @@ use packed_rows::PackedSlots;
 use search_base::{DocId, NoMemory, Word};
 use std::alloc::Global;
 
-/// The list without the first `offset` of its elements, and at most `limit` of the rest.
-pub(crate) fn part<T>(list: &[T], offset: u64, limit: u64) -> &[T]
-    ensures { result.now ≡ take limit (drop offset list.now) }
-{
-    let length = list.len() as u64;
-    let start = offset.min(length);
-    let end = start + limit.min(length - start);
-    &list[start as usize..end as usize]
-}
-
-/// Stages the rows of documents that come, in an index with these settings and paths, in place of what was staged. What is
-/// kept stays. A refusal may stage a part of them.
+/// Stages the rows of documents that come, in an index with these settings and paths, in place of what was staged.
+/// What is kept stays. A refusal may stage a part of them.
 pub(crate) fn stage_rows(
     alloc: Global,
     settings: &Settings,
@@ -36,13 +26,14 @@ pub(crate) fn stage_rows(
 ) -> Result<(), NoMemory>
     requires few { length paths.now ≤ 1000 }
     ensures slots { kept.new.slots ≡ kept.old.slots }
-    ensures staged { OnOk result (kept.new.staged ≡ rows_shown (ranks_from settings.now 0 paths.now) paths.now documents.now) }
+    ensures staged { OnOk result (kept.new.staged
+        ≡ rows_shown (uses_from settings.now 0 paths.now) paths.now documents.now) }
 {
-    let ranks = ranks_of(alloc, settings, paths)?;
+    let uses = uses_of(alloc, settings, paths)?;
     kept.unstage();
     kept.reserve(documents.len())?;
     for row in documents {
-        stage_row(alloc, paths, ranks.as_slice(), row, kept)?;
+        stage_row(alloc, paths, uses.as_slice(), row, kept)?;
     }
     Ok(())
 }
@@ -51,50 +42,53 @@ pub(crate) fn stage_rows(
 fn stage_row(
     alloc: Global,
     paths: &[Word],
-    ranks: &[Option<u16>],
+    uses: &[PathUse],
     row: &Option<StoreRow>,
     kept: &mut PackedSlots,
 ) -> Result<(), NoMemory>
     requires few { length paths.now ≤ 1000 }
-    requires ranks { length ranks.now ≡ length paths.now }
+    requires uses { length uses.now ≡ length paths.now }
     ensures slots { kept.new.slots ≡ kept.old.slots }
-    ensures staged { OnOk result (kept.new.staged ≡ kept.old.staged ++ rows_shown ranks.now paths.now (row.now ∷ [])) }
+    ensures staged { OnOk result (kept.new.staged ≡ kept.old.staged ++ rows_shown uses.now paths.now (row.now ∷ [])) }
 {
     match row {
-        Some(row) => stage_document(alloc, &row.document, &row.external, paths, ranks, kept),
+        Some(row) => stage_document(alloc, &row.document, &row.external, paths, uses, kept),
         None => Ok(()),
     }
 }
 
-/// Stages the rows of a document in an index with these paths and their ranks. The document is read back from its text and let
-/// go again. What is kept stays, and a refusal changes nothing.
+/// Stages the rows of a document in an index with these paths and their uses. The document is read back from its text
+/// and let go again. What is kept stays, and a refusal changes nothing.
 pub(crate) fn stage_document(
     alloc: Global,
     text: &DocumentText,
     external: &Word,
     paths: &[Word],
-    ranks: &[Option<u16>],
+    uses: &[PathUse],
     kept: &mut PackedSlots,
 ) -> Result<(), NoMemory>
     requires few { length paths.now ≤ 1000 }
-    requires ranks { length ranks.now ≡ length paths.now }
+    requires uses { length uses.now ≡ length paths.now }
     ensures slots { kept.new.slots ≡ kept.old.slots }
-    ensures staged { OnOk result (kept.new.staged ≡ kept.old.staged ++ rows_of text.now paths.now ranks.now ∷ []) }
+    ensures staged { OnOk result (kept.new.staged ≡ kept.old.staged ++ rows_of text.now paths.now uses.now ∷ []) }
     ensures stays { OnErr result (kept.new.staged ≡ kept.old.staged) }
 {
     let document = text.document(alloc)?;
-    let rows = rows(alloc, &document, paths, ranks)?;
-    kept.stage(alloc, rows.places.as_slice(), external)
+    let rows = rows(alloc, &document, paths, uses)?;
+    kept.stage(alloc, &rows, external)
 }
 
-/// Puts the rows that are staged, one after the other, each into the slot of its internal id, or into a new one. Takes no
-/// memory.
+/// Puts the rows that are staged, one after the other, each into the slot of its internal id, or into a new one. None
+/// stays staged. Takes no memory.
 pub(crate) fn put_all(kept: &mut PackedSlots, ids: &[DocId])
     requires many { length ids.now ≡ length kept.old.staged }
     requires places { HavePlaces (rows_given (map (λ id. id.0) ids.now) kept.old.staged) (kept_from 0 kept.old.slots) }
     requires slots { HaveSlots (rows_given (map (λ id. id.0) ids.now) kept.old.staged) (length kept.old.slots) }
-    ensures rows { kept_from 0 kept.new.slots ≡ kept_with_all (rows_given (map (λ id. id.0) ids.now) kept.old.staged) (kept_from 0 kept.old.slots) }
-    ensures slots { length kept.new.slots ≡ slots_after (rows_given (map (λ id. id.0) ids.now) kept.old.staged) (length kept.old.slots) }
+    ensures staged { kept.new.staged ≡ [] }
+    ensures rows { kept_from 0 kept.new.slots
+        ≡ kept_with_all (rows_given (map (λ id. id.0) ids.now) kept.old.staged) (kept_from 0 kept.old.slots) }
+    ensures slots { length kept.new.slots
+        ≡ slots_after (rows_given (map (λ id. id.0) ids.now) kept.old.staged) (length kept.old.slots) }
 {
     for id in ids {
         put(kept, *id);
@@ -108,7 +102,8 @@ fn put(kept: &mut PackedSlots, id: DocId)
     requires place { HasPlace id.0 (kept_from 0 kept.old.slots) }
     requires slot { id.0 ≤ length kept.old.slots }
     ensures rows { (first : RowsView) (rest : List RowsView) → kept.old.staged ≡ first ∷ rest
-        → (kept.new.staged ≡ rest) × (kept_from 0 kept.new.slots ≡ kept_with (kept_at id.0 first) (kept_from 0 kept.old.slots)) }
+        → (kept.new.staged ≡ rest) × (kept_from 0 kept.new.slots
+        ≡ kept_with (kept_at id.0 first) (kept_from 0 kept.old.slots)) }
     ensures slots { length kept.new.slots ≡ max (length kept.old.slots) (suc id.0) }
 {
     kept.settle(id);

@@ -1,56 +1,53 @@
-ghost use Rattle.std.specs.Prelude.{◌≡◌, ◌≢◌, Ok, Err, MatchResult};
+ghost use Rattle.std.specs.Prelude.{◌≡◌, Ok, Some};
 ghost use Rattle.std.specs.Option.{option_copied};
+ghost use Rattle.search_base.specs.Gives.{Gives};
+ghost use Rattle.search_base.specs.Trying.{refused_as};
 ghost use Rattle.doc_values.specs.Ids.{key_of};
-ghost use Rattle.index_core.specs.Faults.{key_result};
+ghost use Rattle.index_core.specs.Refusals.{key_refusal};
 ghost use Rattle.index_core.specs.Plans.{key_for as key_of_change};
-ghost use Rattle.index_core.specs.declared.fault.CoreFault.TheVariants.{NoMemory as Memory};
 
-use crate::fault::CoreFault;
-use doc_values::{DocumentText, KeyFault, infer_key};
-use search_base::Word;
+use crate::refusal::{CoreFault, CoreRefusal};
+use doc_values::{DocumentText, KeyRefusal, infer_key};
+use search_base::{Fault, Word};
 use std::alloc::Global;
 
-// The primary key after a change: that of the index, the given one, or else that of the first document.
+/// The primary key after a change: that of the index, the given one, or else that of the first document.
 pub(crate) fn key_for(
     alloc: Global,
     own: Option<&Word>,
-    given: Option<&Word>,
+    given: Option<Word>,
     documents: &[DocumentText],
 ) -> Result<Option<Word>, CoreFault>
-    ensures { MatchResult result
-        (λ key. key_of_change (option_copied own.entry) (option_copied given.entry) documents.now ≡ Ok key)
-        (λ fault. fault ≢ Memory
-        → key_of_change (option_copied own.entry) (option_copied given.entry) documents.now ≡ Err fault) }
+    ensures { Gives (λ key. key) result (key_of_change (option_copied own.entry) given documents.now) }
 {
-    match own {
-        Some(own) => match given {
-            Some(given) => if own.as_str() == given.as_str() {
-                Ok(Some(own.clone()?))
-            } else {
-                Err(CoreFault::KeyDiffers)
-            },
-            None => Ok(Some(own.clone()?)),
+    match (own, given) {
+        (Some(own), Some(given)) => if own.as_str() == given.as_str() {
+            Ok(Some(given))
+        } else {
+            Err(Fault::Refused(CoreRefusal::KeyDiffers))
         },
-        None => match given {
-            Some(given) => Ok(Some(given.clone()?)),
-            None => match documents.first() {
-                Some(document) => inferred(alloc, document),
-                None => Ok(None),
-            },
+        (Some(own), None) => Ok(Some(own.clone()?)),
+        (None, Some(given)) => Ok(Some(given)),
+        (None, None) => match documents.first() {
+            Some(document) => Ok(Some(inferred(alloc, document)?)),
+            None => Ok(None),
         },
     }
 }
 
 // The key that a document gives, which is read back from its text and let go at once.
-fn inferred(alloc: Global, text: &DocumentText) -> Result<Option<Word>, CoreFault>
-    ensures { MatchResult result (λ key. key_result (key_of text.now) ≡ Ok key)
-        (λ fault. fault ≢ Memory → key_result (key_of text.now) ≡ Err fault) }
+fn inferred(alloc: Global, text: &DocumentText) -> Result<Word, CoreFault>
+    ensures { Gives (λ key. key) result (refused_as key_refusal (key_of text.now)) }
 {
     let document = text.document(alloc)?;
     match infer_key(alloc, &document) {
-        Ok(key) => Ok(Some(key)),
-        Err(KeyFault::NoCandidate) => Err(CoreFault::NoCandidate),
-        Err(KeyFault::SeveralCandidates { .. }) => Err(CoreFault::SeveralCandidates),
-        Err(KeyFault::NoMemory) => Err(CoreFault::NoMemory),
+        Ok(key) => Ok(key),
+        Err(Fault::Refused(KeyRefusal::NoCandidate)) => {
+            Err(Fault::Refused(CoreRefusal::NoCandidate))
+        }
+        Err(Fault::Refused(KeyRefusal::SeveralCandidates { .. })) => {
+            Err(Fault::Refused(CoreRefusal::SeveralCandidates))
+        }
+        Err(Fault::NoMemory) => Err(Fault::NoMemory),
     }
 }

@@ -1,4 +1,4 @@
-ghost use Rattle.index_core.specs.Laws.{KeyStays, PathsStay, IdsAreSpentOnce, DocumentsStay, NoWordFindsTheList, OtherPatchesLeaveSearch, SettingsReadOnce};
+ghost use Rattle.index_core.specs.Laws.{KeyStays, PathsStay, IdsAreSpentOnce, DocumentsStay, NoWordFindsTheList, OtherPatchesLeaveRanking, SettingsReadOnce};
 
 /// What stays of an index whatever change it takes: its primary key, the paths of its registry, and that an internal id
 /// is given once. It does nothing.
@@ -13,14 +13,16 @@ pub fn documents_stay_under_their_ids()
     ensures { DocumentsStay }
 {}
 
-/// A search for no word finds the documents in the order of their internal ids. It does nothing.
+/// A search for no word finds the documents in the order of their internal ids, where no rule asks for a value of
+/// theirs. It does nothing.
 pub fn no_word_finds_the_list()
     ensures { NoWordFindsTheList }
 {}
 
-/// A patch that does not name the searchable attributes leaves them as they are, and reads no document. It does nothing.
-pub fn other_patches_leave_search()
-    ensures { OtherPatchesLeaveSearch }
+/// A patch that names no member that says how paths are used leaves what a search sees of documents and the rules that
+/// rank them, and reads no document. It does nothing.
+pub fn other_patches_leave_ranking()
+    ensures { OtherPatchesLeaveRanking }
 {}
 
 /// New settings read each document of the index at most once. It does nothing.

@@ -1,18 +1,19 @@
-ghost use Rattle.std.specs.Prelude.{◌≡◌, ◌≢◌, [], Ok, Err, IfOk, OnErr, IfErr, MatchResult};
+ghost use Rattle.std.specs.Prelude.{◌≡◌, [], IfOk, IfErr};
 ghost use Rattle.std.specs.Option.{option_copied};
 ghost use Rattle.serde_json.specs.View.{view as data_of};
+ghost use Rattle.search_base.specs.Gives.{Gives};
+ghost use Rattle.search_base.specs.declared.fault.Fault.TheVariants.{NoMemory as Memory};
 ghost use Rattle.index_settings.specs.Table.{patch_fault};
-ghost use Rattle.index_core.specs.PlanView.{replace as replace_rows, update as update_rows, work_view};
+ghost use Rattle.index_core.specs.PlanView.{replace as replace_rows, update as update_rows, work_view, IsGood};
 ghost use Rattle.index_core.specs.Plans.{documents_planned, patch_planned, plan_of};
-ghost use Rattle.index_core.specs.declared.fault.CoreFault.TheVariants.{NoMemory as Memory};
 
-use crate::fault::CoreFault;
+use crate::external_ids::rows_for;
 use crate::key::key_for;
-use crate::rows::rows_for;
+use crate::refusal::{CoreFault, CoreRefusal};
 use doc_store::StoreRow;
 use doc_values::DocumentText;
-use index_settings::{Settings, patch};
-use search_base::Word;
+use index_settings::check_patch;
+use search_base::{Fault, NoMemory, Word};
 use serde_json::Value;
 use std::alloc::Global;
 use std::marker::Model;
@@ -35,20 +36,22 @@ pub(crate) enum Work {
     Remove { ids: Vec<Word> },
     /// Takes out all documents.
     Clear,
-    /// Gives the index's settings these members, a patch without a fault.
+    /// Gives the index's settings these members, a patch that is not refused.
     Patch { members: Value },
     /// Gives the index the settings of a new one.
     Reset,
 }
 
 impl Model for Plan {
-    ghost use Rattle.index_core.specs.PlanView.{PlanView, plan_code, work_view};
+    ghost use Rattle.index_core.specs.PlanView.{PlanView, plan_code, work_view, IsGood};
 
     ghost Value = { PlanView };
 
     ghost coded = { plan_code };
 
     ghost view = { λ plan. record { key = plan.key; work = work_view plan.work } };
+
+    ghost invariant = { λ plan. IsGood (work_view plan.work) };
 }
 
 /// The documents of a change that stores them whole.
@@ -58,12 +61,10 @@ pub(crate) fn planned_replace(
     given: Option<Word>,
     documents: Vec<DocumentText>,
 ) -> Result<Plan, CoreFault>
-    ensures { MatchResult result
-        (λ plan. documents_planned (option_copied own.entry) given documents.items replace_rows ≡ Ok plan)
-        (λ fault. fault ≢ Memory
-        → documents_planned (option_copied own.entry) given documents.items replace_rows ≡ Err fault) }
+    ensures { Gives (λ plan. plan) result (documents_planned
+        (option_copied own.entry) given documents.items replace_rows) }
 {
-    let key = key_for(alloc, own, given.as_ref(), documents.as_slice())?;
+    let key = key_for(alloc, own, given, documents.as_slice())?;
     let rows = rows_for(alloc, key.as_ref(), documents)?;
     Ok(Plan {
         key,
@@ -78,12 +79,10 @@ pub(crate) fn planned_update(
     given: Option<Word>,
     documents: Vec<DocumentText>,
 ) -> Result<Plan, CoreFault>
-    ensures { MatchResult result
-        (λ plan. documents_planned (option_copied own.entry) given documents.items update_rows ≡ Ok plan)
-        (λ fault. fault ≢ Memory
-        → documents_planned (option_copied own.entry) given documents.items update_rows ≡ Err fault) }
+    ensures { Gives (λ plan. plan) result (documents_planned
+        (option_copied own.entry) given documents.items update_rows) }
 {
-    let key = key_for(alloc, own, given.as_ref(), documents.as_slice())?;
+    let key = key_for(alloc, own, given, documents.as_slice())?;
     let rows = rows_for(alloc, key.as_ref(), documents)?;
     Ok(Plan {
         key,
@@ -91,26 +90,26 @@ pub(crate) fn planned_update(
     })
 }
 
-/// The members of a patch of an index's settings, where it has no fault.
+/// The members of a patch of an index's settings, where it is not refused.
 pub(crate) fn planned_patch(
     alloc: Global,
     own: Option<&Word>,
-    settings: &Settings,
     members: Value,
 ) -> Result<Plan, CoreFault>
-    ensures { MatchResult result
-        (λ plan. patch_planned (option_copied own.entry) (data_of members) (patch_fault (data_of members)) ≡ Ok plan)
-        (λ fault. fault ≢ Memory
-        → patch_planned (option_copied own.entry) (data_of members) (patch_fault (data_of members)) ≡ Err fault) }
+    ensures { Gives (λ plan. plan) result (patch_planned (option_copied own.entry) (data_of members) (patch_fault
+        (data_of members))) }
 {
-    let _tried = patch(alloc, settings, &members)?;
-    keeping_key(own, Work::Patch { members })
+    match check_patch(alloc, &members) {
+        Ok(()) => Ok(keeping_key(own, Work::Patch { members })?),
+        Err(Fault::Refused(refusal)) => Err(Fault::Refused(CoreRefusal::Settings(refusal))),
+        Err(Fault::NoMemory) => Err(Fault::NoMemory),
+    }
 }
 
 /// The plan of work under the key that the index has.
-pub(crate) fn keeping_key(own: Option<&Word>, work: Work) -> Result<Plan, CoreFault>
-    ensures plan { IfOk result (λ plan. plan ≡ plan_of (option_copied own.entry) (work_view work)) }
-    ensures starved { IfErr result (λ fault. fault ≡ Memory) }
+pub(crate) fn keeping_key(own: Option<&Word>, work: Work) -> Result<Plan, NoMemory>
+    requires { IsGood (work_view work) }
+    ensures { IfOk result (λ plan. plan ≡ plan_of (option_copied own.entry) (work_view work)) }
 {
     let key = match own {
         Some(key) => Some(key.clone()?),

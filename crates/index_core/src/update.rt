@@ -25,8 +25,10 @@ pub(crate) fn update_rows<F>(
 ) -> Result<Vec<StoreRow>, NoMemory>
     requires { IsSound store.now.content }
     ensures rows { IfOk result (λ rows. rows.items ≡ updated_rows documents.items store.now.content) }
-    ensures fetches { OnOk result (fetches.new ≡ fetches.old + length (filter (is_named (externals documents.items)) store.now.content.rows)) }
-    ensures at_most { fetches.new ≤ fetches.old + length (filter (is_named (externals documents.items)) store.now.content.rows) }
+    ensures fetches { OnOk result (fetches.new ≡ fetches.old
+        + length (filter (is_named (externals documents.items)) store.now.content.rows)) }
+    ensures at_most { fetches.new ≤ fetches.old
+        + length (filter (is_named (externals documents.items)) store.now.content.rows) }
 {
     let mut places = BTreeMap::new(alloc);
     let mut rows = Vec::with_capacity(alloc, documents.len())?;
@@ -54,7 +56,8 @@ fn updated<F>(
     requires sound { IsSound store.now.content }
     requires places { ArePlaces places.now rows.now }
     ensures document { IfOk result (λ updated. updated
-        ≡ over (or_else (last_of external.now rows.now) (document_under external.now store.now.content.rows)) document) }
+        ≡ over (or_else (last_of external.now rows.now)
+        (document_under external.now store.now.content.rows)) document) }
     ensures fetches { fetches.new
         ≡ fetches.old + reads (last_of external.now rows.now) (id_of external.now store.now.content.rows) }
 {

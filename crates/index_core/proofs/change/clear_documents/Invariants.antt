@@ -7,6 +7,8 @@ use Rattle.index_core.proofs.change.clear_documents.Given as goal
 abbrev pub invariant-loop-id : goal.invariant-loop-id
 invariant-loop-id l = record {
   goes : Clearing l.initial.store.content l.store.content l.id;
+  rows_staged : l.kept.staged ≡ l.initial.kept.staged;
+  documents_staged : l.store.staged ≡ l.initial.store.staged;
   slots : length l.kept.slots ≡ l.store.content.next_id;
   kept : (settings : SettingsView) → AreInSlots l.initial.kept.slots settings l.initial.store.content → AreInSlots l.kept.slots settings l.store.content;
 }

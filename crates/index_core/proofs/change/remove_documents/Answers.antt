@@ -15,6 +15,8 @@ loop-id-preserved c =
     record {
       goes = removes-one ids (drop i ids) id (drop (i + 1) ids) c.args.store.now.content c.loop-id.store.content c.remove_document.new.store.content here
           c.remove_document.ensures.removed c.loop-id.invariant.goes;
+      rows_staged = c.remove_document.ensures.rows_staged ∙ c.loop-id.invariant.rows_staged;
+      documents_staged = c.remove_document.ensures.documents_staged ∙ c.loop-id.invariant.documents_staged;
       slots = c.remove_document.ensures.slots;
       kept = λ settings h. c.remove_document.ensures.kept settings (c.loop-id.invariant.kept settings h);
     }

@@ -1,5 +1,5 @@
 use Rattle.std.proofs.Common.{ap, refl, ◌∙◌}
-use Rattle.index_core.specs.Slots.{kept_from}
+use Rattle.row_search.specs.Slots.{kept_from}
 use Rattle.index_core.proofs.Staging.{slot-settled, settles-slots}
 use Rattle.index_core.proofs.kept.put.Goals as goal
 

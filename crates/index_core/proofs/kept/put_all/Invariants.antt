@@ -1,6 +1,7 @@
 use Rattle.std.proofs.Common.{drop, length, map}
 use Rattle.index_core.specs.Putting.{put_all, rows_given}
-use Rattle.index_core.specs.Slots.{kept_from, slots_after}
+use Rattle.row_search.specs.Slots.{kept_from}
+use Rattle.index_core.specs.Slots.{slots_after}
 use Rattle.index_core.proofs.Staging.{ArePut}
 use Rattle.index_core.proofs.kept.put_all.Given as goal
 

@@ -1,0 +1,15 @@
+-- What holds of an index beside what contracts see of it.
+use Rattle.std.specs.Prelude.{◌≡◌, []}
+use Rattle.doc_store.specs.StoreView.{StoreView}
+use Rattle.index_settings.specs.View.{SettingsView}
+use Rattle.packed_rows.specs.Packed.{KeptView}
+use Rattle.index_core.specs.QueryWords.{QueryWordsView, AreWordsOf}
+use Rattle.index_core.specs.Slots.{AreInSlots}
+
+-- the rows and words are those of the store and the settings, and nothing is staged
+pub record IsWhole (store : StoreView) (settings : SettingsView) (query_words : QueryWordsView)
+    (kept : KeptView) : Type 0 where
+  pub rows : AreInSlots kept.slots settings store.content
+  pub words : AreWordsOf query_words settings
+  pub no_rows : kept.staged ≡ []
+  pub no_documents : store.staged ≡ []
