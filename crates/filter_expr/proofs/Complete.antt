@@ -1,6 +1,6 @@
 -- The machine reads the tokens of each derivation, and has its tree and its first bad value.
 use Rattle.std.proofs.Common.{◌≡◌, ℕ, List, [], ◌∷◌, ◌++◌, Bool, true, false, Option, Some, None, refl, sym, ap, ◌∙◌, append_assoc, append-nil}
-use Rattle.filter_expr.specs.Tree.{Tree}
+use Rattle.filter_tree.specs.Tree.{Tree}
 use Rattle.filter_expr.specs.Grammar.{Condition, compared, between, among, existing, nullish, emptyish, condition_tree, condition_tokens, condition_values, further, listed, Ors, one_and, or, Ands, one_not, and, Nots, negated, group, plain, ors_tokens, ands_tokens, nots_tokens, ors_members, ands_members, nots_tree, ors_tree, ors_values, ands_values, nots_values}
 use Rattle.filter_expr.specs.Number.{bad_in}
 use Rattle.filter_expr.specs.Machine.{start, item, first, done, Level, level_of, Frame, under_not, bracket, at, or_first, bad_after, noted, with_member, member_end, whole, next_or, run, new_machine, reading, accept}

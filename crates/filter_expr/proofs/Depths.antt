@@ -2,7 +2,7 @@
 use Rattle.std.proofs.Common.{◌≡◌, ◌⊎◌, inl, inr, ℕ, suc, ◌+◌, ◌≤◌, ◌<◌, List, [], ◌∷◌, ◌++◌, length, Option, Some, None, refl, sym, ap, subst, ◌∙◌, arith}
 use Rattle.std.specs.Prelude.{IfSome}
 use Rattle.std.specs.List.{AllByRecursion}
-use Rattle.filter_expr.specs.Tree.{Tree, negation}
+use Rattle.filter_tree.specs.Tree.{Tree, negation}
 use Rattle.filter_expr.specs.Machine.{State, start, attribute, value, low, high, refused, in_list, first, item, after_comma, being, not_being, done, Level, level_of, Frame, under_not, bracket, Machine, at as machine_at, member_end, whole, closed, step, move, run, then}
 use Rattle.filter_expr.specs.Limit.{opened, deeper, depth_at, depths, depths_after}
 use Rattle.filter_expr.specs.Faults.{most_depth}

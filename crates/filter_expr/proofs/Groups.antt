@@ -3,7 +3,7 @@ use Rattle.std.proofs.Common.{◌≡◌, inl, inr, ℕ, ◌+◌, List, [], ◌�
 use mathlib.Core.List.{map-append}
 use Rattle.std.specs.Prelude.{find, option_map}
 use Rattle.serde_json.specs.Data.{Data, null, string, array, Items, no_items, item}
-use Rattle.filter_expr.specs.Tree.{Tree, or_of}
+use Rattle.filter_tree.specs.Tree.{Tree, or_of}
 use Rattle.filter_expr.specs.Number.{is_no_number}
 use Rattle.filter_expr.specs.Grammar.{Ors, ors_tree, ors_values}
 use Rattle.filter_expr.specs.Machine.{or_first, bad_after, Reading}

@@ -3,11 +3,11 @@ use Rattle.std.proofs.Common.{◌≡◌, ◌≢◌, ℕ, ◌+◌, ◌<◌, ◌�
 use Rattle.std.specs.Prelude.{is_some}
 use Rattle.serde_json.specs.Data.{Data, Items, item}
 use Rattle.filter_expr.specs.Limit.{syntax_at, too_deep_at, reading_of}
-use Rattle.filter_expr.specs.View.{view}
+use Rattle.filter_tree.specs.View.{view}
 use Rattle.filter_expr.specs.Texts.{groups_of, texts_of, AreShort}
 use Rattle.filter_expr.specs.Parsed.{conditions, values_of_groups, IsParsed}
 use Rattle.filter_expr.specs.Reader.{Progress, new_progress, and_then, group_end, group_read, groups_read, value_read, concluded_by, concluded}
-use Rattle.filter_expr.specs.declared.tree.Filter.{Filter}
+use Rattle.filter_tree.specs.declared.tree.Filter.{Filter}
 use Rattle.filter_expr.specs.declared.fault.FilterFault.{FilterFault}
 use Rattle.filter_expr.specs.declared.fault.FilterFault.TheVariants.{Syntax, TooDeep, NotANumber, NotText, NoMemory}
 use Rattle.filter_expr.proofs.Answered.{answer_is, within_text, deep_within_text}

@@ -1,7 +1,7 @@
 -- What the machine has read is the beginning of a derivation.
 use Rattle.std.proofs.Common.{◌≡◌, ◌⊎◌, inl, inr, ℕ, List, [], ◌∷◌, ◌++◌, Bool, true, false, Option, Some, None, refl, sym, ap, subst, ◌∙◌, append_assoc, append-nil}
 use Rattle.std.specs.Prelude.{IfSome}
-use Rattle.filter_expr.specs.Tree.{Tree, negation}
+use Rattle.filter_tree.specs.Tree.{Tree, negation}
 use Rattle.filter_expr.specs.Grammar.{Condition, compared, between, among, existing, nullish, emptyish, condition_tree, condition_tokens, condition_values, not_if, further, Ors, one_and, or, Ands, one_not, and, Nots, negated, group, plain, ors_tokens, ands_tokens, nots_tokens}
 use Rattle.filter_expr.specs.Machine.{State, start, attribute, value, low, high, refused, in_list, first, item, after_comma, being, not_being, done, Level, level_of, Frame, under_not, bracket, Machine, at, noted, member_end, whole, closed, step, run, then, new_machine, Reading, accept, move}
 use Rattle.filter_expr.specs.declared.token.Token.{Token}

@@ -1,6 +1,6 @@
 -- The depth of the machine is that of the derivation.
 use Rattle.std.proofs.Common.{◌≡◌, ℕ, suc, List, [], ◌∷◌, ◌++◌, length, Bool, true, false, Option, None, refl, sym, ap, ◌∙◌, append_assoc, append-nil}
-use Rattle.filter_expr.specs.Tree.{Tree}
+use Rattle.filter_tree.specs.Tree.{Tree}
 use Rattle.filter_expr.specs.Grammar.{Condition, compared, between, among, existing, nullish, emptyish, condition_tree, condition_tokens, condition_values, further, listed, Ors, one_and, or, Ands, one_not, and, Nots, negated, group, plain, ors_tokens, ands_tokens, nots_tokens, ors_members, ands_members, nots_tree, ors_values, ands_values, nots_values, level, ors_depths, ands_depths, nots_depths}
 use Rattle.filter_expr.specs.Machine.{start, item, first, done, Level, level_of, Frame, under_not, bracket, at, bad_after, noted, member_end, new_machine}
 use Rattle.filter_expr.specs.Limit.{depths}

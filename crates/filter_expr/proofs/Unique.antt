@@ -3,7 +3,7 @@ use Rattle.std.proofs.Common.{◌≡◌, ◌⊎◌, inl, inr, ℕ, suc, List, []
 use Rattle.std.specs.Prelude.{find}
 use Rattle.std.proofs.lemmas.Bool.{and_parts}
 use Rattle.serde_json.specs.Data.{Data, null, string, array, Items, no_items, item}
-use Rattle.filter_expr.specs.Tree.{Tree, or_of}
+use Rattle.filter_tree.specs.Tree.{Tree, or_of}
 use Rattle.filter_expr.specs.Number.{is_no_number}
 use Rattle.filter_expr.specs.Grammar.{Ors, ors_tree, ors_values}
 use Rattle.filter_expr.specs.Machine.{bad_after, or_first, new_machine, Machine}
@@ -14,7 +14,7 @@ use Rattle.filter_expr.specs.Faults.{IsWithin, IsTooDeep}
 use Rattle.filter_expr.specs.Texts.{group_of, groups_in, groups_of, texts_of_member, texts_of_members, texts_of}
 use Rattle.filter_expr.specs.Parsed.{is_blank, Writes, Write, GroupsWrite, group_trees, conditions, values_of, values_of_groups, IsFirstFault, IsParsed}
 use Rattle.filter_expr.specs.Answers.{SameAnswer}
-use Rattle.filter_expr.specs.declared.tree.Filter.{Filter}
+use Rattle.filter_tree.specs.declared.tree.Filter.{Filter}
 use Rattle.filter_expr.specs.declared.fault.FilterFault.{FilterFault}
 use Rattle.filter_expr.specs.declared.fault.FilterFault.TheVariants.{Syntax, TooDeep, NotANumber, NotText, NoMemory}
 use Rattle.filter_expr.proofs.Complete.{bad_after-append}

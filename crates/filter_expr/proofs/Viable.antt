@@ -4,7 +4,7 @@ use Rattle.std.specs.Prelude.{is_some, nat_eq, codes, IfSome}
 use Rattle.std.specs.Str.{bytes_eq}
 use Rattle.std.proofs.lemmas.Bool.{eq-eqb, eqb-true, and_parts}
 use Rattle.std.proofs.lemmas.Slice.Eq.{bytes_eq-Decides}
-use Rattle.filter_expr.specs.Tree.{Tree, negation}
+use Rattle.filter_tree.specs.Tree.{Tree, negation}
 use Rattle.filter_expr.specs.Machine.{State, start, attribute, value, low, high, refused, in_list, first, item, after_comma, being, not_being, done, Level, level_of, Frame, under_not, bracket, Machine, at, with_member, member_end, whole, closed, step, move, run, Reading, reading, accept}
 use Rattle.filter_expr.specs.Text.{Class, space, letter, quote, bang, greater, less, single, strange, class_of, is_letter, are_letters, is_word, keywords, found, word_token, is_special, Piece, blank, word, sign, spell, tokens, AreCut}
 use Rattle.filter_expr.specs.Scan.{Lex, gap, in_word, in_quote, after_slash, after, Scan, with, takes, starts_with, fits, fits_keyword, if_so, spaced, begin_by, begin, begin_after, alone_step, feed, goes, outcome, scan, proceeds}

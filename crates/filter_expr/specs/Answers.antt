@@ -3,9 +3,9 @@ use Rattle.std.specs.Prelude.{◌≡◌, ℕ, List, Result, Ok, Err}
 use Rattle.serde_json.specs.Data.{Data}
 use Rattle.filter_expr.specs.Grammar.{Ors, ors_tree}
 use Rattle.filter_expr.specs.Text.{IsFilter}
-use Rattle.filter_expr.specs.View.{view}
+use Rattle.filter_tree.specs.View.{view}
 use Rattle.filter_expr.specs.Parsed.{IsParsed}
-use Rattle.filter_expr.specs.declared.tree.Filter.{Filter}
+use Rattle.filter_tree.specs.declared.tree.Filter.{Filter}
 use Rattle.filter_expr.specs.declared.fault.FilterFault.{FilterFault}
 use Rattle.filter_expr.specs.declared.fault.FilterFault.TheVariants.{NoMemory}
 

@@ -1,6 +1,6 @@
 -- The grammar of a filter over its tokens. A derivation has its tokens, the depth at each of them, and its tree.
 use Rattle.std.specs.Prelude.{ℕ, suc, List, [], ◌∷◌, ◌++◌, map, Bool, true, false}
-use Rattle.filter_expr.specs.Tree.{equal, above, at_least, below, at_most, between as between_both, one_of, exists, null as is_null, empty as is_empty, Tree, negation, test, and_of, or_of}
+use Rattle.filter_tree.specs.Tree.{equal, above, at_least, below, at_most, between as between_both, one_of, exists, null as is_null, empty as is_empty, Tree, negation, test, and_of, or_of}
 use Rattle.filter_expr.specs.declared.token.Token.{Token}
 use Rattle.filter_expr.specs.declared.token.Token.TheVariants.{Text, And, Or, Not, In, To, Exists, Is, Null, Empty, Compare, Open, Close, ListOpen, ListClose, Comma}
 use Rattle.filter_expr.specs.declared.token.Comparison.{Comparison}

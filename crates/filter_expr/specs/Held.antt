@@ -13,7 +13,7 @@ use Rattle.filter_expr.specs.declared.machine.Frame.{Frame}
 use Rattle.filter_expr.specs.declared.machine.Frame.TheVariants as f
 use Rattle.filter_expr.specs.declared.machine.Machine.{Machine}
 use Rattle.filter_expr.specs.declared.machine.Reading.{Reading}
-use Rattle.filter_expr.specs.View.{view}
+use Rattle.filter_tree.specs.View.{view}
 use Rattle.filter_expr.specs.Reader.{Progress, progress}
 use Rattle.filter_expr.specs.declared.member.Reader.{Reader}
 

@@ -1,11 +1,9 @@
 -- What a reader has to believe, from the grammar to the answer of `parse`.
 pub mod Grammar
 pub mod Text
-pub mod Tree
 pub mod Number
 pub mod Faults
 pub mod Texts
-pub mod View
 pub mod Parsed
 pub mod Answers
 -- The parser's own machines, which no public contract cites.

@@ -1,6 +1,6 @@
 -- The parser as a machine over tokens, between the grammar and the code. No public contract cites it.
 use Rattle.std.specs.Prelude.{ℕ, List, [], ◌∷◌, ◌++◌, Bool, true, false, Option, Some, None}
-use Rattle.filter_expr.specs.Tree.{Tree, negation, and_of, or_of}
+use Rattle.filter_tree.specs.Tree.{Tree, negation, and_of, or_of}
 use Rattle.filter_expr.specs.Number.{bad_in}
 use Rattle.filter_expr.specs.Grammar.{Condition, compared, between, among, existing, nullish, emptyish, condition_tree, condition_values}
 use Rattle.filter_expr.specs.declared.token.Token.{Token}

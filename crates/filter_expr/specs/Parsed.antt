@@ -2,14 +2,14 @@
 use Rattle.std.specs.Prelude.{◌≡◌, ℕ, ◌+◌, List, [], ◌∷◌, ◌++◌, length, map, Bool, true, false, ◌⊎◌, Some, None, Result, Ok, Err, find}
 use Rattle.std.specs.List.{list_all}
 use Rattle.serde_json.specs.Data.{Data}
-use Rattle.filter_expr.specs.Tree.{Tree, all, and_of, or_of}
+use Rattle.filter_tree.specs.Tree.{Tree, all, and_of, or_of}
 use Rattle.filter_expr.specs.Number.{is_no_number}
 use Rattle.filter_expr.specs.Grammar.{Ors, ors_tree, ors_values}
 use Rattle.filter_expr.specs.Text.{is_space, IsFilter}
 use Rattle.filter_expr.specs.Faults.{IsWithin, IsSyntaxFault, IsTooDeep}
 use Rattle.filter_expr.specs.Texts.{groups_of, texts_of}
-use Rattle.filter_expr.specs.View.{view}
-use Rattle.filter_expr.specs.declared.tree.Filter.{Filter}
+use Rattle.filter_tree.specs.View.{view}
+use Rattle.filter_tree.specs.declared.tree.Filter.{Filter}
 use Rattle.filter_expr.specs.declared.fault.FilterFault.{FilterFault}
 use Rattle.filter_expr.specs.declared.fault.FilterFault.TheVariants.{Syntax, TooDeep, NotANumber, NotText, NoMemory}
 

@@ -4,7 +4,7 @@
 //! and else the first fault with its place. The grammar is a relation over derivations and spelled
 //! tokens in `specs/Grammar.antt` and `specs/Text.antt`, which knows nothing of the parser; contracts
 //! see a filter as its tree. The parser is a machine over characters with a stack of its own, so no
-//! input makes it recurse. It stands on `search_base` and `serde_json`. Nothing calls it yet.
+//! input makes it recurse. It stands on `filter_tree`, `search_base` and `serde_json`. Nothing calls it yet.
 #![tactic(auto)]
 
 mod fault;
@@ -16,14 +16,10 @@ mod number;
 mod scan;
 mod shape;
 mod steps;
-#[cfg(test)]
-mod tests;
 mod text;
 mod token;
-mod tree;
 mod wide;
 
 pub use fault::FilterFault;
 pub use laws::{a_text_has_one_tree, a_value_has_one_answer};
 pub use member::parse;
-pub use tree::{Filter, Test};

@@ -1,17 +1,17 @@
 ghost use Rattle.std.specs.Prelude.{◌≡◌, IfOk, map, Some, None, [], ◌∷◌, unwrap_or};
-ghost use Rattle.filter_expr.specs.Tree.{test as test_tree, and_of as and_tree, or_of as or_tree};
+ghost use Rattle.filter_tree.specs.Tree.{test as test_tree, and_of as and_tree, or_of as or_tree};
 ghost use Rattle.filter_expr.specs.Number.{number_or_0};
 ghost use Rattle.filter_expr.specs.Grammar.{Condition, compared as compared_condition, between as between_condition, not_at};
 ghost use Rattle.filter_expr.specs.Machine.{member_end, closed, ended as ended_state, noted as noted_level};
 ghost use Rattle.filter_expr.specs.Limit.{opened};
-ghost use Rattle.filter_expr.specs.View.{view, test_view};
+ghost use Rattle.filter_tree.specs.View.{view, test_view};
 ghost use Rattle.filter_expr.specs.Held.{level_view, frames_of, machine_view};
 ghost use Rattle.filter_expr.specs.Steps.{StepIs};
 ghost use Rattle.filter_expr.specs.declared.machine.StepFault.TheVariants.{NoMemory as Memory};
 
 use crate::number::whole_number;
 use crate::token::Comparison;
-use crate::tree::{Filter, Test};
+use filter_tree::{Filter, Test};
 use search_base::{NoMemory, Word};
 use std::alloc::{AllocError, AllocFailed, Global};
 

@@ -2,7 +2,7 @@ ghost use Rattle.std.specs.Prelude.{◌≡◌, ◌≢◌, ◌+◌, ◌<◌, ◌^
 ghost use Rattle.serde_json.specs.View.{view as data_of, items_view};
 ghost use Rattle.filter_expr.specs.Text.{is_space as is_space_byte};
 ghost use Rattle.filter_expr.specs.Machine.{or_first};
-ghost use Rattle.filter_expr.specs.View.{view};
+ghost use Rattle.filter_tree.specs.View.{view};
 ghost use Rattle.filter_expr.specs.Held.{reader_view};
 ghost use Rattle.filter_expr.specs.Texts.{texts_among, texts_of_member, texts_of_members, texts_of, AreShort};
 ghost use Rattle.filter_expr.specs.Parsed.{is_blank as is_blank_text, conditions as condition_tree, IsParsed};
@@ -14,7 +14,7 @@ use crate::feed::ScanFault;
 use crate::machine::{Reading, and_of, or_of};
 use crate::shape::has_groups;
 use crate::text::read;
-use crate::tree::Filter;
+use filter_tree::Filter;
 use search_base::{NoMemory, Word};
 use serde_json::Value;
 use std::alloc::Global;

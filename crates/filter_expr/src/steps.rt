@@ -7,7 +7,7 @@ use crate::machine::{
     Frame, Level, Machine, Place, StepFault, and_of, between, closed_bracket, compared, ended,
 };
 use crate::token::{Comparison, Token};
-use crate::tree::Test;
+use filter_tree::Test;
 use search_base::Word;
 use std::alloc::Global;
 

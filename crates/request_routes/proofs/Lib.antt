@@ -1,6 +1,6 @@
 pub mod Splits
 pub mod Rows
-pub mod Literals
 pub mod Paths
-pub mod Masks
 pub mod Numbers
+pub mod Named
+pub mod Keys

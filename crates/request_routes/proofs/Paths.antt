@@ -1,42 +1,22 @@
 -- What a path is, by its parts, and which routes it has.
-use Rattle.std.proofs.Common.{◌≡◌, ◌≢◌, ℕ, ◌<◌, ◌≤◌, zero, suc, ◌⊎◌, inl, inr, false, true, Bool, ◌&&◌, List, [], ◌∷◌, length, map, filter, get_or, Bor, Some, Ok, Err, codes, refl, sym, ap, ◌∙◌, subst, arith}
+use Rattle.std.proofs.Common.{◌≡◌, ◌≢◌, ℕ, ◌<◌, ◌≤◌, suc, ◌⊎◌, inl, inr, false, true, Bool, ◌&&◌, List, [], ◌∷◌, length, map, get_or, filter, eqb, Bor, Ok, Err, codes, refl, sym, ap, ◌∙◌, subst, arith}
 use Rattle.std.specs.Prelude.{nat_lt}
-use Rattle.std.specs.Map.{lookup}
 use Rattle.std.specs.Str.{bytes_eq}
 use Rattle.std.proofs.lemmas.Slice.Eq.{bytes_eq-Decides}
-use Rattle.std.proofs.lemmas.Bool.{true≢false}
-use Rattle.std.proofs.lemmas.Bool.Decides.{nat_tests}
+use Rattle.std.proofs.lemmas.Bool.{true≢false, eqb-true}
+use Rattle.std.proofs.lemmas.List.{length-map}
 use Rattle.std.proofs.Math.Bool.{and-false}
-use Rattle.request_refusals.specs.declared.refusal.Refusal.TheVariants.{NoRoute}
-use Rattle.request_refusals.specs.Trying.{◌>>=◌}
-use Rattle.request_routes.specs.declared.path.Place.{Place}
-use Rattle.request_routes.specs.declared.path.Place.TheVariants as place
-use Rattle.request_routes.specs.declared.routes.Route.{Route}
-use Rattle.request_routes.specs.declared.routes.Route.TheVariants.{Health, CreateIndex, ListIndexes, ShowIndex, DropIndex, AddDocuments, UpdateDocuments, ListDocuments, ClearDocuments, ShowDocument, RemoveDocument, RemoveDocuments, ShowSettings, PatchSettings, ResetSettings, Search}
+use Rattle.request_refusals.specs.declared.refusal.Refusal.TheVariants as refusal
+use Rattle.search_base.specs.Trying.{◌>>=◌}
 use Rattle.request_routes.specs.Laws.{fits}
-use Rattle.request_routes.specs.Routes.{Part, text, any_id, row, routes, health, indexes, index, of_index, of_documents, agrees, is_part, has_path, parts_of, uid_in, id_in, with_method, route_of}
-use Rattle.request_routes.specs.Held.{IsAt, HasNoPlace, in_documents, uid_of, id_of, methods}
-use Rattle.request_routes.proofs.Rows.{keep, marked, Agreement, rows_of, outcome, found_of, rows_at, found_rows, found_before, are_distinct, at_most_one, filter_both}
-
-abbrev pub nows : List (Bor (List ℕ)) → List (List ℕ)
-nows parts = map (λ part. part.now) parts
+use Rattle.request_routes.specs.Routes.{Part, text, any_id, routes, health, indexes, index, of_index, of_documents, agrees, is_part, has_path, uid_in, id_in, with_method, route_of}
+use Rattle.request_routes.proofs.Rows.{keep, marked, Agreement, rows_of, are_distinct, at_most_one, filter_both}
 
 -- ---- texts
-
-pub same : (a b : List ℕ) → true ≡ bytes_eq a b → a ≡ b
-same a b is = (bytes_eq-Decides a b).0 (sym is)
 
 -- a text that is one is no other one
 apart : (a b c : List ℕ) → bytes_eq b c ≡ false → bytes_eq a b ≡ true → bytes_eq a c ≡ false
 apart a b c other is = rw ((bytes_eq-Decides a b).0 is) other
-
-pub and_true : (a b : Bool) → true ≡ (a && b) → (true ≡ a) × (true ≡ b)
-and_true true b h = (refl, h)
-and_true false b h = absurd (true≢false h)
-
-pub lt_true : (n : ℕ) → true ≡ nat_lt 0 n → 0 < n
-lt_true zero h = absurd (true≢false h)
-lt_true (suc n) h = omega arith
 
 -- ---- a path of another length is another path
 
@@ -46,51 +26,17 @@ other_length [] (x ∷ xs) other = refl
 other_length (p ∷ ps) [] other = refl
 other_length (p ∷ ps) (x ∷ xs) other = rw (other_length ps xs (λ e. other (ap suc e))) (and-false (is_part p x))
 
-pub some_batch : (id : List ℕ) → bytes_eq id (codes "delete-batch") ≡ true → nat_lt 0 (length id) ≡ true
-some_batch id is = rw ((bytes_eq-Decides id (codes "delete-batch")).0 is) refl
-
-pub lt_test : (xs : List ℕ) → 0 < length xs → nat_lt 0 (length xs) ≡ true
-lt_test xs h = grind (arith, nat_tests)
-
--- ---- the parts of a list of so many
-
-pub two_parts : {A : Type 0} (d : A) (xs : List A) → length xs ≡ 2 → xs ≡ get_or xs 0 d ∷ get_or xs 1 d ∷ []
-two_parts d [] len = absurd (omega arith)
-two_parts d (a ∷ []) len = absurd (omega arith)
-two_parts d (a ∷ b ∷ []) len = refl
-two_parts d (a ∷ b ∷ u ∷ xs) len = absurd (omega arith)
-
-pub three_parts : {A : Type 0} (d : A) (xs : List A) → length xs ≡ 3 → xs ≡ get_or xs 0 d ∷ get_or xs 1 d ∷ get_or xs 2 d ∷ []
-three_parts d [] len = absurd (omega arith)
-three_parts d (a ∷ []) len = absurd (omega arith)
-three_parts d (a ∷ b ∷ []) len = absurd (omega arith)
-three_parts d (a ∷ b ∷ u ∷ []) len = refl
-three_parts d (a ∷ b ∷ u ∷ n ∷ xs) len = absurd (omega arith)
-
-pub four_parts : {A : Type 0} (d : A) (xs : List A) → length xs ≡ 4 → xs ≡ get_or xs 0 d ∷ get_or xs 1 d ∷ get_or xs 2 d ∷ get_or xs 3 d ∷ []
-four_parts d [] len = absurd (omega arith)
-four_parts d (a ∷ []) len = absurd (omega arith)
-four_parts d (a ∷ b ∷ []) len = absurd (omega arith)
-four_parts d (a ∷ b ∷ u ∷ []) len = absurd (omega arith)
-four_parts d (a ∷ b ∷ u ∷ n ∷ []) len = refl
-four_parts d (a ∷ b ∷ u ∷ n ∷ i ∷ xs) len = absurd (omega arith)
-
-pub five_parts : {A : Type 0} (d : A) (xs : List A) → length xs ≡ 5 → xs ≡ get_or xs 0 d ∷ get_or xs 1 d ∷ get_or xs 2 d ∷ get_or xs 3 d ∷ get_or xs 4 d ∷ []
-five_parts d [] len = absurd (omega arith)
-five_parts d (a ∷ []) len = absurd (omega arith)
-five_parts d (a ∷ b ∷ []) len = absurd (omega arith)
-five_parts d (a ∷ b ∷ u ∷ []) len = absurd (omega arith)
-five_parts d (a ∷ b ∷ u ∷ n ∷ []) len = absurd (omega arith)
-five_parts d (a ∷ b ∷ u ∷ n ∷ i ∷ []) len = refl
-five_parts d (a ∷ b ∷ u ∷ n ∷ i ∷ j ∷ xs) len = absurd (omega arith)
-
 -- ---- no route
 
-no_path : (parts : List (List ℕ)) → Agreement parts false false false false false false false false → HasNoPlace parts
+-- no route has the path
+abbrev HasNoRow : List (List ℕ) → Type 0
+HasNoRow parts = filter (has_path parts) routes ≡ []
+
+no_path : (parts : List (List ℕ)) → Agreement parts false false false false false false false false → HasNoRow parts
 no_path parts a = rows_of parts false false false false false false false false a
 
 -- a path of fewer than two parts, or of more than five, is none
-pub no_other : (parts : List (List ℕ)) → (length parts < 2) ⊎ (5 < length parts) → HasNoPlace parts
+no_other : (parts : List (List ℕ)) → (length parts < 2) ⊎ (5 < length parts) → HasNoRow parts
 no_other parts (inl short) = no_path parts (record {
   health = other_length health parts (λ e. absurd (omega (arith, e, short)));
   indexes = other_length indexes parts (λ e. absurd (omega (arith, e, short)));
@@ -112,143 +58,125 @@ no_other parts (inr long) = no_path parts (record {
   search = other_length (of_index (codes "search")) parts (λ e. absurd (omega (arith, e, long)));
 })
 
--- ---- the route at a place
+at_none : (method : List ℕ) (parts : List (List ℕ)) → HasNoRow parts → route_of method parts ≡ Err refusal.NoRoute
+at_none method parts none = ap (λ rs. with_method method rs >>= λ r. Ok (record { route = r.route; uid = uid_in r.path parts; id = id_in r.path parts })) none
 
-by_rows : (method uid id : List ℕ) (parts : List (List ℕ)) (path : List Part) (e : List ℕ × Route) (more : List (List ℕ × Route))
-    → filter (has_path parts) routes ≡ rows_at path (e ∷ more) → uid_in path parts ≡ uid → id_in path parts ≡ id
-    → route_of method parts ≡ outcome (lookup (bytes_eq method) (e ∷ more)) uid id
-by_rows method uid id parts path e more is u i = ap (λ rs. with_method method rs >>= found_of parts) is ∙ found_rows method uid id parts path (e ∷ more) u i
+-- a path that does not begin with `/` is none
+no_root : (a b : List ℕ) → eqb (length a) 0 ≡ false → HasNoRow (a ∷ b ∷ [])
+no_root [] b some = absurd (true≢false some)
+no_root (x ∷ xs) b some = refl
 
-health_route : (method : List ℕ) → route_of method ([] ∷ codes "health" ∷ []) ≡ outcome (lookup (bytes_eq method) (methods place.Health)) [] []
-health_route method =
-    let parts = [] ∷ codes "health" ∷ [] in
-    by_rows method [] [] parts health (codes "GET", Health) []
-    (rows_of parts true false false false false false false false (record { health = refl; indexes = refl; index = refl; documents = refl; document = refl; batch = refl; settings = refl; search = refl })) refl refl
+-- ---- the paths of an index
 
-indexes_route : (method : List ℕ) → route_of method ([] ∷ codes "indexes" ∷ []) ≡ outcome (lookup (bytes_eq method) (methods place.Indexes)) [] []
-indexes_route method =
-    let parts = [] ∷ codes "indexes" ∷ [] in
-    by_rows method [] [] parts indexes (codes "POST", CreateIndex) ((codes "GET", ListIndexes) ∷ [])
-    (rows_of parts false true false false false false false false (record { health = refl; indexes = refl; index = refl; documents = refl; document = refl; batch = refl; settings = refl; search = refl })) refl refl
+two_false : (p q : Bool) → (p && (q && false)) ≡ false
+two_false true true = refl
+two_false true false = refl
+two_false false q = refl
 
-index_route : (method u : List ℕ) → 0 < length u
-    → route_of method ([] ∷ codes "indexes" ∷ u ∷ []) ≡ outcome (lookup (bytes_eq method) ((codes "GET", ShowIndex) ∷ (codes "DELETE", DropIndex) ∷ [])) u []
-index_route method u some =
-    let parts = [] ∷ codes "indexes" ∷ u ∷ [] in
-    by_rows method u [] parts index (codes "GET", ShowIndex) ((codes "DELETE", DropIndex) ∷ [])
-    (rows_of parts false false true false false false false false (record {
-      health = other_length health parts (λ e. absurd (omega (arith, e)));
-      indexes = other_length indexes parts (λ e. absurd (omega (arith, e)));
-      index = rw (lt_test u some) refl;
-      documents = other_length (of_index (codes "documents")) parts (λ e. absurd (omega (arith, e)));
-      document = other_length (of_documents any_id) parts (λ e. absurd (omega (arith, e)));
-      batch = other_length (of_documents (text (codes "delete-batch"))) parts (λ e. absurd (omega (arith, e)));
-      settings = other_length (of_index (codes "settings")) parts (λ e. absurd (omega (arith, e)));
-      search = other_length (of_index (codes "search")) parts (λ e. absurd (omega (arith, e)));
-    })) refl refl
+narrowed : (p q r x : Bool) → (p && (q && (r && true))) ≡ false → (p && (q && (r && x))) ≡ false
+narrowed true true true x h = absurd (true≢false h)
+narrowed true true false x h = refl
+narrowed true false r x h = refl
+narrowed false q r x h = refl
 
-documents_route : (method u : List ℕ) → 0 < length u
-    → route_of method ([] ∷ codes "indexes" ∷ u ∷ codes "documents" ∷ [])
-    ≡ outcome (lookup (bytes_eq method) ((codes "POST", AddDocuments) ∷ (codes "PUT", UpdateDocuments) ∷ (codes "GET", ListDocuments) ∷ (codes "DELETE", ClearDocuments) ∷ [])) u []
-documents_route method u some =
-    let parts = [] ∷ codes "indexes" ∷ u ∷ codes "documents" ∷ [] in
-    by_rows method u [] parts (of_index (codes "documents")) (codes "POST", AddDocuments) ((codes "PUT", UpdateDocuments) ∷ (codes "GET", ListDocuments) ∷ (codes "DELETE", ClearDocuments) ∷ [])
-    (rows_of parts false false false true false false false false (record {
-      health = other_length health parts (λ e. absurd (omega (arith, e)));
-      indexes = other_length indexes parts (λ e. absurd (omega (arith, e)));
-      index = other_length index parts (λ e. absurd (omega (arith, e)));
-      documents = rw (lt_test u some) refl;
-      document = other_length (of_documents any_id) parts (λ e. absurd (omega (arith, e)));
-      batch = other_length (of_documents (text (codes "delete-batch"))) parts (λ e. absurd (omega (arith, e)));
-      settings = rw (lt_test u some) refl;
-      search = rw (lt_test u some) refl;
-    })) refl refl
-
-settings_route : (method u : List ℕ) → 0 < length u
-    → route_of method ([] ∷ codes "indexes" ∷ u ∷ codes "settings" ∷ [])
-    ≡ outcome (lookup (bytes_eq method) ((codes "GET", ShowSettings) ∷ (codes "PATCH", PatchSettings) ∷ (codes "DELETE", ResetSettings) ∷ [])) u []
-settings_route method u some =
-    let parts = [] ∷ codes "indexes" ∷ u ∷ codes "settings" ∷ [] in
-    by_rows method u [] parts (of_index (codes "settings")) (codes "GET", ShowSettings) ((codes "PATCH", PatchSettings) ∷ (codes "DELETE", ResetSettings) ∷ [])
-    (rows_of parts false false false false false false true false (record {
-      health = other_length health parts (λ e. absurd (omega (arith, e)));
-      indexes = other_length indexes parts (λ e. absurd (omega (arith, e)));
-      index = other_length index parts (λ e. absurd (omega (arith, e)));
-      documents = rw (lt_test u some) refl;
-      document = other_length (of_documents any_id) parts (λ e. absurd (omega (arith, e)));
-      batch = other_length (of_documents (text (codes "delete-batch"))) parts (λ e. absurd (omega (arith, e)));
-      settings = rw (lt_test u some) refl;
-      search = rw (lt_test u some) refl;
-    })) refl refl
-
-search_route : (method u : List ℕ) → 0 < length u
-    → route_of method ([] ∷ codes "indexes" ∷ u ∷ codes "search" ∷ []) ≡ outcome (lookup (bytes_eq method) ((codes "POST", Search) ∷ [])) u []
-search_route method u some =
-    let parts = [] ∷ codes "indexes" ∷ u ∷ codes "search" ∷ [] in
-    by_rows method u [] parts (of_index (codes "search")) (codes "POST", Search) []
-    (rows_of parts false false false false false false false true (record {
-      health = other_length health parts (λ e. absurd (omega (arith, e)));
-      indexes = other_length indexes parts (λ e. absurd (omega (arith, e)));
-      index = other_length index parts (λ e. absurd (omega (arith, e)));
-      documents = rw (lt_test u some) refl;
-      document = other_length (of_documents any_id) parts (λ e. absurd (omega (arith, e)));
-      batch = other_length (of_documents (text (codes "delete-batch"))) parts (λ e. absurd (omega (arith, e)));
-      settings = rw (lt_test u some) refl;
-      search = rw (lt_test u some) refl;
-    })) refl refl
-
-and_end : (v : Bool) → (v && true) ≡ v
-and_end true = refl
-and_end false = refl
-
-document_rows : (u i : List ℕ) (w : Bool) → 0 < length u → 0 < length i → bytes_eq i (codes "delete-batch") ≡ w
-    → filter (has_path (in_documents u i)) routes ≡ keep (marked false false false false true w false false)
-document_rows u i w some_u some_i is =
-    rows_of (in_documents u i) false false false false true w false false (record {
-      health = other_length health (in_documents u i) (λ e. absurd (omega (arith, e)));
-      indexes = other_length indexes (in_documents u i) (λ e. absurd (omega (arith, e)));
-      index = other_length index (in_documents u i) (λ e. absurd (omega (arith, e)));
-      documents = other_length (of_index (codes "documents")) (in_documents u i) (λ e. absurd (omega (arith, e)));
-      document = rw (lt_test u some_u, lt_test i some_i) refl;
-      batch = rw (lt_test u some_u) (ap (λ v. v && true) is ∙ and_end w);
-      settings = other_length (of_index (codes "settings")) (in_documents u i) (λ e. absurd (omega (arith, e)));
-      search = other_length (of_index (codes "search")) (in_documents u i) (λ e. absurd (omega (arith, e)));
+-- a path of three parts or more whose first three are not those of an index is none
+not_index : (a b c : List ℕ) (more : List (List ℕ)) → agrees index (a ∷ b ∷ c ∷ []) ≡ false → HasNoRow (a ∷ b ∷ c ∷ more)
+not_index a b c more h =
+    let n = narrowed (bytes_eq a []) (bytes_eq b (codes "indexes")) (nat_lt 0 (length c)) in
+    no_path (a ∷ b ∷ c ∷ more) (record {
+      health = two_false (bytes_eq a []) (bytes_eq b (codes "health"));
+      indexes = two_false (bytes_eq a []) (bytes_eq b (codes "indexes"));
+      index = n (agrees [] more) h;
+      documents = n (agrees (text (codes "documents") ∷ []) more) h;
+      document = n (agrees (text (codes "documents") ∷ any_id ∷ []) more) h;
+      batch = n (agrees (text (codes "documents") ∷ text (codes "delete-batch") ∷ []) more) h;
+      settings = n (agrees (text (codes "settings") ∷ []) more) h;
+      search = n (agrees (text (codes "search") ∷ []) more) h;
     })
 
-document_route : (method u i : List ℕ) → 0 < length u → 0 < length i → (bytes_eq method (codes "POST") && bytes_eq i (codes "delete-batch")) ≡ false
-    → route_of method (in_documents u i) ≡ outcome (lookup (bytes_eq method) ((codes "GET", ShowDocument) ∷ (codes "DELETE", RemoveDocument) ∷ [])) u i
-document_route method u i some_u some_i other = by (bytes_eq i (codes "delete-batch")) refl other
+-- ..and where they are, the first is empty and the second is `indexes`
+from_index : (P : List (List ℕ) → Type 0) (a b c : List ℕ) (more : List (List ℕ)) → agrees index (a ∷ b ∷ c ∷ []) ≡ true
+    → P ([] ∷ codes "indexes" ∷ c ∷ more) → P (a ∷ b ∷ c ∷ more)
+from_index P a b c more h p =
+    let q = and_true (bytes_eq a []) _ h in
+    let r = and_true (bytes_eq b (codes "indexes")) _ q.1 in
+    subst (λ v. P (v ∷ b ∷ c ∷ more)) (sym ((bytes_eq-Decides a []).0 q.0))
+    (subst (λ v. P ([] ∷ v ∷ c ∷ more)) (sym ((bytes_eq-Decides b (codes "indexes")).0 r.0)) p)
   where
-    post : (p : Bool) → (p && true) ≡ false → p ≡ false
-    post true h = h
-    post false h = refl
+    and_true : (a b : Bool) → (a && b) ≡ true → (a ≡ true) × (b ≡ true)
+    and_true true b h = (refl, h)
+    and_true false b h = absurd (true≢false (sym h))
 
-    by : (w : Bool) → bytes_eq i (codes "delete-batch") ≡ w → (bytes_eq method (codes "POST") && w) ≡ false
-        → route_of method (in_documents u i) ≡ outcome (lookup (bytes_eq method) ((codes "GET", ShowDocument) ∷ (codes "DELETE", RemoveDocument) ∷ [])) u i
-    by false is h =
-        by_rows method u i (in_documents u i) (of_documents any_id) (codes "GET", ShowDocument) ((codes "DELETE", RemoveDocument) ∷ []) (document_rows u i false some_u some_i is) refl refl
-    by true is h =
-        ap (λ rs. with_method method rs >>= found_of (in_documents u i)) (document_rows u i true some_u some_i is)
-        ∙ found_before method u i (in_documents u i) (of_documents any_id) ((codes "GET", ShowDocument) ∷ (codes "DELETE", RemoveDocument) ∷ [])
-        (row (codes "POST") (of_documents (text (codes "delete-batch"))) RemoveDocuments) refl refl (post _ h)
+from_root : (P : List (List ℕ) → Type 0) (a : List ℕ) (more : List (List ℕ)) → eqb (length a) 0 ≡ true → P ([] ∷ more) → P (a ∷ more)
+from_root P [] more h p = p
+from_root P (x ∷ xs) more h p = absurd (let e = eqb-true (length (x ∷ xs)) 0 h in omega (arith, e))
 
-batch_route : (u : List ℕ) → 0 < length u
-    → route_of (codes "POST") (in_documents u (codes "delete-batch")) ≡ Ok (record { route = RemoveDocuments; uid = u; id = [] })
-batch_route u some = ap (λ rs. with_method (codes "POST") rs >>= found_of (in_documents u (codes "delete-batch"))) (document_rows u (codes "delete-batch") true some (omega arith) refl) ∙ refl
+-- ---- the parts that the code holds
 
-pub at_place : (method : List ℕ) (parts : List (List ℕ)) (p : Place) → IsAt method parts p
-    → route_of method parts ≡ outcome (lookup (bytes_eq method) (methods p)) (uid_of p) (id_of p)
-at_place method parts place.Health e = ap (route_of method) e ∙ health_route method
-at_place method parts place.Indexes e = ap (route_of method) e ∙ indexes_route method
-at_place method parts (place.Index uid) (e, some) = ap (route_of method) e ∙ index_route method uid.now some
-at_place method parts (place.Documents uid) (e, some) = ap (route_of method) e ∙ documents_route method uid.now some
-at_place method parts (place.Document uid id) (e, some, some_id, other) = ap (route_of method) e ∙ document_route method uid.now id.now some some_id other
-at_place method parts (place.DeleteBatch uid) (e, some, post) = rw (post, e) (batch_route uid.now some)
-at_place method parts (place.Settings uid) (e, some) = ap (route_of method) e ∙ settings_route method uid.now some
-at_place method parts (place.Search uid) (e, some) = ap (route_of method) e ∙ search_route method uid.now some
+abbrev nows : List (Bor (List ℕ)) → List (List ℕ)
+nows parts = map (λ part. part.now) parts
 
-pub at_none : (method : List ℕ) (parts : List (List ℕ)) → HasNoPlace parts → route_of method parts ≡ Err NoRoute
-at_none method parts none = ap (λ rs. with_method method rs >>= found_of parts) none
+abbrev at : List (Bor (List ℕ)) → ℕ → List ℕ
+at parts place = (get_or parts place (record { ref_ptr = (0, 0); now = [] })).now
+
+two : (parts : List (Bor (List ℕ))) → 2 ≤ length parts → length parts < 3 → nows parts ≡ at parts 0 ∷ at parts 1 ∷ []
+two [] low high = absurd (omega arith)
+two (a ∷ []) low high = absurd (omega arith)
+two (a ∷ b ∷ []) low high = refl
+two (a ∷ b ∷ u ∷ more) low high = absurd (omega arith)
+
+three : (parts : List (Bor (List ℕ))) → 3 ≤ length parts → length parts < 4 → nows parts ≡ at parts 0 ∷ at parts 1 ∷ at parts 2 ∷ []
+three [] low high = absurd (omega arith)
+three (a ∷ more) low high = ap (λ v. a.now ∷ v) (two more (omega arith) (omega arith))
+
+four : (parts : List (Bor (List ℕ))) → 4 ≤ length parts → length parts < 5 → nows parts ≡ at parts 0 ∷ at parts 1 ∷ at parts 2 ∷ at parts 3 ∷ []
+four [] low high = absurd (omega arith)
+four (a ∷ more) low high = ap (λ v. a.now ∷ v) (three more (omega arith) (omega arith))
+
+five : (parts : List (Bor (List ℕ))) → 5 ≤ length parts → length parts < 6 → nows parts ≡ at parts 0 ∷ at parts 1 ∷ at parts 2 ∷ at parts 3 ∷ at parts 4 ∷ []
+five [] low high = absurd (omega arith)
+five (a ∷ more) low high = ap (λ v. a.now ∷ v) (four more (omega arith) (omega arith))
+
+-- the first three parts are those of an index
+abbrev IsIndex : List (Bor (List ℕ)) → Bool → Type 0
+IsIndex parts is = agrees index (at parts 0 ∷ at parts 1 ∷ at parts 2 ∷ []) ≡ is
+
+pub on_two : (P : List (List ℕ) → Type 0) (parts : List (Bor (List ℕ))) → 2 ≤ length parts → length parts < 3 → eqb (length (at parts 0)) 0 ≡ true
+    → P ([] ∷ at parts 1 ∷ []) → P (nows parts)
+on_two P parts low high h p = subst P (sym (two parts low high)) (from_root P (at parts 0) _ h p)
+
+pub on_three : (P : List (List ℕ) → Type 0) (parts : List (Bor (List ℕ))) → 3 ≤ length parts → length parts < 4 → IsIndex parts true
+    → P ([] ∷ codes "indexes" ∷ at parts 2 ∷ []) → P (nows parts)
+on_three P parts low high h p = subst P (sym (three parts low high)) (from_index P (at parts 0) (at parts 1) (at parts 2) _ h p)
+
+pub on_four : (P : List (List ℕ) → Type 0) (parts : List (Bor (List ℕ))) → 4 ≤ length parts → length parts < 5 → IsIndex parts true
+    → P ([] ∷ codes "indexes" ∷ at parts 2 ∷ at parts 3 ∷ []) → P (nows parts)
+on_four P parts low high h p = subst P (sym (four parts low high)) (from_index P (at parts 0) (at parts 1) (at parts 2) _ h p)
+
+pub on_five : (P : List (List ℕ) → Type 0) (parts : List (Bor (List ℕ))) → 5 ≤ length parts → length parts < 6 → IsIndex parts true
+    → P ([] ∷ codes "indexes" ∷ at parts 2 ∷ at parts 3 ∷ at parts 4 ∷ []) → P (nows parts)
+on_five P parts low high h p = subst P (sym (five parts low high)) (from_index P (at parts 0) (at parts 1) (at parts 2) _ h p)
+
+abbrev NoRoute : List ℕ → List (Bor (List ℕ)) → Type 0
+NoRoute method parts = route_of method (nows parts) ≡ Err refusal.NoRoute
+
+pub not_two : (method : List ℕ) (parts : List (Bor (List ℕ))) → 2 ≤ length parts → length parts < 3 → eqb (length (at parts 0)) 0 ≡ false → NoRoute method parts
+not_two method parts low high h = at_none method (nows parts) (subst HasNoRow (sym (two parts low high)) (no_root (at parts 0) (at parts 1) h))
+
+pub not_three : (method : List ℕ) (parts : List (Bor (List ℕ))) → 3 ≤ length parts → length parts < 4 → IsIndex parts false → NoRoute method parts
+not_three method parts low high h =
+    at_none method (nows parts) (subst HasNoRow (sym (three parts low high)) (not_index (at parts 0) (at parts 1) (at parts 2) [] h))
+
+pub not_four : (method : List ℕ) (parts : List (Bor (List ℕ))) → 4 ≤ length parts → length parts < 5 → IsIndex parts false → NoRoute method parts
+not_four method parts low high h =
+    at_none method (nows parts) (subst HasNoRow (sym (four parts low high)) (not_index (at parts 0) (at parts 1) (at parts 2) (at parts 3 ∷ []) h))
+
+pub not_five : (method : List ℕ) (parts : List (Bor (List ℕ))) → 5 ≤ length parts → length parts < 6 → IsIndex parts false → NoRoute method parts
+not_five method parts low high h =
+    at_none method (nows parts) (subst HasNoRow (sym (five parts low high)) (not_index (at parts 0) (at parts 1) (at parts 2) (at parts 3 ∷ at parts 4 ∷ []) h))
+
+pub by_length : (method : List ℕ) (parts : List (Bor (List ℕ))) → (length parts < 2) ⊎ (5 < length parts) → NoRoute method parts
+by_length method parts far = at_none method (nows parts) (no_other (nows parts) (subst (λ n. (n < 2) ⊎ (5 < n)) (sym (length-map parts (λ part. part.now))) far))
 
 -- ---- the rows of a path have as many methods
 
@@ -286,7 +214,7 @@ distinct_of : (parts : List (List ℕ)) (h i x d m b g s : Bool) → Agreement p
     → are_distinct (filter (has_path parts) routes) ≡ true
 distinct_of parts h i x d m b g s a is = ap are_distinct (rows_of parts h i x d m b g s a) ∙ is
 
-nowhere : (parts : List (List ℕ)) → HasNoPlace parts → are_distinct (filter (has_path parts) routes) ≡ true
+nowhere : (parts : List (List ℕ)) → HasNoRow parts → are_distinct (filter (has_path parts) routes) ≡ true
 nowhere parts none = ap are_distinct none
 
 and_false4 : (p q r : Bool) → (p && (q && (r && false))) ≡ false
@@ -391,10 +319,3 @@ pub one_route : (method : List ℕ) (parts : List (List ℕ)) → length (filter
 one_route method parts =
     subst (λ v. length v ≤ 1) (sym (filter_both (λ r. bytes_eq method r.method) (has_path parts) routes))
     (at_most_one method (filter (has_path parts) routes) (distinct_rows parts))
-
--- the route of a method at the place of a path
-pub found_there : (method path : List ℕ) (p : Place) (route : Route) (uid id : List ℕ)
-    → IsAt method (parts_of path) p → Some route ≡ lookup (bytes_eq method) (methods p)
-    → uid ≡ uid_of p → id ≡ id_of p → route_of method (parts_of path) ≡ Ok (record { route = route; uid = uid; id = id })
-found_there method path p route uid id at found uid_is id_is =
-    rw (uid_is, id_is) (at_place method (parts_of path) p at ∙ ap (λ o. outcome o (uid_of p) (id_of p)) (sym found))

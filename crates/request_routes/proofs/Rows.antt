@@ -1,17 +1,11 @@
--- Which rows of the table have a path, and which of them a method finds.
-use Rattle.std.proofs.Common.{◌≡◌, ℕ, ◌≤◌, false, true, Bool, ◌&&◌, ◌||◌, not, cond, List, [], ◌∷◌, ◌++◌, length, map, filter, Option, Some, None, Result, Ok, Err, codes, refl, sym, ap, ◌∙◌, subst, arith}
+-- Which rows of the table have a path, and that a method finds one of them at most.
+use Rattle.std.proofs.Common.{◌≡◌, ℕ, ◌≤◌, false, true, Bool, ◌&&◌, ◌||◌, not, cond, List, [], ◌∷◌, length, map, filter, codes, refl, sym, ap, ◌∙◌, subst, arith}
 use Rattle.std.specs.List.{list_any}
-use Rattle.std.specs.Map.{lookup}
-use Rattle.std.specs.Prelude.{find}
 use Rattle.std.specs.Str.{bytes_eq}
 use Rattle.std.proofs.lemmas.Slice.Eq.{bytes_eq-Decides}
 use Rattle.std.proofs.lemmas.Bool.{true≢false}
-use Rattle.request_refusals.specs.declared.refusal.Refusal.{Refusal}
-use Rattle.request_refusals.specs.declared.refusal.Refusal.TheVariants.{MethodNotAllowed}
-use Rattle.request_refusals.specs.Trying.{◌>>=◌, or_refuse}
-use Rattle.request_routes.specs.declared.routes.Route.{Route}
 use Rattle.request_routes.specs.declared.routes.Route.TheVariants.{Health, CreateIndex, ListIndexes, ShowIndex, DropIndex, AddDocuments, UpdateDocuments, ListDocuments, ClearDocuments, ShowDocument, RemoveDocument, RemoveDocuments, ShowSettings, PatchSettings, ResetSettings, Search}
-use Rattle.request_routes.specs.Routes.{Part, text, any_id, Row, row, routes, health, indexes, index, of_index, of_documents, agrees, has_path, uid_in, id_in, Found}
+use Rattle.request_routes.specs.Routes.{text, any_id, Row, row, routes, health, indexes, index, of_index, of_documents, agrees, has_path}
 
 -- ---- the rows of a path
 
@@ -65,45 +59,6 @@ rows_of parts h i x d m b g s a =
     let marks : map (λ r. (has_path parts r, r)) routes ≡ marked h i x d m b g s =
     rw (sym a.health, sym a.indexes, sym a.index, sym a.documents, sym a.document, sym a.batch, sym a.settings, sym a.search) refl in
     filter_keep (has_path parts) routes ∙ ap keep marks
-
--- ---- the row of a method
-
--- what a request asks for, by the route of its method
-abbrev pub outcome : Option Route → List ℕ → List ℕ → Result Found Refusal
-outcome None uid id = Err MethodNotAllowed
-outcome (Some route) uid id = Ok (record { route = route; uid = uid; id = id })
-
-abbrev pub found_of : List (List ℕ) → Row → Result Found Refusal
-found_of parts = λ r. Ok (record { route = r.route; uid = uid_in r.path parts; id = id_in r.path parts })
-
--- the rows of one path
-abbrev pub rows_at : List Part → List (List ℕ × Route) → List Row
-rows_at path methods = map (λ e. row e.0 path e.1) methods
-
-pub found_rows : (method uid id : List ℕ) (parts : List (List ℕ)) (path : List Part) (methods : List (List ℕ × Route))
-    → uid_in path parts ≡ uid → id_in path parts ≡ id
-    → (or_refuse MethodNotAllowed (find (λ r. bytes_eq method r.method) (rows_at path methods)) >>= found_of parts) ≡ outcome (lookup (bytes_eq method) methods) uid id
-found_rows method uid id parts path [] u i = refl
-found_rows method uid id parts path (e ∷ methods) u i =
-    elim (bytes_eq method e.0) as (λ w.
-    (or_refuse MethodNotAllowed (cond w (Some (row e.0 path e.1)) (find (λ r. bytes_eq method r.method) (rows_at path methods))) >>= found_of parts)
-    ≡ outcome (cond w (Some e.1) (lookup (bytes_eq method) methods)) uid id) [
-      | true ↦ rw (u, i) refl
-      | false ↦ found_rows method uid id parts path methods u i
-    ]
-
--- the same where a row of another path follows, whose method is another one
-pub found_before : (method uid id : List ℕ) (parts : List (List ℕ)) (path : List Part) (methods : List (List ℕ × Route)) (last : Row)
-    → uid_in path parts ≡ uid → id_in path parts ≡ id → bytes_eq method last.method ≡ false
-    → (or_refuse MethodNotAllowed (find (λ r. bytes_eq method r.method) (rows_at path methods ++ last ∷ [])) >>= found_of parts) ≡ outcome (lookup (bytes_eq method) methods) uid id
-found_before method uid id parts path [] last u i other = rw other refl
-found_before method uid id parts path (e ∷ methods) last u i other =
-    elim (bytes_eq method e.0) as (λ w.
-    (or_refuse MethodNotAllowed (cond w (Some (row e.0 path e.1)) (find (λ r. bytes_eq method r.method) (rows_at path methods ++ last ∷ []))) >>= found_of parts)
-    ≡ outcome (cond w (Some e.1) (lookup (bytes_eq method) methods)) uid id) [
-      | true ↦ rw (u, i) refl
-      | false ↦ found_before method uid id parts path methods last u i other
-    ]
 
 -- ---- at most one row
 

@@ -1,5 +1,4 @@
 pub mod Routes
 pub mod Query
 pub mod Held
-pub mod Masked
 pub mod Laws

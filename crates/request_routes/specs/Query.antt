@@ -8,7 +8,7 @@ use Rattle.std.specs.Str.Parse.{digits_value}
 use Rattle.form_urlencoded.specs.Form.{raw_pairs, decode, split}
 use Rattle.request_refusals.specs.declared.refusal.Refusal.{Refusal}
 use Rattle.request_refusals.specs.declared.refusal.Refusal.TheVariants.{Unknown}
-use Rattle.request_refusals.specs.Trying.{◌>>◌}
+use Rattle.search_base.specs.Trying.{◌>>◌}
 use Rattle.request_routes.specs.declared.routes.Route.{Route}
 use Rattle.request_routes.specs.declared.routes.Route.TheVariants.{Health, CreateIndex, ListIndexes, ShowIndex, DropIndex, AddDocuments, UpdateDocuments, ListDocuments, ClearDocuments, ShowDocument, RemoveDocument, RemoveDocuments, ShowSettings, PatchSettings, ResetSettings, Search}
 use Rattle.request_routes.specs.declared.query.Shape.{Shape}

@@ -6,7 +6,7 @@ use Rattle.form_urlencoded.specs.Form.{split}
 use Rattle.doc_values.specs.Ids.{is_uid}
 use Rattle.request_refusals.specs.declared.refusal.Refusal.{Refusal}
 use Rattle.request_refusals.specs.declared.refusal.Refusal.TheVariants.{NoRoute, MethodNotAllowed, InvalidUid}
-use Rattle.request_refusals.specs.Trying.{or_refuse, ◌>>=◌}
+use Rattle.search_base.specs.Trying.{or_refuse, ◌>>=◌}
 use Rattle.request_routes.specs.declared.routes.Route.{Route}
 use Rattle.request_routes.specs.declared.routes.Route.TheVariants.{Health, CreateIndex, ListIndexes, ShowIndex, DropIndex, AddDocuments, UpdateDocuments, ListDocuments, ClearDocuments, ShowDocument, RemoveDocument, RemoveDocuments, ShowSettings, PatchSettings, ResetSettings, Search}
 

@@ -3,14 +3,14 @@ ghost use Rattle.std.specs.List.{list_all};
 ghost use Rattle.std.specs.Map.{lookup};
 ghost use Rattle.std.specs.Str.{bytes_eq};
 ghost use Rattle.std.specs.Str.Parse.{digits_value};
-ghost use Rattle.request_refusals.specs.Gives.{Gives, Checks};
+ghost use Rattle.search_base.specs.Gives.{Gives, Checks};
 ghost use Rattle.request_routes.specs.Held.{pair_of};
 ghost use Rattle.request_routes.specs.Query.{decoded, pairs_of, has_name as has_name_in, last_pairs as last_of, takes as takes_pair, first_unknown, query_for, value_of as value_in, count_in as count_at, fields_in as fields_at, texts_of as texts_in, is_count, is_digit, names, has_shape as has_shape_in};
 
 use crate::parts::parts_of;
 use crate::routes::Route;
-use request_refusals::{Fault, Refusal};
-use search_base::{NoMemory, Word};
+use request_refusals::Refusal;
+use search_base::{Fault, NoMemory, Word};
 use std::alloc::Global;
 
 /// What the value of a name is: a whole number, a text that is not empty, or a list of texts.
@@ -29,11 +29,12 @@ pub struct Pair {
 }
 
 /// The pairs of a query string that count, where the route takes each. Names and values are decoded as those of HTML
-/// forms (URL Standard, application/x-www-form-urlencoded). Of a repeated name the last pair alone counts, at its own place.
+/// forms (URL Standard, application/x-www-form-urlencoded). Of a repeated name the last pair alone counts, at its own
+/// place.
 ///
 /// Refused is the first of these pairs whose name the route does not have, or whose value has a wrong shape (`Unknown`,
 /// with the name). Its one other error is want of memory.
-pub fn read_query(alloc: Global, route: Route, query: &str) -> Result<Vec<Pair>, Fault>
+pub fn read_query(alloc: Global, route: Route, query: &str) -> Result<Vec<Pair>, Fault<Refusal>>
     ensures { Gives (λ pairs. map pair_of pairs.items) result (query_for route query.now) }
 {
     let all = read_pairs(alloc, query)?;
@@ -74,8 +75,8 @@ pub fn count_in(pairs: &[Pair], name: &str, default: u64) -> u64
     }
 }
 
-/// The names of the members that are asked for: `*`, which stands for all, where none are named. Its one error is want of
-/// memory.
+/// The names of the members that are asked for: `*`, which stands for all, where none are named. Its one error is want
+/// of memory.
 pub fn fields_in(alloc: Global, pairs: &[Pair]) -> Result<Vec<Word>, NoMemory>
     ensures { IfOk result (λ fields. fields.items ≡ fields_at (map pair_of pairs.now)) }
 {
@@ -222,12 +223,12 @@ fn takes(route: Route, pair: &Pair) -> bool
     }
 }
 
-fn check_pairs(route: Route, pairs: &[Pair]) -> Result<(), Fault>
+fn check_pairs(route: Route, pairs: &[Pair]) -> Result<(), Fault<Refusal>>
     ensures { Checks result (first_unknown route (map pair_of pairs.now)) }
 {
     for pair in pairs {
         if !takes(route, pair) {
-            return Err(Fault::from(Refusal::Unknown {
+            return Err(Fault::Refused(Refusal::Unknown {
                 name: pair.name.clone()?,
             }));
         }

@@ -1,13 +1,12 @@
-ghost use Rattle.std.specs.Prelude.{◌≡◌, map};
-ghost use Rattle.std.specs.Map.{lookup};
-ghost use Rattle.std.specs.Str.{bytes_eq};
-ghost use Rattle.request_refusals.specs.Gives.{Gives, Checks};
-ghost use Rattle.request_routes.specs.Held.{given_by, methods};
-ghost use Rattle.request_routes.specs.Routes.{path_of, query_of, parts_of as parts_in, route_of, uid_fault};
+ghost use Rattle.std.specs.Prelude.{◌≡◌, ◌<◌, List, [], ◌∷◌, codes, length, map};
+ghost use Rattle.search_base.specs.Gives.{Gives, Tells, Checks};
+ghost use Rattle.request_routes.specs.Held.{given_by};
+ghost use Rattle.request_routes.specs.Routes.{path_of, query_of, parts_of as parts_in, agrees, index, route_of, uid_fault};
 
-use crate::path::{Place, place_of};
+use crate::parts::parts_of;
 use doc_values::is_uid;
-use request_refusals::{Fault, Refusal};
+use request_refusals::Refusal;
+use search_base::Fault;
 use std::alloc::Global;
 
 /// The routes.
@@ -55,7 +54,8 @@ pub struct Found<'a> {
     pub id: &'a str,
 }
 
-/// A target's path, and its query string: what follows its first `?`, or the empty text where it has none. Takes no memory.
+/// A target's path, and its query string: what follows its first `?`, or the empty text where it has none. Takes no
+/// memory.
 pub fn split_target(target: &str) -> (&str, &str)
     ensures path { result.0.now ≡ path_of target.now }
     ensures query { result.1.now ≡ query_of target.now }
@@ -70,78 +70,124 @@ pub fn split_target(target: &str) -> (&str, &str)
 ///
 /// Refused is a path that no route has (`NoRoute`), and then a method that none of the path's routes has
 /// (`MethodNotAllowed`). Its one other error is want of memory.
-pub fn find_route<'a>(alloc: Global, method: &str, path: &'a str) -> Result<Found<'a>, Fault>
+pub fn find_route<'a>(
+    alloc: Global,
+    method: &str,
+    path: &'a str,
+) -> Result<Found<'a>, Fault<Refusal>>
     ensures { Gives given_by result (route_of method.now (parts_in path.now)) }
 {
-    match place_of(alloc, method, path)? {
-        Some(place) => match route_at(method, place) {
-            Some(route) => Ok(Found {
-                route,
-                uid: place.uid(),
-                id: place.id(),
-            }),
-            None => Err(Fault::from(Refusal::MethodNotAllowed)),
-        },
-        None => Err(Fault::from(Refusal::NoRoute)),
+    let parts = parts_of(alloc, path, '/')?;
+    match route_at(method, &parts) {
+        Ok(found) => Ok(found),
+        Err(refusal) => Err(Fault::Refused(refusal)),
     }
 }
 
-/// Tries the uid that a path names; it is empty where the path names none. Any other is refused (`InvalidUid`), unless it
-/// is 1 to 400 bytes of ASCII letters, digits, `-` and `_`. Takes no memory.
-pub fn check_uid(uid: &str) -> Result<(), Fault>
+/// Tries the uid that a path names; it is empty where the path names none. Any other is refused (`InvalidUid`), unless
+/// it is 1 to 400 bytes of ASCII letters, digits, `-` and `_`. Takes no memory.
+pub fn check_uid(uid: &str) -> Result<(), Fault<Refusal>>
     ensures { Checks result (uid_fault uid.now) }
 {
     if uid.is_empty() || is_uid(uid) {
         Ok(())
     } else {
-        Err(Fault::from(Refusal::InvalidUid))
+        Err(Fault::Refused(Refusal::InvalidUid))
     }
 }
 
-/// The table of routes: the methods of each path. Takes no memory.
-fn route_at(method: &str, place: Place) -> Option<Route>
-    ensures { result ≡ lookup (bytes_eq method.now) (methods place.entry) }
+// The route of a path by its parts. A path begins with `/`, so its first part is empty.
+fn route_at<'a>(method: &str, parts: &[&'a str]) -> Result<Found<'a>, Refusal>
+    ensures { Tells given_by result (route_of method.now (map (λ part. part.now) parts.now)) }
 {
-    match place {
-        Place::Health => match method {
-            "GET" => Some(Route::Health),
-            _ => None,
-        },
-        Place::Indexes => match method {
-            "POST" => Some(Route::CreateIndex),
-            "GET" => Some(Route::ListIndexes),
-            _ => None,
-        },
-        Place::Index { .. } => match method {
-            "GET" => Some(Route::ShowIndex),
-            "DELETE" => Some(Route::DropIndex),
-            _ => None,
-        },
-        Place::Documents { .. } => match method {
-            "POST" => Some(Route::AddDocuments),
-            "PUT" => Some(Route::UpdateDocuments),
-            "GET" => Some(Route::ListDocuments),
-            "DELETE" => Some(Route::ClearDocuments),
-            _ => None,
-        },
-        Place::Document { .. } => match method {
-            "GET" => Some(Route::ShowDocument),
-            "DELETE" => Some(Route::RemoveDocument),
-            _ => None,
-        },
-        Place::DeleteBatch { .. } => match method {
-            "POST" => Some(Route::RemoveDocuments),
-            _ => None,
-        },
-        Place::Settings { .. } => match method {
-            "GET" => Some(Route::ShowSettings),
-            "PATCH" => Some(Route::PatchSettings),
-            "DELETE" => Some(Route::ResetSettings),
-            _ => None,
-        },
-        Place::Search { .. } => match method {
-            "POST" => Some(Route::Search),
-            _ => None,
-        },
+    match *parts {
+        [root, page] if root.is_empty() => top_route(method, page),
+        [root, first, uid] if is_index(root, first, uid) => index_route(method, uid),
+        [root, first, uid, page] if is_index(root, first, uid) => page_route(method, uid, page),
+        [root, first, uid, page, id] if is_index(root, first, uid) => {
+            document_route(method, uid, page, id)
+        }
+        _ => Err(Refusal::NoRoute),
     }
+}
+
+// `/indexes/{uid}`, or the head of a path below it
+fn is_index(root: &str, first: &str, uid: &str) -> bool
+    ensures { result ≡ agrees index (root.now ∷ first.now ∷ uid.now ∷ []) }
+{
+    root.is_empty() && first == "indexes" && !uid.is_empty()
+}
+
+// `/health` and `/indexes`
+fn top_route<'a>(method: &str, page: &str) -> Result<Found<'a>, Refusal>
+    ensures { Tells given_by result (route_of method.now ([] ∷ page.now ∷ [])) }
+{
+    let route = match (page, method) {
+        ("health", "GET") => Route::Health,
+        ("indexes", "POST") => Route::CreateIndex,
+        ("indexes", "GET") => Route::ListIndexes,
+        ("health" | "indexes", _) => return Err(Refusal::MethodNotAllowed),
+        _ => return Err(Refusal::NoRoute),
+    };
+    Ok(Found {
+        route,
+        uid: "",
+        id: "",
+    })
+}
+
+// `/indexes/{uid}`
+fn index_route<'a>(method: &str, uid: &'a str) -> Result<Found<'a>, Refusal>
+    requires { 0 < length uid.now }
+    ensures { Tells given_by result (route_of method.now ([] ∷ codes "indexes" ∷ uid.now ∷ [])) }
+{
+    let route = match method {
+        "GET" => Route::ShowIndex,
+        "DELETE" => Route::DropIndex,
+        _ => return Err(Refusal::MethodNotAllowed),
+    };
+    Ok(Found { route, uid, id: "" })
+}
+
+// `/indexes/{uid}/documents`, `/indexes/{uid}/settings` and `/indexes/{uid}/search`
+fn page_route<'a>(method: &str, uid: &'a str, page: &str) -> Result<Found<'a>, Refusal>
+    requires { 0 < length uid.now }
+    ensures { Tells given_by result (route_of method.now ([] ∷ codes "indexes" ∷ uid.now ∷ page.now ∷ [])) }
+{
+    let route = match (page, method) {
+        ("documents", "POST") => Route::AddDocuments,
+        ("documents", "PUT") => Route::UpdateDocuments,
+        ("documents", "GET") => Route::ListDocuments,
+        ("documents", "DELETE") => Route::ClearDocuments,
+        ("settings", "GET") => Route::ShowSettings,
+        ("settings", "PATCH") => Route::PatchSettings,
+        ("settings", "DELETE") => Route::ResetSettings,
+        ("search", "POST") => Route::Search,
+        ("documents" | "settings" | "search", _) => return Err(Refusal::MethodNotAllowed),
+        _ => return Err(Refusal::NoRoute),
+    };
+    Ok(Found { route, uid, id: "" })
+}
+
+// `/indexes/{uid}/documents/{id}`; `delete-batch` is no id for `POST`, and one for each other method.
+fn document_route<'a>(
+    method: &str,
+    uid: &'a str,
+    page: &str,
+    id: &'a str,
+) -> Result<Found<'a>, Refusal>
+    requires { 0 < length uid.now }
+    ensures { Tells given_by result
+        (route_of method.now ([] ∷ codes "indexes" ∷ uid.now ∷ page.now ∷ id.now ∷ [])) }
+{
+    if page != "documents" || id.is_empty() {
+        return Err(Refusal::NoRoute);
+    }
+    let (route, id) = match method {
+        "GET" => (Route::ShowDocument, id),
+        "DELETE" => (Route::RemoveDocument, id),
+        "POST" if id == "delete-batch" => (Route::RemoveDocuments, ""),
+        _ => return Err(Refusal::MethodNotAllowed),
+    };
+    Ok(Found { route, uid, id })
 }

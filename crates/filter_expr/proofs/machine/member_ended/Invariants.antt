@@ -1,6 +1,6 @@
 use Rattle.std.proofs.Common.{◌≡◌, vec_len}
 use Rattle.filter_expr.specs.Machine.{member_end}
-use Rattle.filter_expr.specs.View.{view}
+use Rattle.filter_tree.specs.View.{view}
 use Rattle.filter_expr.specs.Held.{level_view, frames_of}
 use Rattle.filter_expr.proofs.machine.member_ended.Given as goal
 

@@ -1,7 +1,10 @@
-use Rattle.request_routes.proofs.Paths.{found_there}
+use Rattle.std.proofs.Common.{◌≡◌, Ok, Err, subst}
+use Rattle.request_routes.specs.Held.{given_by}
+use Rattle.request_routes.specs.Routes.{route_of}
 use Rattle.request_routes.proofs.routes.find_route.Goals as goal
 
-pub returns-in-Some-route_at : goal.returns-in-Some-route_at
-returns-in-Some-route_at c =
-    found_there c.args.method.now c.args.path.now c.in-Some.place c.in-Some-route_at.route c.uid.result.now c.id.result.now
-    (rw c.in-Some.is at c.in_ok-place.ensures) c.in-Some-route_at.ensures c.uid.ensures c.id.ensures
+pub returns-in-Ok : goal.returns-in-Ok
+returns-in-Ok c = subst (λ v. route_of c.args.method.now v ≡ Ok (given_by c.in-Ok.found)) c.in_ok-parts.ensures (rw c.deref.ensures.value at c.in-Ok.ensures)
+
+pub returns : goal.returns
+returns c = subst (λ v. route_of c.args.method.now v ≡ Err c.in-Err.refusal) c.in_ok-parts.ensures (rw c.deref.ensures.value at c.in-Err.ensures)

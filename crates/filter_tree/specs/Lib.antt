@@ -1,0 +1,3 @@
+-- What contracts see of a filter.
+pub mod Tree
+pub mod View

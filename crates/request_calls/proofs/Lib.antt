@@ -1,0 +1,5 @@
+pub mod JsonBodies
+pub mod Listed
+pub mod Patches
+pub mod Accepted
+pub mod Asking

@@ -1,0 +1,63 @@
+-- The table of refusals: the status, the code and the message of each, and the body that says them.
+use Rattle.std.specs.Prelude.{ℕ, List, ◌++◌, codes, decimal}
+use Rattle.serde_json.specs.Data.{Data, string, object, member, no_members}
+use Rattle.serde_json.specs.Written.{compact_text}
+use Rattle.http_wire.specs.Reply.{Answer}
+use Rattle.request_refusals.specs.declared.refusal.Refusal.{Refusal}
+use Rattle.request_refusals.specs.declared.refusal.Refusal.TheVariants.{NoRoute, MethodNotAllowed, InvalidUid, Unknown, NotBuilt, InvalidSearch, NotJson, NotList, NotObject, NumberNotWhole, BadListedId, MissingUid, BadSettings, BadRankingRule, NoIndex, IndexExists, NoDocument, KeyDiffers, NoCandidate, SeveralCandidates, MissingId, BadId, ChangesSpent, IndexesSpent, IdsSpent, PathsSpent}
+use Rattle.request_refusals.specs.declared.refusal.SearchMember.TheVariants.{ShowCosts}
+
+pub record Told : Type 0 where
+  pub status : ℕ
+  pub code : List ℕ
+  pub message : List ℕ
+
+abbrev pub told : ℕ → List ℕ → List ℕ → Told
+told status code message = record { status = status; code = code; message = message }
+
+abbrev pub told_of : Refusal → Told
+told_of NoRoute = told 404 (codes "not_found") (codes "No such route.")
+told_of MethodNotAllowed = told 405 (codes "method_not_allowed") (codes "Method not allowed.")
+told_of InvalidUid = told 400 (codes "invalid_index_uid") (codes "Invalid index uid.")
+told_of (Unknown name) = told 400 (codes "bad_request") (codes "Unknown or malformed `" ++ name ++ codes "`.")
+told_of (NotBuilt name) = told 501 (codes "not_built") (codes "Not built: `" ++ name ++ codes "`.")
+told_of (InvalidSearch ShowCosts) = told 400 (codes "invalid_search_show_costs") (codes "Invalid `showCosts`.")
+told_of NotJson = told 400 (codes "malformed_payload") (codes "The body is not JSON.")
+told_of NotList = told 400 (codes "malformed_payload") (codes "The body is not a list.")
+told_of (NotObject k) =
+    told 400 (codes "malformed_payload") (codes "Document " ++ decimal k ++ codes " is not an object.")
+told_of (NumberNotWhole k path) =
+    told 400 (codes "number_not_whole")
+    (codes "Document " ++ (decimal k ++ (codes " has a number at `" ++ (path ++ codes "` that is not whole."))))
+told_of (BadListedId k) = told 400 (codes "invalid_document_id") (codes "Id " ++ decimal k ++ codes " is invalid.")
+told_of MissingUid = told 400 (codes "missing_index_uid") (codes "The uid is missing.")
+told_of (BadSettings name) = told 400 (codes "invalid_settings") (codes "Invalid `" ++ name ++ codes "`.")
+told_of (BadRankingRule text) =
+    told 400 (codes "invalid_settings_ranking_rules") (codes "Invalid ranking rule `" ++ text ++ codes "`.")
+told_of (NoIndex uid) = told 404 (codes "index_not_found") (codes "No index `" ++ uid ++ codes "`.")
+told_of (IndexExists uid) = told 409 (codes "index_already_exists") (codes "Index `" ++ uid ++ codes "` exists.")
+told_of (NoDocument id) = told 404 (codes "document_not_found") (codes "No document `" ++ id ++ codes "`.")
+told_of KeyDiffers = told 400 (codes "index_primary_key_already_exists") (codes "The primary key is another one.")
+told_of NoCandidate =
+    told 400 (codes "index_primary_key_no_candidate_found") (codes "No candidate for the primary key.")
+told_of SeveralCandidates =
+    told 400 (codes "index_primary_key_multiple_candidates_found") (codes "Several candidates for the primary key.")
+told_of (MissingId k key) =
+    told 400 (codes "missing_document_id")
+    (codes "Document " ++ (decimal k ++ (codes " has no `" ++ (key ++ codes "`."))))
+told_of (BadId k) =
+    told 400 (codes "invalid_document_id") (codes "Document " ++ decimal k ++ codes " has an invalid id.")
+told_of ChangesSpent = told 400 (codes "changes_spent") (codes "No more changes.")
+told_of IndexesSpent = told 400 (codes "indexes_spent") (codes "No more indexes.")
+told_of IdsSpent = told 400 (codes "ids_spent") (codes "No more documents.")
+told_of PathsSpent = told 400 (codes "paths_spent") (codes "No more attributes.")
+
+abbrev pub refusal_data : List ℕ → List ℕ → Data
+refusal_data code message =
+    object (member (codes "code") (string code)
+    (member (codes "message") (string message)
+    (member (codes "type") (string (codes "invalid_request")) no_members)))
+
+-- the reply to a request that is refused
+abbrev pub refused : Refusal → Answer
+refused r = let t = told_of r in record { status = t.status; body = compact_text (refusal_data t.code t.message) }

@@ -1,0 +1,135 @@
+ghost use Rattle.std.specs.Prelude.{◌≡◌, IfOk, string_bytes};
+ghost use Rattle.serde_json.specs.View.{view};
+ghost use Rattle.http_wire.specs.Sent.{IsSentAs};
+ghost use Rattle.request_calls.specs.Refusals.{told_of, refused, refusal_data};
+
+use http::StatusCode;
+use http_wire::{Reply, make_reply};
+use request_refusals::{Refusal, SearchMember};
+use search_base::NoMemory;
+use serde_json::{Value, json};
+use std::alloc::{AllocError, Global};
+
+fn status_of(refusal: &Refusal) -> StatusCode
+    ensures { result ≡ (told_of refusal.now).status }
+{
+    match refusal {
+        Refusal::NoRoute | Refusal::NoIndex { .. } | Refusal::NoDocument { .. } => {
+            StatusCode::NOT_FOUND
+        }
+        Refusal::MethodNotAllowed => StatusCode::METHOD_NOT_ALLOWED,
+        Refusal::IndexExists { .. } => StatusCode::CONFLICT,
+        Refusal::NotBuilt { .. } => StatusCode::NOT_IMPLEMENTED,
+        _ => StatusCode::BAD_REQUEST,
+    }
+}
+
+fn code_of(refusal: &Refusal) -> &'static str
+    ensures { result.now ≡ (told_of refusal.now).code }
+{
+    match refusal {
+        Refusal::NoRoute => "not_found",
+        Refusal::MethodNotAllowed => "method_not_allowed",
+        Refusal::InvalidUid => "invalid_index_uid",
+        Refusal::Unknown { .. } => "bad_request",
+        Refusal::NotBuilt { .. } => "not_built",
+        Refusal::InvalidSearch { member } => match member {
+            SearchMember::ShowCosts => "invalid_search_show_costs",
+        },
+        Refusal::NotJson | Refusal::NotList | Refusal::NotObject { .. } => "malformed_payload",
+        Refusal::NumberNotWhole { .. } => "number_not_whole",
+        Refusal::BadListedId { .. } | Refusal::BadId { .. } => "invalid_document_id",
+        Refusal::MissingUid => "missing_index_uid",
+        Refusal::BadSettings { .. } => "invalid_settings",
+        Refusal::BadRankingRule { .. } => "invalid_settings_ranking_rules",
+        Refusal::NoIndex { .. } => "index_not_found",
+        Refusal::IndexExists { .. } => "index_already_exists",
+        Refusal::NoDocument { .. } => "document_not_found",
+        Refusal::KeyDiffers => "index_primary_key_already_exists",
+        Refusal::NoCandidate => "index_primary_key_no_candidate_found",
+        Refusal::SeveralCandidates => "index_primary_key_multiple_candidates_found",
+        Refusal::MissingId { .. } => "missing_document_id",
+        Refusal::ChangesSpent => "changes_spent",
+        Refusal::IndexesSpent => "indexes_spent",
+        Refusal::IdsSpent => "ids_spent",
+        Refusal::PathsSpent => "paths_spent",
+    }
+}
+
+fn message_of(alloc: Global, refusal: &Refusal) -> Result<String, AllocError>
+    ensures { IfOk result (λ message. string_bytes message ≡ (told_of refusal.now).message) }
+{
+    match refusal {
+        Refusal::NoRoute => String::from_str(alloc, "No such route."),
+        Refusal::MethodNotAllowed => String::from_str(alloc, "Method not allowed."),
+        Refusal::InvalidUid => String::from_str(alloc, "Invalid index uid."),
+        Refusal::Unknown { name } => format!(in alloc;
+            "Unknown or malformed `{name}`.",
+            name = name.as_str()
+        ),
+        Refusal::NotBuilt { name } => format!(in alloc;
+            "Not built: `{name}`.",
+            name = name.as_str()
+        ),
+        Refusal::InvalidSearch { member } => match member {
+            SearchMember::ShowCosts => String::from_str(alloc, "Invalid `showCosts`."),
+        },
+        Refusal::NotJson => String::from_str(alloc, "The body is not JSON."),
+        Refusal::NotList => String::from_str(alloc, "The body is not a list."),
+        Refusal::NotObject { document } => format!(in alloc;
+            "Document {document} is not an object."
+        ),
+        Refusal::NumberNotWhole { document, path } => format!(in alloc;
+            "Document {document} has a number at `{path}` that is not whole.",
+            path = path.as_str()
+        ),
+        Refusal::BadListedId { place } => format!(in alloc; "Id {place} is invalid."),
+        Refusal::MissingUid => String::from_str(alloc, "The uid is missing."),
+        Refusal::BadSettings { name } => format!(in alloc;
+            "Invalid `{name}`.",
+            name = name.as_str()
+        ),
+        Refusal::BadRankingRule { text } => format!(in alloc;
+            "Invalid ranking rule `{text}`.",
+            text = text.as_str()
+        ),
+        Refusal::IndexExists { uid } => format!(in alloc;
+            "Index `{uid}` exists.",
+            uid = uid.as_str()
+        ),
+        Refusal::NoDocument { id } => format!(in alloc; "No document `{id}`.", id = id.as_str()),
+        Refusal::NoIndex { uid } => format!(in alloc; "No index `{uid}`.", uid = uid.as_str()),
+        Refusal::KeyDiffers => String::from_str(alloc, "The primary key is another one."),
+        Refusal::NoCandidate => String::from_str(alloc, "No candidate for the primary key."),
+        Refusal::SeveralCandidates => String::from_str(
+            alloc,
+            "Several candidates for the primary key.",
+        ),
+        Refusal::MissingId { document, key } => format!(in alloc;
+            "Document {document} has no `{key}`.",
+            key = key.as_str()
+        ),
+        Refusal::BadId { document } => format!(in alloc; "Document {document} has an invalid id."),
+        Refusal::ChangesSpent => String::from_str(alloc, "No more changes."),
+        Refusal::IndexesSpent => String::from_str(alloc, "No more indexes."),
+        Refusal::IdsSpent => String::from_str(alloc, "No more documents."),
+        Refusal::PathsSpent => String::from_str(alloc, "No more attributes."),
+    }
+}
+
+fn refusal_value(alloc: Global, code: &str, message: &str) -> Result<Value, AllocError>
+    ensures { IfOk result (λ value. view value ≡ refusal_data code.now message.now) }
+{
+    json!(in alloc; {"code": code, "message": message, "type": "invalid_request"})
+}
+
+/// The reply to a request that is refused: the status of the refusal, and a body with its code, its message and the
+/// type of all refusals. Its one error is want of memory.
+pub fn refusal_reply(alloc: Global, refusal: &Refusal) -> Result<Reply, NoMemory>
+    ensures { IfOk result (λ reply. IsSentAs reply (refused refusal.now)) }
+{
+    let message = message_of(alloc, refusal)?;
+    let value = refusal_value(alloc, code_of(refusal), message.as_str())?;
+    let body = value.to_vec(alloc)?;
+    make_reply(alloc, status_of(refusal), body)
+}

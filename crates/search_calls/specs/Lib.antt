@@ -1,4 +1,0 @@
-pub mod Bodies
-pub mod Asked
-pub mod Calls
-pub mod Held
