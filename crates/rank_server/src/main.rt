@@ -2,6 +2,10 @@
 //! own, and ends with the number of the status.
 #![tactic(auto)]
 
+ghost use Rattle.std.specs.Prelude.{◌≡◌};
+ghost use Rattle.std.specs.Process.{exit_status};
+ghost use Rattle.search_server.specs.Statuses.{number_of};
+
 use outside_io::StdLink;
 use search_base::Steps;
 use search_server::{Status, run_search_server};
@@ -21,6 +25,13 @@ fn words(rt: &HostRuntime) -> io::Result<Vec<String>> {
     Ok(words)
 }
 
+// The code with which the program ends.
+fn exit_of(status: Status) -> ExitCode
+    ensures { exit_status result ≡ number_of status }
+{
+    ExitCode::from(status.number())
+}
+
 fn main(rt: HostRuntime) -> ExitCode {
     let mut pipe = StdLink::new(&rt);
     let mut fetches: Steps<StoredDocument> = Steps::new();
@@ -33,5 +44,5 @@ fn main(rt: HostRuntime) -> ExitCode {
             Status::NoMemory
         },
     };
-    ExitCode::from(status.number())
+    exit_of(status)
 }

@@ -5,16 +5,17 @@ use Rattle.doc_values.specs.Changes.{KindData}
 use Rattle.http_wire.specs.Stream.{Request}
 use Rattle.http_wire.specs.Reply.{Answer}
 use Rattle.index_core.specs.Index.{Index, documents as documents_in, document_under}
-use Rattle.index_core.specs.Hits.{found}
+use Rattle.index_core.specs.Found.{found}
 use Rattle.request_refusals.specs.declared.refusal.Refusal.{Refusal}
-use Rattle.request_refusals.specs.declared.refusal.Refusal.TheVariants.{NoRoute, MethodNotAllowed, InvalidUid, Unknown, NotBuilt, NotJson, NotList, NotObject, NumberNotWhole, BadListedId, MissingUid, BadSettings, BadRankingRule, NoIndex, IndexExists, NoDocument, KeyDiffers, NoCandidate, SeveralCandidates, MissingId, BadId, ChangesSpent, IndexesSpent, IdsSpent, PathsSpent}
-use Rattle.request_refusals.specs.Refusals.{told_of}
-use Rattle.request_refusals.specs.Trying.{◌>>=◌, or_refuse}
-use Rattle.search_calls.specs.Asked.{ReadData, health, indexes, index, documents, document, settings, search, CallData, write, read}
-use Rattle.search_calls.specs.Calls.{call_of}
-use Rattle.search_routes.specs.Replies as replies
+use Rattle.request_refusals.specs.declared.refusal.Refusal.TheVariants.{NoRoute, MethodNotAllowed, InvalidUid, Unknown, NotBuilt, InvalidSearch, NotJson, NotList, NotObject, NumberNotWhole, BadListedId, MissingUid, BadSettings, BadRankingRule, NoIndex, IndexExists, NoDocument, KeyDiffers, NoCandidate, SeveralCandidates, MissingId, BadId, ChangesSpent, IndexesSpent, IdsSpent, PathsSpent}
+use Rattle.request_refusals.specs.declared.refusal.SearchMember.TheVariants.{ShowCosts}
+use Rattle.request_calls.specs.Refusals.{told_of}
+use Rattle.search_base.specs.Trying.{◌>>=◌, or_refuse}
+use Rattle.request_calls.specs.Asked.{ReadData, health, indexes, index, documents, document, settings, search, CallData, write, read}
+use Rattle.request_calls.specs.Calls.{call_of}
+use Rattle.request_replies.specs.Replies as replies
 use Rattle.search_routes.specs.State.{State, Indexes}
-use Rattle.search_routes.specs.Machine.{Step, told, unless_refused, indexes_after, type_of, changed, index_at, slice, core_call, hits_answer, answer_to, outcome, step}
+use Rattle.search_routes.specs.Machine.{Step, told, unless_refused, indexes_after, type_of, changed, index_at, slice, hits_answer, answer_to, outcome, step}
 use Rattle.search_routes.specs.Laws.{IsCounted}
 
 -- the statuses of what is not refused
@@ -53,7 +54,7 @@ shown_answer es (document uid id fields) =
     shown_of (index_at uid es) _ (λ i. or_refuse (NoDocument id) (document_under id i.store.rows) >>= λ d. Ok (replies.one_document fields d))
     (λ i. shown_document fields (document_under id i.store.rows) (NoDocument id))
 shown_answer es (settings uid) = shown_of (index_at uid es) _ (λ i. Ok (replies.settings i.settings)) (λ i. refl)
-shown_answer es (search uid c) = shown_of (index_at uid es) _ (λ i. Ok (hits_answer c i.settings (found i (core_call c)))) (λ i. refl)
+shown_answer es (search uid c) = shown_of (index_at uid es) _ (λ i. Ok (hits_answer c i.settings (found i c))) (λ i. refl)
 
 good_answered : (s : State) (r : Result Answer Refusal) → IsShown r → IsGood s (r >>= λ a. Ok (told s a))
 good_answered s (Ok a) is = inr (is, refl)
@@ -76,6 +77,7 @@ refusing MethodNotAllowed = (λ e. absurd (omega (arith, e)), λ e. absurd (omeg
 refusing InvalidUid = (λ e. absurd (omega (arith, e)), λ e. absurd (omega (arith, e)))
 refusing (Unknown name) = (λ e. absurd (omega (arith, e)), λ e. absurd (omega (arith, e)))
 refusing (NotBuilt name) = (λ e. absurd (omega (arith, e)), λ e. absurd (omega (arith, e)))
+refusing (InvalidSearch ShowCosts) = (λ e. absurd (omega (arith, e)), λ e. absurd (omega (arith, e)))
 refusing NotJson = (λ e. absurd (omega (arith, e)), λ e. absurd (omega (arith, e)))
 refusing NotList = (λ e. absurd (omega (arith, e)), λ e. absurd (omega (arith, e)))
 refusing (NotObject k) = (λ e. absurd (omega (arith, e)), λ e. absurd (omega (arith, e)))

@@ -1,5 +1,3 @@
-pub mod PrintLemmas
-pub mod ShownLemmas
 pub mod RowLemmas
 pub mod MapLemmas
 pub mod Steps

@@ -6,7 +6,7 @@ use Rattle.serde_json.specs.Data.{Data}
 use Rattle.serde_json.specs.View.{view, items_view}
 use Rattle.serde_json.specs.Written.{has_float, items_have_float}
 use Rattle.serde_json.specs.declared.value.Value.{Value}
-use Rattle.search_routes.specs.Replies.{index_data}
+use Rattle.request_replies.specs.Replies.{index_data}
 use Rattle.search_routes.specs.Machine.{slice}
 
 pub passed_over : (skip room : ℕ) (x : Data) (rest : List Data) → 0 < skip → slice (skip - 1) room rest ≡ slice skip room (x ∷ rest)

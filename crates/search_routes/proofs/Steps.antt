@@ -1,5 +1,5 @@
 -- From what a call did to the step that it made.
-use Rattle.std.proofs.Common.{◌≡◌, ℕ, ◌+◌, Bool, true, false, List, Option, Some, None, is_some, Result, Ok, Err, refl, sym, ap, ap₂, subst, ◌∙◌}
+use Rattle.std.proofs.Common.{◌≡◌, ℕ, ◌+◌, Bool, true, false, List, [], ◌∷◌, map, Option, Some, None, is_some, Result, Ok, Err, refl, sym, ap, ap₂, subst, ◌∙◌}
 use Rattle.std.specs.Ordering.{nat_cmp}
 use Rattle.std.specs.Cmp.Lexicographic.{slice_cmp, nat_list_cmp_total}
 use Rattle.std.specs.Map.{set_value, keys_of}
@@ -12,38 +12,62 @@ use Rattle.http_wire.specs.Reply.{Answer}
 use Rattle.http_wire.specs.declared.reply.Reply.{Reply}
 use Rattle.index_core.specs.Index.{Index, empty_index}
 use Rattle.request_refusals.specs.declared.refusal.Refusal.{Refusal}
-use Rattle.request_refusals.specs.declared.refusal.Fault.{Fault}
-use Rattle.request_refusals.specs.declared.refusal.Fault.TheVariants as fault
-use Rattle.search_calls.specs.declared.call.Call.{Call}
-use Rattle.search_calls.specs.declared.call.Call.TheVariants as call
-use Rattle.search_calls.specs.Asked.{SearchData, ReadData, read, search}
-use Rattle.search_calls.specs.Calls.{call_of, IsCall}
-use Rattle.request_refusals.specs.Gives.{Fails}
-use Rattle.request_refusals.specs.declared.refusal.Refusal.TheVariants.{NoIndex, IndexExists}
-use Rattle.request_refusals.specs.Trying.{◌>>=◌, ◌>>◌, refuse_if, or_refuse}
+use Rattle.search_base.specs.declared.fault.Fault.{Fault}
+use Rattle.search_base.specs.declared.fault.Fault.TheVariants as fault
+use Rattle.request_calls.specs.declared.call.Call.{Call}
+use Rattle.request_calls.specs.declared.call.Call.TheVariants as call
+use Rattle.request_calls.specs.Asked.{ReadData, read, search}
+use Rattle.request_calls.specs.Calls.{call_of, IsCall}
+use Rattle.search_base.specs.Gives.{Fails, Checks}
+use Rattle.request_refusals.specs.declared.refusal.Refusal.TheVariants.{IndexExists}
+use Rattle.search_base.specs.Trying.{◌>>=◌, ◌>>◌, refuse_if, refused_as}
 use Rattle.http_wire.specs.Sent.{IsSentAs}
-use Rattle.serde_json.specs.Data.{Data}
-use Rattle.index_core.specs.Hits.{Found, found}
-use Rattle.index_core.specs.declared.call.SearchCall.{SearchCall as CoreCall}
-use Rattle.search_routes.specs.Shown.{all_shown, hits_shown, common_names}
-use Rattle.search_routes.specs.Replies as replies
-use Rattle.search_routes.specs.Replies.{accepted}
-use Rattle.search_routes.proofs.ShownLemmas.{hits_common}
+use Rattle.index_core.specs.PlanView.{PlanView}
+use Rattle.index_core.specs.Plans.{planned, applied}
+use Rattle.index_core.specs.declared.call.Hit.{Hit as HeldFound}
+use Rattle.index_core.specs.Shown.{hit_shown}
+use Rattle.search_routes.specs.Done.{hit_with}
+use Rattle.index_core.specs.Found.{FoundHit, found}
+use Rattle.search_call.specs.SearchView.{SearchView}
+use Rattle.request_replies.specs.Shown.{HitView, view_of}
+use Rattle.request_replies.specs.Replies as replies
+use Rattle.request_replies.specs.Replies.{accepted}
 use Rattle.search_routes.specs.State.{State, Indexes}
-use Rattle.search_routes.specs.Machine.{Step, with_index, index_after, indexes_after, index_at, type_of, limits, created, core_call, hits_answer, changed, filled, emptied, answer_to, outcome, told, is_full, unless_refused, step}
+use Rattle.search_routes.specs.Machine.{Step, id_member_for, core_refusal, with_index, index_after, indexes_after, index_at, index_named, type_of, limits, created, hit_view, hits_answer, changed, filled, emptied, answer_to, outcome, told, is_full, unless_refused, step}
 use Rattle.search_routes.specs.Needs.{needed_fetches}
 use Rattle.search_routes.specs.Done.{Grows, Steps, Sends, Answers, Makes, Performs, held_need}
 use Rattle.search_routes.proofs.MapLemmas.{set_value-insert}
 
 -- a bind keeps a refusal
-pub fails_bind : {A B : Type 0} (f : Fault) (r : Result A Refusal) (g : A → Result B Refusal) → Fails f r → Fails f (r >>= g)
+pub fails_bind : {A B : Type 0} (f : Fault Refusal) (r : Result A Refusal) (g : A → Result B Refusal) → Fails f r → Fails f (r >>= g)
 fails_bind fault.NoMemory r g is = tt
 fails_bind (fault.Refused e) r g is = rw is refl
 
 -- ---- one index, and all
 
+-- a plan that is not applied is a change that is not made
+pub applied_fails : (f : Fault Refusal) (before : ℕ) (full : Bool) (old : Index) (change : KindData) (key : List ℕ) (plan : PlanView) → key ≡ id_member_for old.key change
+    → refused_as (core_refusal key) (planned old change) ≡ Ok plan → limits before full ≡ None → Fails f (refused_as (core_refusal key) (applied plan old))
+    → Fails f (index_after before full old change)
+applied_fails fault.NoMemory before full old change key plan own is room fails = tt
+applied_fails (fault.Refused r) before full old change key plan own is room fails =
+    let plans : refused_as (core_refusal (id_member_for old.key change)) (planned old change) ≡ Ok plan =
+    subst (λ k. refused_as (core_refusal k) (planned old change) ≡ Ok plan) own is in
+    let failed : refused_as (core_refusal (id_member_for old.key change)) (applied plan old) ≡ Err r =
+    subst (λ k. refused_as (core_refusal k) (applied plan old) ≡ Err r) own fails in
+    rw (plans, room) failed
+
+-- a limit that is met before a plan is applied
+pub limits_fail : (f : Fault Refusal) (before : ℕ) (full : Bool) (old : Index) (change : KindData) (key : List ℕ) (plan : PlanView) → key ≡ id_member_for old.key change
+    → refused_as (core_refusal key) (planned old change) ≡ Ok plan → Checks (Err f) (limits before full) → Fails f (index_after before full old change)
+limits_fail fault.NoMemory before full old change key plan own is met = tt
+limits_fail (fault.Refused r) before full old change key plan own is met =
+    let plans : refused_as (core_refusal (id_member_for old.key change)) (planned old change) ≡ Ok plan =
+    subst (λ k. refused_as (core_refusal k) (planned old change) ≡ Ok plan) own is in
+    rw (plans, met) refl
+
 -- documents come to an index that is there
-pub filled_there : (before : ℕ) (es : Indexes) (uid : List ℕ) (change : KindData) (old new : Index) (a : Answer) (r : Result Reply Fault)
+pub filled_there : (before : ℕ) (es : Indexes) (uid : List ℕ) (change : KindData) (old new : Index) (a : Answer) (r : Result Reply (Fault Refusal))
     → IsStrictlySortedBy (slice_cmp nat_cmp) (keys_of es) → index_at uid es ≡ Some old
     → Grows (index_after before false old change) a old r new
     → Grows (filled before es uid change) a es r (set_value (is_at (slice_cmp nat_cmp uid)) es new)
@@ -53,7 +77,7 @@ filled_there before es uid change old new a (Err fault.NoMemory) up at (is, same
 filled_there before es uid change old new a (Err (fault.Refused r)) up at (is, same) = (rw (at, is) refl, rw same (set_value_same _ es old at))
 
 -- documents go from it
-pub emptied_there : (before : ℕ) (es : Indexes) (uid : List ℕ) (change : KindData) (old new : Index) (a : Answer) (r : Result Reply Fault)
+pub emptied_there : (before : ℕ) (es : Indexes) (uid : List ℕ) (change : KindData) (old new : Index) (a : Answer) (r : Result Reply (Fault Refusal))
     → IsStrictlySortedBy (slice_cmp nat_cmp) (keys_of es) → index_at uid es ≡ Some old
     → Grows (index_after before false old change) a old r new
     → Grows (emptied before es uid change) a es r (set_value (is_at (slice_cmp nat_cmp uid)) es new)
@@ -63,7 +87,7 @@ emptied_there before es uid change old new a (Err fault.NoMemory) up at (is, sam
 emptied_there before es uid change old new a (Err (fault.Refused r)) up at (is, same) = (rw (at, is) refl, rw same (set_value_same _ es old at))
 
 -- the index is not there, and making it is refused
-pub filled_not : (before : ℕ) (es : Indexes) (uid : List ℕ) (change : KindData) (full : Bool) (index : Index) (f : Fault)
+pub filled_not : (before : ℕ) (es : Indexes) (uid : List ℕ) (change : KindData) (full : Bool) (index : Index) (f : Fault Refusal)
     → index_at uid es ≡ None → full ≡ is_full es → index ≡ empty_index
     → Fails f (index_after before full index change) → Fails f (filled before es uid change)
 filled_not before es uid change full index fault.NoMemory none full_is is_new fails = tt
@@ -92,25 +116,25 @@ created_new before es uid key full none full_is room =
 
 -- ---- a search
 
--- the reply to a search is what it finds, by the names that both lists have
-pub search_sent : (es : Indexes) (uid : List ℕ) (call : SearchData) (i : Index) (core : CoreCall) (q : List ℕ) (names : List (List ℕ)) (hits : List Data) (total : ℕ) (reply : Reply)
-    → index_at uid es ≡ Some i → core ≡ core_call call → q ≡ core.q → names ≡ common_names i.settings.displayed_attributes call.retrieve
-    → hits ≡ (found i core).hits → total ≡ (found i core).total
-    → IsSentAs reply (replies.hits q core.offset core.limit total (all_shown names hits)) → Sends (answer_to es (search uid call)) (Ok reply)
-search_sent es uid call i core q names hits total reply at is asked named h t sent =
-    let f : Found = found i (core_call call) in
-    let h' : hits ≡ f.hits = subst (λ v. hits ≡ (found i v).hits) is h in
-    let t' : total ≡ f.total = subst (λ v. total ≡ (found i v).total) is t in
-    let shows : all_shown names hits ≡ hits_shown i.settings.displayed_attributes call.retrieve f.hits =
-    ap₂ all_shown named h' ∙ hits_common i.settings.displayed_attributes call.retrieve f.hits in
-    let one : IsSentAs reply (replies.hits call.q call.offset call.limit total (all_shown names hits)) =
-    subst (λ v. IsSentAs reply (replies.hits v call.offset call.limit total (all_shown names hits))) (asked ∙ ap (λ v. v.q) is)
-    (subst (λ v. IsSentAs reply (replies.hits q v.offset v.limit total (all_shown names hits))) is sent) in
-    let two : IsSentAs reply (replies.hits call.q call.offset call.limit f.total (all_shown names hits)) =
-    subst (λ v. IsSentAs reply (replies.hits call.q call.offset call.limit v (all_shown names hits))) t' one in
-    let three : IsSentAs reply (hits_answer call i.settings f) =
-    subst (λ v. IsSentAs reply (replies.hits call.q call.offset call.limit f.total v)) shows two in
-    (hits_answer call i.settings f, ap (λ o. or_refuse (NoIndex uid) o >>= λ i. Ok (hits_answer call i.settings (found i (core_call call)))) at, three)
+-- hits with their costs or without, as contracts see them
+pub hits_seen : (costs : Bool) (found : List HeldFound) → map view_of (map (hit_with costs) found) ≡ map (hit_view costs) (map hit_shown found)
+hits_seen costs [] = refl
+hits_seen true (hit ∷ found) = ap (λ hits. hit_view true (hit_shown hit) ∷ hits) (hits_seen true found)
+hits_seen false (hit ∷ found) = ap (λ hits. hit_view false (hit_shown hit) ∷ hits) (hits_seen false found)
+
+-- the reply to a search is what it finds
+pub search_sent : (es : Indexes) (uid : List ℕ) (call : SearchView) (i : Index) (displayed : List (List ℕ)) (hits : List FoundHit) (views : List HitView) (total : ℕ) (reply : Reply)
+    → index_named uid es ≡ Ok i → displayed ≡ i.settings.displayed_attributes → hits ≡ (found i call).hits
+    → views ≡ map (hit_view call.costs) hits → total ≡ (found i call).total
+    → IsSentAs reply (replies.hits displayed call total views) → Sends (answer_to es (search uid call)) (Ok reply)
+search_sent es uid call i displayed hits views total reply at names is shows counts sent =
+    let named = subst (λ v. IsSentAs reply (replies.hits v call total views)) names sent in
+    let counted = subst (λ v. IsSentAs reply (replies.hits i.settings.displayed_attributes call v views)) counts named in (
+      hits_answer call i.settings (found i call),
+      ap (λ r. r >>= λ i. Ok (hits_answer call i.settings (found i call))) at,
+      subst (λ v. IsSentAs reply (replies.hits i.settings.displayed_attributes call (found i call).total v))
+          (shows ∙ ap (map (hit_view call.costs)) is) counted,
+    )
 
 -- ---- steps
 
@@ -122,18 +146,18 @@ steps_changed s uid kind reply es (is, sent) =
     (record { answer = accepted uid (type_of kind) s.changes; state = record { changes = s.changes + 1; indexes = es } }, rw is refl, sent, refl)
 
 -- a change that is not made
-pub steps_unchanged : (s : State) (uid : List ℕ) (kind : KindData) (f : Fault) (es : Indexes)
+pub steps_unchanged : (s : State) (uid : List ℕ) (kind : KindData) (f : Fault Refusal) (es : Indexes)
     → Grows (indexes_after s.changes s.indexes uid kind) (accepted uid (type_of kind) s.changes) s.indexes (Err f) es
     → Steps s (changed s uid kind) (Err f) (record { changes = s.changes; indexes = es })
 steps_unchanged s uid kind f es (fails, same) = (fails_bind f (indexes_after s.changes s.indexes uid kind) _ fails, rw same refl)
 
 -- an answer that changes nothing, as a step
-pub steps_read : (s : State) (c : ReadData) (r : Result Reply Fault) → Sends (answer_to s.indexes c) r → Steps s (outcome s (read c)) r s
+pub steps_read : (s : State) (c : ReadData) (r : Result Reply (Fault Refusal)) → Sends (answer_to s.indexes c) r → Steps s (outcome s (read c)) r s
 steps_read s c (Ok reply) (a, is, sent) = (told s a, rw is refl, sent, refl)
 steps_read s c (Err f) fails = (fails_bind f (answer_to s.indexes c) _ fails, refl)
 
 -- a step that was made or refused, and the reply to that
-pub makes : (old : State) (defined : Result Step Refusal) (done : Result Reply Fault) (reply : Reply) (new : State)
+pub makes : (old : State) (defined : Result Step Refusal) (done : Result Reply (Fault Refusal)) (reply : Reply) (new : State)
     → Steps old defined done new → Answers done reply → Makes (unless_refused old defined) old reply new
 makes old defined (Ok given) reply new (t, is, sent, state) same = (false, rw (is, same) sent, rw is state)
 makes old defined (Err fault.NoMemory) reply new (free, state) same = (true, rw same (record { status = refl; each = λ closes. refl }), state)

@@ -1,23 +1,22 @@
 -- What the code does, beside the steps of the machine.
-use Rattle.std.specs.Prelude.{◌≡◌, ℕ, Bool, List, Result, Ok, Err}
+use Rattle.std.specs.Prelude.{◌≡◌, ℕ, Bool, Some, None, Result, Ok, Err, if◌then◌else◌}
 use Rattle.doc_values.specs.Changes.{change_view}
 use Rattle.http_wire.specs.Reply.{Answer}
 use Rattle.http_wire.specs.Sent.{IsSentAs}
 use Rattle.http_wire.specs.declared.reply.Reply.{Reply}
 use Rattle.http_wire.specs.declared.reply.Reply.TheVariants.{Memory}
-use Rattle.index_core.specs.declared.fault.CoreFault.{CoreFault}
-use Rattle.index_core.specs.declared.fault.CoreFault.TheVariants as core
+use Rattle.index_core.specs.declared.call.Hit.{Hit as FoundHit}
+use Rattle.request_replies.specs.declared.hit.Hit.{Hit}
 use Rattle.request_refusals.specs.declared.refusal.Refusal.{Refusal}
-use Rattle.request_refusals.specs.declared.refusal.Fault.{Fault}
-use Rattle.request_refusals.specs.declared.refusal.Fault.TheVariants as fault
-use Rattle.search_calls.specs.declared.call.Call.{Call}
-use Rattle.search_calls.specs.declared.call.Call.TheVariants as call
-use Rattle.search_calls.specs.Asked.{write, read, read_view}
-use Rattle.request_refusals.specs.Gives.{Fails}
-use Rattle.search_calls.specs.Held.{settings_fault_of}
-use Rattle.request_refusals.specs.Refusals.{refused}
+use Rattle.search_base.specs.declared.fault.Fault.{Fault}
+use Rattle.search_base.specs.declared.fault.Fault.TheVariants as fault
+use Rattle.request_calls.specs.declared.call.Call.{Call}
+use Rattle.request_calls.specs.declared.call.Call.TheVariants as call
+use Rattle.request_calls.specs.Asked.{write, read, read_view}
+use Rattle.search_base.specs.Gives.{Fails}
+use Rattle.request_calls.specs.Refusals.{refused}
 use Rattle.search_routes.specs.State.{State}
-use Rattle.search_routes.specs.Machine.{Step, performed, core_refusal}
+use Rattle.search_routes.specs.Machine.{Step, performed}
 use Rattle.search_routes.specs.Needs.{call_need}
 use Rattle.search_routes.specs.Chosen.{or_memory, answer_in, state_in}
 
@@ -40,34 +39,26 @@ held_need s (call.Read c) = call_need s (read (read_view c))
 -- ---- inside
 
 -- a step, or why there is none
-abbrev pub Steps : State → Result Step Refusal → Result Reply Fault → State → Type 0
+abbrev pub Steps : State → Result Step Refusal → Result Reply (Fault Refusal) → State → Type 0
 Steps old defined (Ok reply) new = (t : Step) × (defined ≡ Ok t) × IsSentAs reply t.answer × (new ≡ t.state)
 Steps old defined (Err f) new = Fails f defined × (new ≡ old)
 
 -- what changes to what a definition says, with this reply, or why it does not
-abbrev pub Grows : {A : Type 0} → Result A Refusal → Answer → A → Result Reply Fault → A → Type 0
+abbrev pub Grows : {A : Type 0} → Result A Refusal → Answer → A → Result Reply (Fault Refusal) → A → Type 0
 Grows defined answer old (Ok reply) new = (defined ≡ Ok new) × IsSentAs reply answer
 Grows defined answer old (Err f) new = Fails f defined × (new ≡ old)
 
 -- an answer that is sent, or why there is none
-abbrev pub Sends : Result Answer Refusal → Result Reply Fault → Type 0
+abbrev pub Sends : Result Answer Refusal → Result Reply (Fault Refusal) → Type 0
 Sends defined (Ok reply) = (a : Answer) × (defined ≡ Ok a) × IsSentAs reply a
 Sends defined (Err f) = Fails f defined
 
 -- the reply to what was done, or to why it was not
-abbrev pub Answers : Result Reply Fault → Reply → Type 0
+abbrev pub Answers : Result Reply (Fault Refusal) → Reply → Type 0
 Answers (Ok given) reply = reply ≡ given
 Answers (Err fault.NoMemory) reply = reply ≡ Memory
 Answers (Err (fault.Refused r)) reply = (starved : Bool) × IsSentAs reply (or_memory (refused r) starved)
 
--- why a change is not made, by its index's fault
-abbrev pub fault_of : List ℕ → CoreFault → Fault
-fault_of key core.KeyDiffers = fault.Refused (core_refusal key core.KeyDiffers)
-fault_of key core.NoCandidate = fault.Refused (core_refusal key core.NoCandidate)
-fault_of key core.SeveralCandidates = fault.Refused (core_refusal key core.SeveralCandidates)
-fault_of key (core.MissingId k) = fault.Refused (core_refusal key (core.MissingId k))
-fault_of key (core.BadId k) = fault.Refused (core_refusal key (core.BadId k))
-fault_of key core.IdsSpent = fault.Refused (core_refusal key core.IdsSpent)
-fault_of key core.PathsSpent = fault.Refused (core_refusal key core.PathsSpent)
-fault_of key (core.Settings fault) = settings_fault_of fault
-fault_of key core.NoMemory = fault.NoMemory
+-- a hit that an index found as a hit of the reply, with its costs or without
+abbrev pub hit_with : Bool → FoundHit → Hit
+hit_with costs hit = record { document = hit.document; costs = if costs then Some hit.costs else None }

@@ -6,7 +6,8 @@ use Rattle.search_routes.specs.Machine.{Step, step}
 
 -- a change is accepted by 202 and counted, and no other reply comes with a change
 abbrev pub IsCounted : State → Step → Type 0
-IsCounted s t = ((t.answer.status ≡ 202) × (t.state.changes ≡ s.changes + 1)) ⊎ ((t.answer.status ≢ 202) × (t.state ≡ s))
+IsCounted s t =
+    ((t.answer.status ≡ 202) × (t.state.changes ≡ s.changes + 1)) ⊎ ((t.answer.status ≢ 202) × (t.state ≡ s))
 
 abbrev pub AcceptedIsCounted : Type 0
 AcceptedIsCounted = (s : State) (q : Request) → IsCounted s (step s q)

@@ -1,6 +1,4 @@
 pub mod State
-pub mod Shown
-pub mod Replies
 pub mod Machine
 pub mod Needs
 pub mod Chosen

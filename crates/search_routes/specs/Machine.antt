@@ -1,5 +1,5 @@
 -- The plain machine: what it answers to a request, and what it holds after that.
-use Rattle.std.specs.Prelude.{ℕ, ◌+◌, List, [], ◌∷◌, length, map, take, drop, Bool, false, nat_le, codes, Option, Some, None, is_none, is_some, unwrap_or, ◌&&◌, Result, Ok, Err}
+use Rattle.std.specs.Prelude.{ℕ, ◌+◌, List, [], ◌∷◌, length, map, take, drop, Bool, false, nat_le, codes, Option, Some, None, is_none, is_some, unwrap_or, ◌&&◌, Result, Ok, Err, if◌then◌else◌}
 use Rattle.std.specs.Ordering.{nat_cmp}
 use Rattle.std.specs.Cmp.Lexicographic.{slice_cmp}
 use Rattle.std.specs.Map.{lookup, remove_entry}
@@ -13,20 +13,20 @@ use Rattle.http_wire.specs.Stream.{Request}
 use Rattle.http_wire.specs.Reply.{Answer}
 use Rattle.index_core.specs.Index.{Index, empty_index, documents as documents_in, document_under}
 use Rattle.index_core.specs.Plans.{planned, applied}
-use Rattle.index_core.specs.Hits.{Found, found}
-use Rattle.index_core.specs.declared.call.SearchCall.{SearchCall as CoreCall}
-use Rattle.index_core.specs.declared.fault.CoreFault.{CoreFault}
-use Rattle.index_core.specs.declared.fault.CoreFault.TheVariants as core
+use Rattle.index_core.specs.Found.{Found, FoundHit, found}
+use Rattle.index_core.specs.declared.refusal.CoreRefusal.{CoreRefusal}
+use Rattle.index_core.specs.declared.refusal.CoreRefusal.TheVariants as core
 use Rattle.request_refusals.specs.declared.refusal.Refusal.{Refusal}
 use Rattle.request_refusals.specs.declared.refusal.Refusal.TheVariants.{NoIndex, IndexExists, NoDocument, KeyDiffers, NoCandidate, SeveralCandidates, MissingId, BadId, ChangesSpent, IndexesSpent, IdsSpent, PathsSpent}
-use Rattle.request_refusals.specs.Trying.{◌>>=◌, ◌>>◌, first_of, refuse_if, or_refuse}
-use Rattle.request_refusals.specs.Refusals.{refused}
-use Rattle.search_calls.specs.Asked.{SearchData, ReadData, health, indexes, index, documents, document, settings, search, CallData, write, read}
-use Rattle.search_calls.specs.Bodies.{settings_refusal}
-use Rattle.search_calls.specs.Calls.{call_of}
+use Rattle.search_base.specs.Trying.{◌>>=◌, ◌>>◌, first_of, refuse_if, or_refuse, refused_as}
+use Rattle.request_calls.specs.Refusals.{refused}
+use Rattle.request_calls.specs.Asked.{ReadData, health, indexes, index, documents, document, settings, search, CallData, write, read}
+use Rattle.request_calls.specs.Bodies.{settings_refusal}
+use Rattle.request_calls.specs.Calls.{call_of}
 use Rattle.search_routes.specs.State.{State, Indexes}
-use Rattle.search_routes.specs.Shown.{hits_shown}
-use Rattle.search_routes.specs.Replies as replies
+use Rattle.search_call.specs.SearchView.{SearchView}
+use Rattle.request_replies.specs.Shown.{HitView}
+use Rattle.request_replies.specs.Replies as replies
 
 -- ---- what the machine holds
 
@@ -74,9 +74,8 @@ unless_refused s (Err r) = told s (refused r)
 
 -- ---- a change of one index
 
--- Why an index refuses a change, whose documents have their ids under this key. (Want of memory is no fault of a
--- change, and never comes from the definition of one.)
-abbrev pub core_refusal : List ℕ → CoreFault → Refusal
+-- why an index refuses a change, whose documents have their ids under this key
+abbrev pub core_refusal : List ℕ → CoreRefusal → Refusal
 core_refusal key core.KeyDiffers = KeyDiffers
 core_refusal key core.NoCandidate = NoCandidate
 core_refusal key core.SeveralCandidates = SeveralCandidates
@@ -84,12 +83,7 @@ core_refusal key (core.MissingId k) = MissingId k key
 core_refusal key (core.BadId k) = BadId k
 core_refusal key core.IdsSpent = IdsSpent
 core_refusal key core.PathsSpent = PathsSpent
-core_refusal key (core.Settings fault) = settings_refusal fault
-core_refusal key core.NoMemory = IdsSpent
-
-abbrev pub core_result : {A : Type 0} → List ℕ → Result A CoreFault → Result A Refusal
-core_result key (Ok x) = Ok x
-core_result key (Err fault) = Err (core_refusal key fault)
+core_refusal key (core.Settings why) = settings_refusal why
 
 -- The name of the member by which documents have their ids: the key of the index, or else the given one, or else that
 -- of the first document, and an empty name where none of them has one.
@@ -114,16 +108,17 @@ id_member_for own reset = []
 abbrev pub limits : ℕ → Bool → Option Refusal
 limits before full = first_of (refuse_if (nat_le most_changes before) ChangesSpent) (refuse_if full IndexesSpent)
 
--- An index after a change of its documents or settings, where so many changes were accepted before, and the machine may be full.
+-- An index after a change of its documents or settings, where so many changes were accepted before, and the machine may
+-- be full.
 -- The key is tried, then the ids of the documents in their order, and then the limits: those of the machine, of
 -- internal ids and of paths.
 abbrev pub index_after : ℕ → Bool → Index → KindData → Result Index Refusal
 index_after before full old change =
     let key = id_member_for old.key change in
     do
-      plan ← core_result key (planned old change)
+      plan ← refused_as (core_refusal key) (planned old change)
       limits before full
-      core_result key (applied plan old)
+      refused_as (core_refusal key) (applied plan old)
 
 -- ---- changes
 
@@ -182,7 +177,10 @@ type_of reset = codes "settingsUpdate"
 abbrev pub changed : State → List ℕ → KindData → Result Step Refusal
 changed s uid kind = do
   es ← indexes_after s.changes s.indexes uid kind
-  Ok (record { answer = replies.accepted uid (type_of kind) s.changes; state = record { changes = s.changes + 1; indexes = es } })
+  Ok (record {
+    answer = replies.accepted uid (type_of kind) s.changes;
+    state = record { changes = s.changes + 1; indexes = es };
+  })
 
 -- ---- reads
 
@@ -193,12 +191,13 @@ slice offset limit xs = take limit (drop offset xs)
 abbrev pub index_rows : Indexes → List Data
 index_rows es = map (λ e. replies.index_data e.0 e.1.key) es
 
-abbrev pub core_call : SearchData → CoreCall
-core_call call = record { q = call.q; offset = call.offset; limit = call.limit }
+-- a hit, with its costs where the search asks for them
+abbrev pub hit_view : Bool → FoundHit → HitView
+hit_view costs hit = record { document = hit.document; costs = if costs then Some hit.costs else None }
 
 -- a hit shows the members that both the settings and the search name
-abbrev pub hits_answer : SearchData → SettingsView → Found → Answer
-hits_answer call s f = replies.hits call.q call.offset call.limit f.total (hits_shown s.displayed_attributes call.retrieve f.hits)
+abbrev pub hits_answer : SearchView → SettingsView → Found → Answer
+hits_answer call s f = replies.hits s.displayed_attributes call f.total (map (hit_view call.costs) f.hits)
 
 -- one equation a route
 abbrev pub answer_to : Indexes → ReadData → Result Answer Refusal
@@ -219,7 +218,7 @@ answer_to es (settings uid) = do
   Ok (replies.settings i.settings)
 answer_to es (search uid call) = do
   i ← index_named uid es
-  Ok (hits_answer call i.settings (found i (core_call call)))
+  Ok (hits_answer call i.settings (found i call))
 
 abbrev pub outcome : State → CallData → Result Step Refusal
 outcome s (write change) = changed s change.uid change.kind

@@ -10,13 +10,13 @@ use Rattle.index_core.specs.PlanView.{Work, PlanView}
 use Rattle.index_core.specs.PlanView as work
 use Rattle.index_core.specs.Plans.{planned, is_named}
 use Rattle.index_core.specs.Fetches.{needed}
-use Rattle.index_core.specs.Hits.{found}
-use Rattle.index_core.specs.declared.fault.CoreFault.{CoreFault}
+use Rattle.index_core.specs.Found.{found}
+use Rattle.index_core.specs.declared.refusal.CoreRefusal.{CoreRefusal}
 use Rattle.request_refusals.specs.declared.refusal.Refusal.{Refusal}
-use Rattle.search_calls.specs.Asked.{ReadData, health, indexes, index, documents, document, settings, search, CallData, write, read}
-use Rattle.search_calls.specs.Calls.{call_of}
+use Rattle.request_calls.specs.Asked.{ReadData, health, indexes, index, documents, document, settings, search, CallData, write, read}
+use Rattle.request_calls.specs.Calls.{call_of}
 use Rattle.search_routes.specs.State.{State, Indexes}
-use Rattle.search_routes.specs.Machine.{index_at, slice, core_call}
+use Rattle.search_routes.specs.Machine.{index_at, slice}
 
 -- ---- changes
 
@@ -35,9 +35,9 @@ work_need (work.patch members) i = needed (work.patch members) i
 work_need work.reset i = needed work.reset i
 
 -- a change that is refused by its key or its ids needs none
-abbrev pub plan_need : Result PlanView CoreFault → Index → ℕ
+abbrev pub plan_need : Result PlanView CoreRefusal → Index → ℕ
 plan_need (Ok plan) i = work_need plan.work i
-plan_need (Err fault) i = 0
+plan_need (Err why) i = 0
 
 abbrev pub documents_need : Index → KindData → ℕ
 documents_need i change = plan_need (planned i change) i
@@ -84,10 +84,11 @@ abbrev pub read_need : Indexes → ReadData → ℕ
 read_need es health = 0
 read_need es (indexes offset limit) = 0
 read_need es (index uid) = 0
-read_need es (documents uid offset limit fields) = there_need (index_at uid es) (λ i. length (slice offset limit (documents_in i)))
+read_need es (documents uid offset limit fields) =
+    there_need (index_at uid es) (λ i. length (slice offset limit (documents_in i)))
 read_need es (document uid id fields) = there_need (index_at uid es) (λ i. one_if_some (document_under id i.store.rows))
 read_need es (settings uid) = 0
-read_need es (search uid call) = there_need (index_at uid es) (λ i. length (found i (core_call call)).hits)
+read_need es (search uid call) = there_need (index_at uid es) (λ i. length (found i call).hits)
 
 -- ---- calls and requests
 

@@ -13,4 +13,6 @@ pub record State : Type 0 where
   pub indexes : Indexes
 
 abbrev pub state_code : Coded State
-state_code = code_by (ℕ × List (List ℕ × Index)) (coded× coded_ℕ (coded_list (coded× (coded_list coded_ℕ) index_code))) (λ s. (s.changes, s.indexes)) (λ p. record { changes = p.0; indexes = p.1 }) (λ _. refl)
+state_code =
+    code_by (ℕ × List (List ℕ × Index)) (coded× coded_ℕ (coded_list (coded× (coded_list coded_ℕ) index_code)))
+    (λ s. (s.changes, s.indexes)) (λ p. record { changes = p.0; indexes = p.1 }) (λ _. refl)

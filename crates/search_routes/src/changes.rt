@@ -5,25 +5,24 @@ ghost use Rattle.std.specs.Result.{result_unwrap_or};
 ghost use Rattle.doc_values.specs.Changes.{kind_view, create, drop_index};
 ghost use Rattle.doc_values.specs.Ids.{key_of};
 ghost use Rattle.index_core.specs.Index.{empty_index};
-ghost use Rattle.index_core.specs.Plans.{planned, applied};
+ghost use Rattle.index_core.specs.Plans.{planned, applied, IsPlanFor};
 ghost use Rattle.index_core.specs.Fetches.{needed};
-ghost use Rattle.request_refusals.specs.Gives.{Gives, Checks, Turns};
-ghost use Rattle.search_routes.specs.Done.{Grows, fault_of};
-ghost use Rattle.search_routes.specs.Machine.{id_member as id_member_of, id_member_for as id_member_of_change, core_result, limits, index_at, index_after, indexes_after, filled, emptied, type_of as type_in, most_changes};
+ghost use Rattle.request_replies.specs.Replies.{accepted};
+ghost use Rattle.search_base.specs.Gives.{Gives, Checks, Turns};
+ghost use Rattle.search_base.specs.Trying.{refused_as};
+ghost use Rattle.search_routes.specs.Done.{Grows};
+ghost use Rattle.search_routes.specs.Machine.{id_member as id_member_of, id_member_for as id_member_of_change, core_refusal, limits, index_at, index_after, indexes_after, filled, emptied, type_of as type_in, most_changes};
 ghost use Rattle.search_routes.specs.Needs.{change_need, documents_need, need_in};
-ghost use Rattle.search_routes.specs.Replies.{accepted};
 
-use crate::replies::accepted_reply;
-use doc_values::{Change, ChangeKind, DocumentText, KeyFault, infer_key};
+use crate::indexes::Indexes;
+use doc_values::{Change, ChangeKind, DocumentText, infer_key};
 use http_wire::Reply;
-use index_core::{CoreFault, IndexCore, Plan};
-use search_base::{NoMemory, Steps, Word};
-use search_calls::{Fault, Refusal, settings_fault};
+use index_core::{CoreRefusal, IndexCore, Plan};
+use request_calls::settings_fault;
+use request_refusals::Refusal;
+use request_replies::accepted_reply;
+use search_base::{Fault, NoMemory, Steps, Word};
 use std::alloc::Global;
-use std::collections::BTreeMap;
-
-/// The indexes of a machine, by their uids.
-pub(crate) type Indexes = BTreeMap<Word, IndexCore>;
 
 const MOST_CHANGES: u64 = 1_000_000_000;
 
@@ -37,7 +36,7 @@ pub(crate) fn change_indexes<F>(
     before: u64,
     change: Change,
     fetches: &mut Steps<F>,
-) -> Result<Reply, Fault>
+) -> Result<Reply, Fault<Refusal>>
     ensures grows { Grows (indexes_after before indexes.old.entries change.uid (kind_view change.kind))
         (accepted change.uid (type_in (kind_view change.kind)) before) indexes.old.entries result indexes.new.entries }
     ensures room { OnOk result (before < most_changes) }
@@ -89,14 +88,14 @@ fn create_index<F>(
     uid: Word,
     key: Option<Word>,
     fetches: &mut Steps<F>,
-) -> Result<Reply, Fault>
+) -> Result<Reply, Fault<Refusal>>
     ensures grows { Grows (indexes_after before indexes.old.entries uid (create key))
         (accepted uid (type_in (create key)) before) indexes.old.entries result indexes.new.entries }
     ensures room { OnOk result (before < most_changes) }
     ensures fetched { fetches.new ≤ fetches.old }
 {
     if indexes.contains_key(&uid) {
-        return Err(Fault::from(Refusal::IndexExists { uid }));
+        return Err(Fault::Refused(Refusal::IndexExists { uid }));
     }
     check_limits(before, indexes.len() >= MOST_INDEXES)?;
     let reply = accepted_reply(alloc, uid.as_str(), "indexCreation", before)?;
@@ -111,7 +110,8 @@ fn new_index<F>(
     key: Option<Word>,
     fetches: &mut Steps<F>,
 ) -> Result<IndexCore, NoMemory>
-    ensures index { IfOk result (λ index. index ≡ record { key = key; store = empty_index.store; settings = empty_index.settings }) }
+    ensures index { IfOk result (λ index. index
+        ≡ record { key = key; store = empty_index.store; settings = empty_index.settings }) }
     ensures fetched { fetches.new ≤ fetches.old }
 {
     let mut index = IndexCore::new(alloc)?;
@@ -130,13 +130,18 @@ fn new_index<F>(
 }
 
 // Takes an index away, with its documents.
-fn drop_named(alloc: Global, indexes: &mut Indexes, before: u64, uid: Word) -> Result<Reply, Fault>
+fn drop_named(
+    alloc: Global,
+    indexes: &mut Indexes,
+    before: u64,
+    uid: Word,
+) -> Result<Reply, Fault<Refusal>>
     ensures grows { Grows (indexes_after before indexes.old.entries uid drop_index)
         (accepted uid (type_in drop_index) before) indexes.old.entries result indexes.new.entries }
     ensures room { OnOk result (before < most_changes) }
 {
     if !indexes.contains_key(&uid) {
-        return Err(Fault::from(Refusal::NoIndex { uid }));
+        return Err(Fault::Refused(Refusal::NoIndex { uid }));
     }
     check_limits(before, false)?;
     let reply = accepted_reply(alloc, uid.as_str(), "indexDeletion", before)?;
@@ -152,7 +157,7 @@ fn fill<F>(
     uid: Word,
     change: ChangeKind,
     fetches: &mut Steps<F>,
-) -> Result<Reply, Fault>
+) -> Result<Reply, Fault<Refusal>>
     ensures grows { Grows (filled before indexes.old.entries uid (kind_view change))
         (accepted uid (type_in (kind_view change)) before) indexes.old.entries result indexes.new.entries }
     ensures room { OnOk result (before < most_changes) }
@@ -191,7 +196,7 @@ fn empty<F>(
     uid: Word,
     change: ChangeKind,
     fetches: &mut Steps<F>,
-) -> Result<Reply, Fault>
+) -> Result<Reply, Fault<Refusal>>
     ensures grows { Grows (emptied before indexes.old.entries uid (kind_view change))
         (accepted uid (type_in (kind_view change)) before) indexes.old.entries result indexes.new.entries }
     ensures room { OnOk result (before < most_changes) }
@@ -199,7 +204,7 @@ fn empty<F>(
 {
     match indexes.get_mut(&uid) {
         Some(index) => change_index(alloc, index, before, false, uid.as_str(), change, fetches),
-        None => Err(Fault::from(Refusal::NoIndex { uid })),
+        None => Err(Fault::Refused(Refusal::NoIndex { uid })),
     }
 }
 
@@ -212,7 +217,7 @@ fn change_index<F>(
     uid: &str,
     change: ChangeKind,
     fetches: &mut Steps<F>,
-) -> Result<Reply, Fault>
+) -> Result<Reply, Fault<Refusal>>
     ensures grows { Grows (index_after before is_full index.old (kind_view change))
         (accepted uid.now (type_in (kind_view change)) before) index.old result index.new }
     ensures room { OnOk result (before < most_changes) }
@@ -265,17 +270,25 @@ fn inferred_key(alloc: Global, first: &DocumentText) -> Result<Word, NoMemory>
     let document = first.document(alloc)?;
     match infer_key(alloc, &document) {
         Ok(key) => Ok(key),
-        Err(KeyFault::NoMemory) => Err(NoMemory),
-        Err(_) => Word::new(alloc, ""),
+        Err(Fault::Refused(_)) => Word::new(alloc, ""),
+        Err(Fault::NoMemory) => Err(NoMemory),
     }
 }
 
-fn plan_of(alloc: Global, index: &IndexCore, key: &Word, change: ChangeKind) -> Result<Plan, Fault>
-    ensures { Gives (λ plan. plan) result (core_result key.now (planned index.now (kind_view change))) }
+fn plan_of(
+    alloc: Global,
+    index: &IndexCore,
+    key: &Word,
+    change: ChangeKind,
+) -> Result<Plan, Fault<Refusal>>
+    ensures plan { Gives (λ plan. plan) result
+        (refused_as (core_refusal key.now) (planned index.now (kind_view change))) }
+    ensures fits { IfOk result (λ plan. IsPlanFor plan index.now) }
 {
     match index.plan(alloc, change) {
         Ok(plan) => Ok(plan),
-        Err(fault) => Err(fault_in(alloc, key, fault)),
+        Err(Fault::Refused(refusal)) => Err(refusal_of(alloc, key, refusal)),
+        Err(Fault::NoMemory) => Err(Fault::NoMemory),
     }
 }
 
@@ -285,52 +298,54 @@ fn apply<F>(
     key: &Word,
     plan: Plan,
     fetches: &mut Steps<F>,
-) -> Result<(), Fault>
-    ensures applied { Gives (λ _. index.new) result (core_result key.now (applied plan index.old)) }
+) -> Result<(), Fault<Refusal>>
+    requires { IsPlanFor plan index.old }
+    ensures applied { Gives (λ _. index.new) result (refused_as (core_refusal key.now) (applied plan index.old)) }
     ensures stays { OnErr result (index.new ≡ index.old) }
     ensures fetched { fetches.new ≤ fetches.old + needed plan.work index.old }
 {
     match index.apply(alloc, plan, fetches) {
         Ok(()) => Ok(()),
-        Err(fault) => Err(fault_in(alloc, key, fault)),
+        Err(Fault::Refused(refusal)) => Err(refusal_of(alloc, key, refusal)),
+        Err(Fault::NoMemory) => Err(Fault::NoMemory),
     }
 }
 
-fn check_limits(before: u64, is_full: bool) -> Result<(), Fault>
+fn check_limits(before: u64, is_full: bool) -> Result<(), Fault<Refusal>>
     ensures limits { Checks result (limits before is_full) }
     ensures room { OnOk result (before < most_changes) }
 {
     if before >= MOST_CHANGES {
-        return Err(Fault::from(Refusal::ChangesSpent));
+        return Err(Fault::Refused(Refusal::ChangesSpent));
     }
     if is_full {
-        return Err(Fault::from(Refusal::IndexesSpent));
+        return Err(Fault::Refused(Refusal::IndexesSpent));
     }
     Ok(())
 }
 
-// Why a change is not made, by the fault of its index, where documents have their ids under this key.
-fn fault_in(alloc: Global, key: &Word, fault: CoreFault) -> Fault
-    ensures { Turns (fault_of key.now fault) result }
+// Why a change is not made, by why its index refuses it, where documents have their ids under this key. The names that
+// the refusal says may want memory.
+fn refusal_of(alloc: Global, key: &Word, refusal: CoreRefusal) -> Fault<Refusal>
+    ensures { Turns (core_refusal key.now refusal) result }
 {
-    match fault {
-        CoreFault::KeyDiffers => Fault::from(Refusal::KeyDiffers),
-        CoreFault::NoCandidate => Fault::from(Refusal::NoCandidate),
-        CoreFault::SeveralCandidates => Fault::from(Refusal::SeveralCandidates),
-        CoreFault::MissingId { document } => missing_id(document, key),
-        CoreFault::BadId { document } => Fault::from(Refusal::BadId { document }),
-        CoreFault::IdsSpent => Fault::from(Refusal::IdsSpent),
-        CoreFault::PathsSpent => Fault::from(Refusal::PathsSpent),
-        CoreFault::Settings(fault) => settings_fault(alloc, fault),
-        CoreFault::NoMemory => Fault::NoMemory,
+    match refusal {
+        CoreRefusal::KeyDiffers => Fault::Refused(Refusal::KeyDiffers),
+        CoreRefusal::NoCandidate => Fault::Refused(Refusal::NoCandidate),
+        CoreRefusal::SeveralCandidates => Fault::Refused(Refusal::SeveralCandidates),
+        CoreRefusal::MissingId { document } => missing_id(document, key),
+        CoreRefusal::BadId { document } => Fault::Refused(Refusal::BadId { document }),
+        CoreRefusal::IdsSpent => Fault::Refused(Refusal::IdsSpent),
+        CoreRefusal::PathsSpent => Fault::Refused(Refusal::PathsSpent),
+        CoreRefusal::Settings(refusal) => settings_fault(alloc, refusal),
     }
 }
 
-fn missing_id(document: u32, key: &Word) -> Fault
-    ensures { Turns (Fault.Refused (Refusal.MissingId document key.now)) result }
+fn missing_id(document: u32, key: &Word) -> Fault<Refusal>
+    ensures { Turns (Refusal.MissingId document key.now) result }
 {
     match key.clone() {
-        Ok(key) => Fault::from(Refusal::MissingId { document, key }),
+        Ok(key) => Fault::Refused(Refusal::MissingId { document, key }),
         Err(_) => Fault::NoMemory,
     }
 }

@@ -1,23 +1,24 @@
 //! The plain machine of the search server: a call is performed, and has one reply.
 //!
 //! Promises: the reply to a request is that of `step` in specs/Machine.antt, and the machine's state follows it; or the
-//! reply is the constant one for want of memory, and the state stays. Contracts see `Machine` as a `State`: the number of
-//! accepted changes, and each index by its uid. Stands on index_core, which is one index, on search_calls, which reads a
-//! request into a call, on request_refusals for why a request is refused, on doc_values for documents and changes, and on
-//! http_wire for requests and replies.
+//! reply is the constant one for want of memory, and the state stays. Contracts see `Machine` as a `State`: the number
+//! of accepted changes, and each index by its uid. Stands on index_core, which is one index, on request_calls, which
+//! reads a request into a call, on request_refusals for why a request is refused, on request_replies for what is shown
+//! of what was done, on doc_values for documents and changes, and on http_wire for requests and replies.
 #![tactic(auto)]
 
 mod changes;
+mod indexes;
 mod laws;
 mod machine;
 mod performing;
-mod printing;
 mod reads;
-mod replies;
 #[cfg(test)]
 mod tests;
 
 pub use laws::{none_answers_503, what_is_accepted_is_counted};
 pub use machine::Machine;
 pub use performing::{answer, perform};
-pub use search_calls::{Call, ReadCall, Refusal, SearchCall, read_call};
+pub use request_calls::{Call, ReadCall, read_call};
+pub use request_refusals::Refusal;
+pub use search_call::SearchCall;

@@ -1,16 +1,18 @@
 ghost use Rattle.std.specs.Prelude.{◌≡◌, ◌+◌, ◌≤◌, IfOk};
 ghost use Rattle.doc_values.specs.Changes.{kind_view};
-ghost use Rattle.search_calls.specs.Asked.{read_view};
+ghost use Rattle.request_calls.specs.Asked.{read_view};
 ghost use Rattle.search_routes.specs.Done.{Sends, Steps as MakesStep};
 ghost use Rattle.search_routes.specs.Machine.{answer_to, changed, empty_state};
 ghost use Rattle.search_routes.specs.Needs.{change_need, read_need};
 
-use crate::changes::{Indexes, change_indexes};
+use crate::changes::change_indexes;
+use crate::indexes::Indexes;
 use crate::reads::read_indexes;
 use doc_values::Change;
 use http_wire::Reply;
-use search_base::{NoMemory, Steps};
-use search_calls::{Fault, ReadCall};
+use request_calls::ReadCall;
+use request_refusals::Refusal;
+use search_base::{Fault, NoMemory, Steps};
 use std::alloc::Global;
 use std::collections::BTreeMap;
 use std::marker::Model;
@@ -56,7 +58,7 @@ impl Machine {
         alloc: Global,
         change: Change,
         fetches: &mut Steps<F>,
-    ) -> Result<Reply, Fault>
+    ) -> Result<Reply, Fault<Refusal>>
         ensures step { MakesStep self.old (changed self.old change.uid (kind_view change.kind)) result self.new }
         ensures fetched { fetches.new ≤ fetches.old + change_need self.old.indexes change.uid (kind_view change.kind) }
     {
@@ -72,7 +74,7 @@ impl Machine {
         alloc: Global,
         call: ReadCall,
         fetches: &mut Steps<F>,
-    ) -> Result<Reply, Fault>
+    ) -> Result<Reply, Fault<Refusal>>
         ensures answer { Sends (answer_to self.now.indexes (read_view call)) result }
         ensures fetched { fetches.new ≤ fetches.old + read_need self.now.indexes (read_view call) }
     {

@@ -1,23 +1,24 @@
 ghost use Rattle.std.specs.Prelude.{◌≡◌, ◌+◌, ◌≤◌, Bool, IfOk};
 ghost use Rattle.http_wire.specs.Sent.{IsSentAs};
 ghost use Rattle.http_wire.specs.Wire.{request_of};
-ghost use Rattle.search_calls.specs.Calls.{IsCall, call_of};
-ghost use Rattle.request_refusals.specs.Refusals.{refused};
+ghost use Rattle.request_calls.specs.Calls.{IsCall, call_of};
+ghost use Rattle.request_calls.specs.Refusals.{refused};
 ghost use Rattle.search_routes.specs.Chosen.{or_memory, answer_of, state_after};
 ghost use Rattle.search_routes.specs.Done.{Answers, Performs, held_need};
 ghost use Rattle.search_routes.specs.Needs.{needed_fetches};
 
 use crate::machine::Machine;
 use http_wire::{Reply, Wire};
-use search_base::{NoMemory, Steps};
-use search_calls::{Call, Fault, Refusal, read_call, refusal_reply};
+use request_calls::{Call, read_call, refusal_reply};
+use request_refusals::Refusal;
+use search_base::{Fault, NoMemory, Steps};
 use std::alloc::Global;
 
 /// Answers one request.
 ///
-/// The reply and the state after it are those of `step` in specs/Machine.antt; or there was no memory, the reply says so
-/// and the machine is as it was. The request is let go, with its body, before its call is performed. `fetches` counts
-/// the stored documents that are read: at most those that the request needs, by specs/Needs.antt.
+/// The reply and the state after it are those of `step` in specs/Machine.antt; or there was no memory, the reply says
+/// so and the machine is as it was. The request is let go, with its body, before its call is performed. `fetches`
+/// counts the stored documents that are read: at most those that the request needs, by specs/Needs.antt.
 pub fn answer<F>(alloc: Global, machine: &mut Machine, wire: Wire, fetches: &mut Steps<F>) -> Reply
     ensures answered { (starved : Bool) × IsSentAs result (answer_of machine.old (request_of wire) starved)
         × (machine.new ≡ state_after machine.old (request_of wire) starved) }
@@ -60,12 +61,12 @@ pub fn perform<F>(alloc: Global, machine: &mut Machine, call: Call, fetches: &mu
 }
 
 // The reply to what was done, or to why it was not.
-fn reply_to(alloc: Global, done: Result<Reply, Fault>) -> Reply
+fn reply_to(alloc: Global, done: Result<Reply, Fault<Refusal>>) -> Reply
     ensures { Answers done result }
 {
     match done {
         Ok(reply) => reply,
-        Err(Fault::Refused { refusal }) => refusal_or_memory(alloc, &refusal),
+        Err(Fault::Refused(refusal)) => refusal_or_memory(alloc, &refusal),
         Err(Fault::NoMemory) => Reply::Memory,
     }
 }

@@ -1,21 +1,22 @@
 // The calls that change nothing, one function a route.
-ghost use Rattle.std.specs.Prelude.{◌≡◌, ◌+◌, ◌≤◌};
-ghost use Rattle.search_calls.specs.Asked.{read_view, search_view};
-ghost use Rattle.search_calls.specs.Asked as asked;
-ghost use Rattle.search_routes.specs.Done.{Sends};
-ghost use Rattle.search_routes.specs.Machine.{answer_to, core_call as core_call_of};
+ghost use Rattle.std.specs.Prelude.{◌≡◌, ◌+◌, ◌≤◌, IfOk, map};
+ghost use Rattle.request_calls.specs.Asked.{read_view};
+ghost use Rattle.request_calls.specs.Asked as asked;
+ghost use Rattle.search_routes.specs.Done.{Sends, hit_with};
+ghost use Rattle.search_routes.specs.Machine.{answer_to};
 ghost use Rattle.search_routes.specs.Needs.{read_need};
 
-use crate::changes::Indexes;
-use crate::printing::common_names;
-use crate::replies::{
-    document_reply, documents_reply, health_reply, hits_reply, index_reply, indexes_reply,
+use crate::indexes::{Indexes, index_named, index_values};
+use http_wire::Reply;
+use index_core::Hit as FoundHit;
+use request_calls::ReadCall;
+use request_refusals::Refusal;
+use request_replies::{
+    Hit, document_reply, documents_reply, health_reply, hits_reply, index_reply, list_reply,
     settings_reply,
 };
-use http_wire::Reply;
-use index_core::SearchCall as CoreCall;
-use search_base::{Steps, Word};
-use search_calls::{Fault, ReadCall, Refusal, SearchCall};
+use search_base::{Fault, NoMemory, Steps, Word};
+use search_call::SearchCall;
 use std::alloc::Global;
 
 /// Answers a call from the indexes. `fetches` counts the documents that are read.
@@ -24,52 +25,62 @@ pub(crate) fn read_indexes<F>(
     indexes: &Indexes,
     call: ReadCall,
     fetches: &mut Steps<F>,
-) -> Result<Reply, Fault>
+) -> Result<Reply, Fault<Refusal>>
     ensures answer { Sends (answer_to indexes.now.entries (read_view call)) result }
     ensures fetched { fetches.new ≤ fetches.old + read_need indexes.now.entries (read_view call) }
 {
     match call {
         ReadCall::Health => Ok(health_reply(alloc)?),
-        ReadCall::Indexes { offset, limit } => Ok(indexes_reply(alloc, offset, limit, indexes)?),
-        ReadCall::Index { uid } => show_index(alloc, indexes, uid),
+        ReadCall::Indexes { offset, limit } => list_indexes(alloc, indexes, offset, limit),
+        ReadCall::Index { uid } => show_index(alloc, indexes, &uid),
         ReadCall::Documents {
             uid,
             offset,
             limit,
             fields,
-        } => list_documents(alloc, indexes, uid, offset, limit, &fields, fetches),
+        } => list_documents(alloc, indexes, &uid, offset, limit, &fields, fetches),
         ReadCall::Document { uid, id, fields } => {
-            show_document(alloc, indexes, uid, id, &fields, fetches)
+            show_document(alloc, indexes, &uid, id, &fields, fetches)
         }
-        ReadCall::Settings { uid } => show_settings(alloc, indexes, uid),
-        ReadCall::Search { uid, call } => search(alloc, indexes, uid, call, fetches),
+        ReadCall::Settings { uid } => show_settings(alloc, indexes, &uid),
+        ReadCall::Search { uid, call } => search(alloc, indexes, &uid, &call, fetches),
     }
 }
 
-fn show_index(alloc: Global, indexes: &Indexes, uid: Word) -> Result<Reply, Fault>
-    ensures { Sends (answer_to indexes.now.entries (asked.index uid)) result }
+fn list_indexes(
+    alloc: Global,
+    indexes: &Indexes,
+    offset: u64,
+    limit: u64,
+) -> Result<Reply, Fault<Refusal>>
+    ensures { Sends (answer_to indexes.now.entries (asked.indexes offset limit)) result }
 {
-    let Some(index) = indexes.get(&uid) else {
-        return Err(Fault::from(Refusal::NoIndex { uid }));
-    };
+    let total = indexes.len() as u64;
+    let rows = index_values(alloc, offset, limit, indexes)?;
+    Ok(list_reply(alloc, offset, limit, rows, total)?)
+}
+
+fn show_index(alloc: Global, indexes: &Indexes, uid: &Word) -> Result<Reply, Fault<Refusal>>
+    ensures { Sends (answer_to indexes.now.entries (asked.index uid.now)) result }
+{
+    let index = index_named(indexes, uid)?;
     Ok(index_reply(alloc, uid.as_str(), index.key())?)
 }
 
 fn list_documents<F>(
     alloc: Global,
     indexes: &Indexes,
-    uid: Word,
+    uid: &Word,
     offset: u64,
     limit: u64,
     fields: &[Word],
     fetches: &mut Steps<F>,
-) -> Result<Reply, Fault>
-    ensures answer { Sends (answer_to indexes.now.entries (asked.documents uid offset limit fields.now)) result }
-    ensures fetched { fetches.new ≤ fetches.old + read_need indexes.now.entries (asked.documents uid offset limit fields.now) }
+) -> Result<Reply, Fault<Refusal>>
+    ensures answer { Sends (answer_to indexes.now.entries (asked.documents uid.now offset limit fields.now)) result }
+    ensures fetched { fetches.new
+        ≤ fetches.old + read_need indexes.now.entries (asked.documents uid.now offset limit fields.now) }
 {
-    let Some(index) = indexes.get(&uid) else {
-        return Err(Fault::from(Refusal::NoIndex { uid }));
-    };
+    let index = index_named(indexes, uid)?;
     let listing = index.list(alloc, offset, limit, fetches)?;
     Ok(documents_reply(
         alloc,
@@ -84,68 +95,61 @@ fn list_documents<F>(
 fn show_document<F>(
     alloc: Global,
     indexes: &Indexes,
-    uid: Word,
+    uid: &Word,
     id: Word,
     fields: &[Word],
     fetches: &mut Steps<F>,
-) -> Result<Reply, Fault>
-    ensures answer { Sends (answer_to indexes.now.entries (asked.document uid id fields.now)) result }
-    ensures fetched { fetches.new ≤ fetches.old + read_need indexes.now.entries (asked.document uid id fields.now) }
+) -> Result<Reply, Fault<Refusal>>
+    ensures answer { Sends (answer_to indexes.now.entries (asked.document uid.now id fields.now)) result }
+    ensures fetched { fetches.new ≤ fetches.old + read_need indexes.now.entries (asked.document uid.now id fields.now) }
 {
-    let Some(index) = indexes.get(&uid) else {
-        return Err(Fault::from(Refusal::NoIndex { uid }));
-    };
+    let index = index_named(indexes, uid)?;
     match index.get(&id, fetches) {
         Some(document) => Ok(document_reply(alloc, fields, document)?),
-        None => Err(Fault::from(Refusal::NoDocument { id })),
+        None => Err(Fault::Refused(Refusal::NoDocument { id })),
     }
 }
 
-fn show_settings(alloc: Global, indexes: &Indexes, uid: Word) -> Result<Reply, Fault>
-    ensures { Sends (answer_to indexes.now.entries (asked.settings uid)) result }
+fn show_settings(alloc: Global, indexes: &Indexes, uid: &Word) -> Result<Reply, Fault<Refusal>>
+    ensures { Sends (answer_to indexes.now.entries (asked.settings uid.now)) result }
 {
-    let Some(index) = indexes.get(&uid) else {
-        return Err(Fault::from(Refusal::NoIndex { uid }));
-    };
+    let index = index_named(indexes, uid)?;
     Ok(settings_reply(alloc, index.settings())?)
 }
 
 fn search<F>(
     alloc: Global,
     indexes: &Indexes,
-    uid: Word,
-    call: SearchCall,
+    uid: &Word,
+    call: &SearchCall,
     fetches: &mut Steps<F>,
-) -> Result<Reply, Fault>
-    ensures answer { Sends (answer_to indexes.now.entries (asked.search uid (search_view call))) result }
-    ensures fetched { fetches.new ≤ fetches.old + read_need indexes.now.entries (asked.search uid (search_view call)) }
+) -> Result<Reply, Fault<Refusal>>
+    ensures answer { Sends (answer_to indexes.now.entries (asked.search uid.now call.now)) result }
+    ensures fetched { fetches.new ≤ fetches.old + read_need indexes.now.entries (asked.search uid.now call.now) }
 {
-    let Some(index) = indexes.get(&uid) else {
-        return Err(Fault::from(Refusal::NoIndex { uid }));
-    };
+    let index = index_named(indexes, uid)?;
+    let found = index.search(alloc, call, fetches)?;
+    let hits = hits_with(alloc, found.hits, call.costs)?;
     let displayed = index.settings().displayed_attributes();
-    let names = common_names(alloc, displayed, &call.retrieve)?;
-    let call = core_call(call);
-    let found = index.search(alloc, &call, fetches)?;
-    Ok(hits_reply(
-        alloc,
-        call.q.as_str(),
-        call.offset,
-        call.limit,
-        &names,
-        found.total,
-        &found.hits,
-    )?)
+    Ok(hits_reply(alloc, call, displayed, found.total, &hits)?)
 }
 
-fn core_call(call: SearchCall) -> CoreCall
-    ensures { result ≡ core_call_of (search_view call) }
+// The hits as the reply has them, with their costs or without.
+fn hits_with<'a>(
+    alloc: Global,
+    found: Vec<FoundHit<'a>>,
+    costs: bool,
+) -> Result<Vec<Hit<'a>>, NoMemory>
+    ensures { IfOk result (λ hits. hits.items ≡ map (hit_with costs) found.entry.items) }
 {
-    let SearchCall {
-        q,
-        offset,
-        limit,
-        retrieve: _,
-    } = call;
-    CoreCall { q, offset, limit }
+    let mut hits = Vec::new(alloc);
+    for hit in found {
+        let FoundHit {
+            document,
+            costs: own,
+        } = hit;
+        let costs = if costs { Some(own) } else { None };
+        hits.push(Hit { document, costs })?;
+    }
+    Ok(hits)
 }

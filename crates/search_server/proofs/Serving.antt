@@ -1,5 +1,5 @@
 -- From turns to what serving a link did.
-use Rattle.std.proofs.Common.{◌≡◌, ℕ, ◌+◌, ◌-◌, ◌<◌, ◌≤◌, Bool, true, false, List, [], ◌∷◌, ◌++◌, length, Option, Some, None, IfSome, refl, ap, sym, ◌∙◌, subst, arith, inl, inr, append-nil}
+use Rattle.std.proofs.Common.{◌≡◌, ℕ, ◌+◌, ◌-◌, ◌<◌, ◌≤◌, Bool, true, false, List, [], ◌∷◌, ◌++◌, length, take, Option, Some, None, IfSome, refl, ap, sym, ◌∙◌, subst, arith, inl, inr, append-nil}
 use Rattle.std.specs.Io.KnownBytes.{prepend_known, append_known}
 use Rattle.std.proofs.lemmas.List.{length-append}
 use Rattle.std.proofs.lemmas.Grind.{flat_map-append}
@@ -10,10 +10,17 @@ use Rattle.http_wire.specs.declared.HeadKind.{HeadKind}
 use Rattle.search_routes.specs.State.{State}
 use Rattle.search_routes.specs.Chosen.{state_after}
 use Rattle.search_routes.specs.Needs.{needed_fetches}
-use Rattle.search_server.specs.Run.{Event, requests_of, replies, reply_to, after, needs, end_replies}
-use Rattle.search_server.specs.Turns.{Place, Replied, ReplyCut, NoneTaken, Quiet}
-use Rattle.search_server.proofs.Progress.{Progress}
-use Rattle.search_server.specs.Served.{join, Answers, FirstAnswers, CutAnswers, GivenAnswers, IsDone, IsUnfinished}
+use Rattle.search_server.specs.LinkState.{LinkState}
+use Rattle.search_server.specs.Run.{Event, requests_of, replies, reply_to, after, end_replies}
+use Rattle.search_server.specs.Turns.{Replied, ReplyCut, NoneTaken, Quiet, TurnIs, end_by}
+use Rattle.search_server.specs.declared.status.LinkEnd.{LinkEnd}
+use Rattle.search_server.specs.declared.turn.Turn.{Turn}
+use Rattle.search_server.specs.declared.turn.Turn.TheVariants as turn
+use Rattle.search_server.specs.declared.status.Status.{Status}
+use Rattle.search_server.specs.declared.status.Status.TheVariants as link
+use Rattle.search_server.specs.Statuses.{IsCaused}
+use Rattle.search_server.proofs.Progress.{Progress, LeftBy}
+use Rattle.search_server.specs.Served.{join, Went, Served, Answers, FirstAnswers, CutAnswers, GivenAnswers, IsUnfinished}
 use Rattle.search_server.proofs.Runs.{follows_more, replies_more, after_more, needs_more, requests_more, known_rest, given_of}
 use Rattle.http_wire.proofs.Writes.{append_known-append}
 
@@ -28,28 +35,28 @@ append_none : (known : Option (List ℕ)) → append_known known [] ≡ known
 append_none None = refl
 append_none (Some xs) = ap (λ (v : List ℕ). Some v) (append-nil xs)
 
-pub starts : (bytes : List ℕ) (pending told : Option (List ℕ)) (s : State) (f : ℕ) → pending ≡ Some bytes → Progress bytes told s f pending told s f 0 false
-starts bytes pending told s f e = record {
+went_nowhere : (s : LinkState) → Went s s 0 []
+went_nowhere s = record { state = refl; fetched = omega arith; count = refl }
+
+pub starts : (bytes : List ℕ) (start here : LinkState) → here.pending ≡ Some bytes → here.told ≡ start.told → here.state ≡ start.state
+    → here.fetches ≡ start.fetches → Progress bytes start here 0 false
+starts bytes start here pending told state fetches = record {
   events = [];
+  went = record { state = state; fetched = omega (arith, fetches); count = refl };
   rest = bytes;
-  pending_is = e;
+  pending_is = pending;
   follows = refl;
-  told_is = sym (append_none told);
-  state = refl;
-  fetched = omega arith;
-  count = refl;
+  told_is = told ∙ sym (append_none start.told);
 }
 
 -- a link from which nothing was read, and that was told nothing
-pub nothing_yet : (bytes : List ℕ) (told : Option (List ℕ)) (s : State) (f : ℕ) → FirstAnswers bytes told told s s f f 0
-nothing_yet bytes told s f = record {
+pub nothing_yet : (bytes : List ℕ) (s : LinkState) → FirstAnswers bytes s s 0
+nothing_yet bytes s = record {
   events = [];
+  went = went_nowhere s;
   stream = fresh bytes;
   follows = refl;
-  told = sym (append_none told);
-  state = refl;
-  fetched = omega arith;
-  count = refl;
+  told = sym (append_none s.told);
 }
 
 -- a request more, for a link that may bring more
@@ -58,11 +65,10 @@ pub record Longer (bytes : List ℕ) (events : List Event) (e : Event) (pending 
   pub pending_is : pending ≡ Some rest
   pub follows : Follows (fresh bytes) (requests_of (events ++ e ∷ [])) (record { left = most_requests - (n + 1); closed = e.request.closes; bytes = rest })
 
-pub longer : (bytes : List ℕ) (told0 : Option (List ℕ)) (s0 : State) (f0 : ℕ) (pending told : Option (List ℕ)) (s : State) (f n : ℕ) (e : Event) (after' : Option (List ℕ))
-    (p : Progress bytes told0 s0 f0 pending told s f n false) → n < most_requests
-    → (front : List ℕ) → pending ≡ prepend_known front after' → IsRequest front e.request → Longer bytes p.events e after' n
-longer bytes told0 s0 f0 pending told s f n e after' p less front at is =
-    let (r, later, all) = known_rest p.rest front after' (sym p.pending_is ∙ at) in
+longer : (bytes : List ℕ) (start here : LinkState) (n : ℕ) (e : Event) (later : Option (List ℕ)) (p : Progress bytes start here n false)
+    → n < most_requests → (front : List ℕ) → here.pending ≡ prepend_known front later → IsRequest front e.request → Longer bytes p.events e later n
+longer bytes start here n e later p less front at is =
+    let (r, after', all) = known_rest p.rest front later (sym p.pending_is ∙ at) in
     let t : Stream = record { left = most_requests - n; closed = false; bytes = p.rest } in
     let some : 0 < most_requests - n = omega arith in
     let more : Follows (fresh bytes) (requests_of p.events ++ e.request ∷ []) (after_request t e.request r) =
@@ -72,164 +78,134 @@ longer bytes told0 s0 f0 pending told s f n e after' p less front at is =
     let L : ℕ → Type 0 = λ v. Follows (fresh bytes) (requests_of p.events ++ e.request ∷ []) (record { left = v; closed = e.request.closes; bytes = r }) in
     record {
       rest = r;
-      pending_is = later;
+      pending_is = after';
       follows = subst F (sym (requests_more p.events e)) (subst L step more);
     }
 
 -- the reply to the next request
-pub next_reply : (s0 s : State) (n : ℕ) (events : List Event) (e : Event) → s ≡ after s0 events → n ≡ length events
+next_reply : (s0 s : State) (n : ℕ) (events : List Event) (e : Event) → s ≡ after s0 events → n ≡ length events
     → replies most_requests s0 (events ++ e ∷ []) ≡ replies most_requests s0 events ++ reply_to (most_requests - n) s e ∷ []
 next_reply s0 s n events e at count =
     replies_more most_requests s0 events e
     ∙ ap (λ m. replies most_requests s0 events ++ reply_to (most_requests - m) (after s0 events) e ∷ []) (sym count)
     ∙ ap (λ v. replies most_requests s0 events ++ reply_to (most_requests - n) v e ∷ []) (sym at)
 
--- the documents that were read for one request more
-fetched_more : (s0 : State) (f0 f1 f2 : ℕ) (events : List Event) (e : Event) (s : State) → s ≡ after s0 events → f1 ≤ f0 + needs s0 events
-    → f2 ≤ f1 + needed_fetches s e.request → f2 ≤ f0 + needs s0 (events ++ e ∷ [])
-fetched_more s0 f0 f1 f2 events e s at before now =
-    let all = needs_more s0 events e in
-    let here : needed_fetches s e.request ≡ needed_fetches (after s0 events) e.request = ap (λ v. needed_fetches v e.request) at in
-    omega (arith, all, here, before, now)
+-- the machine went through one event more
+went_more : (start here new : LinkState) (n : ℕ) (events : List Event) (e : Event) → Went start here n events
+    → new.state ≡ state_after here.state e.request e.starved → new.fetches ≤ here.fetches + needed_fetches here.state e.request
+    → Went start new (n + 1) (events ++ e ∷ [])
+went_more start here new n events e went state fetched =
+    let all = needs_more start.state events e in
+    let need : needed_fetches here.state e.request ≡ needed_fetches (after start.state events) e.request = ap (λ v. needed_fetches v e.request) went.state in
+    record {
+      state = state ∙ ap (λ v. state_after v e.request e.starved) went.state ∙ sym (after_more start.state events e);
+      fetched = omega (arith, all, need, went.fetched, fetched);
+      count = omega (arith, went.count, length-append events (e ∷ []));
+    }
 
-pub goes_on : (bytes : List ℕ) (told0 : Option (List ℕ)) (s0 : State) (f0 : ℕ) (old new : Place) (n : ℕ) (closes : Bool)
-    → Progress bytes told0 s0 f0 old.pending old.told old.state old.fetches n false → n < most_requests → Replied (most_requests - n) old new closes
-    → Progress bytes told0 s0 f0 new.pending new.told new.state new.fetches (n + 1) closes
-goes_on bytes told0 s0 f0 old new n closes p less r =
-    let e : Event = r.event in
-    let l : Longer bytes p.events r.event new.pending n = longer bytes told0 s0 f0 old.pending old.told old.state old.fetches n r.event new.pending p less r.takes.0 r.takes.1 r.takes.2 in
+-- it went no further
+went_so : (start here new : LinkState) (n : ℕ) (events : List Event) → Went start here n events → new.state ≡ here.state → new.fetches ≡ here.fetches
+    → Went start new n events
+went_so start here new n events went state fetches = record {
+  state = state ∙ went.state;
+  fetched = omega (arith, fetches, went.fetched);
+  count = went.count;
+}
+
+pub goes_on : (bytes : List ℕ) (start old new : LinkState) (n : ℕ) (closes : Bool) → Progress bytes start old n false → n < most_requests
+    → Replied (most_requests - n) old new closes → Progress bytes start new (n + 1) closes
+goes_on bytes start old new n closes p less r =
+    let l : Longer bytes p.events r.event new.pending n = longer bytes start old n r.event new.pending p less r.takes.0 r.takes.1 r.takes.2 in
     let F : Bool → Type 0 = λ v. Follows (fresh bytes) (requests_of (p.events ++ r.event ∷ [])) (record { left = most_requests - (n + 1); closed = v; bytes = l.rest }) in
     record {
       events = p.events ++ r.event ∷ [];
+      went = went_more start old new n p.events r.event p.went r.state r.fetched;
       rest = l.rest;
       pending_is = l.pending_is;
       follows = subst F r.closes_is l.follows;
-      told_is = join_more told0 old.told new.told (replies most_requests s0 p.events) (reply_to (most_requests - n) old.state r.event) p.told_is r.told
-          ∙ ap (λ v. append_known told0 (join v)) (sym (next_reply s0 old.state n p.events r.event p.state p.count));
-      state = r.state ∙ ap (λ v. state_after v r.event.request r.event.starved) p.state ∙ sym (after_more s0 p.events r.event);
-      fetched = fetched_more s0 f0 old.fetches new.fetches p.events r.event old.state p.state p.fetched r.fetched;
-      count = omega (arith, p.count, length-append p.events (r.event ∷ []));
+      told_is = join_more start.told old.told new.told (replies most_requests start.state p.events) (reply_to (most_requests - n) old.state r.event) p.told_is r.told
+          ∙ ap (λ v. append_known start.told (join v)) (sym (next_reply start.state old.state n p.events r.event p.went.state p.went.count));
     }
+
+-- ---- the ends
 
 -- what is known of the bytes that are left
 known_is : (pending : Option (List ℕ)) (xs : List ℕ) (P : List ℕ → Type 0) → pending ≡ Some xs → IfSome pending P → P xs
 known_is pending xs P e h = let Q : Option (List ℕ) → Type 0 = λ v. IfSome v P in subst Q e h
 
+-- with nothing more to write
+with_nothing : (told0 : Option (List ℕ)) (pieces : List (List ℕ)) (end : End) → end_replies end ≡ []
+    → append_known told0 (join pieces) ≡ append_known told0 (join (pieces ++ end_replies end))
+with_nothing told0 pieces end none =
+    ap (λ v. append_known told0 (join v)) (sym (append-nil pieces) ∙ ap (λ v. pieces ++ v) (sym none))
+
 -- the link ended with nothing more to write
-pub ended : (bytes : List ℕ) (told0 : Option (List ℕ)) (s0 : State) (f0 : ℕ) (pending told told1 : Option (List ℕ)) (s s1 : State) (f f1 n : ℕ) (closes : Bool) (end : End)
-    → (p : Progress bytes told0 s0 f0 pending told s f n closes) → Ends (record { left = most_requests - n; closed = closes; bytes = p.rest }) end → end_replies end ≡ []
-    → told1 ≡ told → s1 ≡ s → f1 ≡ f → Answers bytes told0 told1 s0 s1 f0 f1 n end
-ended bytes told0 s0 f0 pending told told1 s s1 f f1 n closes end p ends none same_told same same_fetches = record {
+ended : (bytes : List ℕ) (start here final : LinkState) (n : ℕ) (closes : Bool) (end : End) (p : Progress bytes start here n closes)
+    → Ends (record { left = most_requests - n; closed = closes; bytes = p.rest }) end → end_replies end ≡ []
+    → final.told ≡ here.told → final.state ≡ here.state → final.fetches ≡ here.fetches → Answers bytes start final n end
+ended bytes start here final n closes end p ends none told state fetches = record {
   events = p.events;
+  went = went_so start here final n p.events p.went state fetches;
   requests = (record { left = most_requests - n; closed = closes; bytes = p.rest }, p.follows, ends);
-  told = same_told ∙ p.told_is
-      ∙ ap (λ v. append_known told0 (join v)) (sym (append-nil (replies most_requests s0 p.events)) ∙ ap (λ v. replies most_requests s0 p.events ++ v) (sym none));
-  state = same ∙ p.state;
-  fetched = omega (arith, same_fetches, p.fetched);
-  count = p.count;
+  told = told ∙ p.told_is ∙ with_nothing start.told (replies most_requests start.state p.events) end none;
 }
 
 -- more requests may come
 awake : (n : ℕ) → n < most_requests → 0 < most_requests - n
 awake n less = omega arith
 
-pub ends_between : (bytes : List ℕ) (told0 : Option (List ℕ)) (s0 : State) (f0 : ℕ) (old new : Place) (n : ℕ)
-    → Progress bytes told0 s0 f0 old.pending old.told old.state old.fetches n false → n < most_requests → Quiet old new → IfSome old.pending IsBlank
-    → (end : End) × IsDone end × Answers bytes told0 new.told s0 new.state f0 new.fetches n end
-ends_between bytes told0 s0 f0 old new n p less q blank = (
-  between,
-  inl refl,
-  ended bytes told0 s0 f0 old.pending old.told new.told old.state new.state old.fetches new.fetches n false between p
-      ((refl, awake n less), known_is old.pending p.rest IsBlank p.pending_is blank) refl q.told q.none.state q.none.fetches,
-)
-
-pub ends_closed : (bytes : List ℕ) (told0 : Option (List ℕ)) (s0 : State) (f0 : ℕ) (pending told : Option (List ℕ)) (s : State) (f n : ℕ)
-    → Progress bytes told0 s0 f0 pending told s f n true
-    → (end : End) × IsDone end × Answers bytes told0 told s0 s f0 f n end
-ends_closed bytes told0 s0 f0 pending told s f n p =
-    (closed, inr refl, ended bytes told0 s0 f0 pending told told s s f f n true closed p refl refl refl refl refl)
-
-pub ends_spent : (bytes : List ℕ) (told0 : Option (List ℕ)) (s0 : State) (f0 : ℕ) (pending told : Option (List ℕ)) (s : State) (f n : ℕ)
-    → Progress bytes told0 s0 f0 pending told s f n false → n ≡ most_requests → Answers bytes told0 told s0 s f0 f most_requests spent
-ends_spent bytes told0 s0 f0 pending told s f n p e =
+pub ends_spent : (bytes : List ℕ) (start here final : LinkState) (n : ℕ) (kept : List ℕ) → Progress bytes start here n false → n ≡ most_requests
+    → LeftBy kept here final → Answers bytes start final most_requests spent
+ends_spent bytes start here final n kept p e l =
     let none : most_requests - n ≡ 0 = omega arith in
-    let A : ℕ → Type 0 = λ v. Answers bytes told0 told s0 s f0 f v spent in
-    subst A e (ended bytes told0 s0 f0 pending told told s s f f n false spent p (refl, none) refl refl refl refl)
+    let A : ℕ → Type 0 = λ v. Answers bytes start final v spent in
+    subst A e (ended bytes start here final n false spent p (refl, none) refl l.told l.state l.fetches)
 
-pub ends_rest : (bytes : List ℕ) (told0 : Option (List ℕ)) (s0 : State) (f0 : ℕ) (old new : Place) (n size : ℕ)
-    → Progress bytes told0 s0 f0 old.pending old.told old.state old.fetches n false → n < most_requests → Quiet old new
-    → IfSome old.pending (λ xs. IsPart xs × (size ≡ length xs)) → Answers bytes told0 new.told s0 new.state f0 new.fetches n (rest size)
-ends_rest bytes told0 s0 f0 old new n size p less q part =
-    let here : IsPart p.rest × (size ≡ length p.rest) = known_is old.pending p.rest (λ xs. IsPart xs × (size ≡ length xs)) p.pending_is part in
-    ended bytes told0 s0 f0 old.pending old.told new.told old.state new.state old.fetches new.fetches n false (rest size) p ((refl, awake n less), here.0, here.1) refl q.told q.none.state q.none.fetches
-
-pub ends_bad : (bytes : List ℕ) (told0 : Option (List ℕ)) (s0 : State) (f0 : ℕ) (old new : Place) (n : ℕ) (kind : HeadKind) (number : ℕ)
-    → Progress bytes told0 s0 f0 old.pending old.told old.state old.fetches n false → n < most_requests → NoneTaken old new
-    → IfSome old.pending (λ xs. IsBad xs kind number) → new.told ≡ append_known old.told (wire (refusal_answer kind) true)
-    → Answers bytes told0 new.told s0 new.state f0 new.fetches n (bad kind number)
-ends_bad bytes told0 s0 f0 old new n kind number p less q wrong told = record {
+bad_answers : (bytes : List ℕ) (start old new final : LinkState) (n : ℕ) (kind : HeadKind) (number : ℕ) (kept : List ℕ) → Progress bytes start old n false
+    → n < most_requests → NoneTaken old new → IfSome old.pending (λ xs. IsBad xs kind number)
+    → new.told ≡ append_known old.told (wire (refusal_answer kind) true) → LeftBy kept new final → Answers bytes start final n (bad kind number)
+bad_answers bytes start old new final n kind number kept p less q wrong told l = record {
   events = p.events;
+  went = went_so start old final n p.events p.went (l.state ∙ q.state) (l.fetches ∙ q.fetches);
   requests = (
     record { left = most_requests - n; closed = false; bytes = p.rest },
     p.follows,
     ((refl, awake n less), known_is old.pending p.rest (λ xs. IsBad xs kind number) p.pending_is wrong),
   );
-  told = join_more told0 old.told new.told (replies most_requests s0 p.events) (wire (refusal_answer kind) true) p.told_is told;
-  state = q.state ∙ p.state;
-  fetched = omega (arith, q.fetches, p.fetched);
-  count = p.count;
-}
-
-pub first_answers : (bytes : List ℕ) (told0 : Option (List ℕ)) (s0 : State) (f0 : ℕ) (old new : Place) (n : ℕ)
-    → Progress bytes told0 s0 f0 old.pending old.told old.state old.fetches n false → Quiet old new → FirstAnswers bytes told0 new.told s0 new.state f0 new.fetches n
-first_answers bytes told0 s0 f0 old new n p q = record {
-  events = p.events;
-  stream = record { left = most_requests - n; closed = false; bytes = p.rest };
-  follows = p.follows;
-  told = q.told ∙ p.told_is;
-  state = q.none.state ∙ p.state;
-  fetched = omega (arith, q.none.fetches, p.fetched);
-  count = p.count;
+  told = join_more start.told old.told final.told (replies most_requests start.state p.events) (wire (refusal_answer kind) true) p.told_is (l.told ∙ told);
 }
 
 -- the refusal of a head was cut short
-pub refusal_cut : (bytes : List ℕ) (told0 : Option (List ℕ)) (s0 : State) (f0 : ℕ) (old new : Place) (n : ℕ) (kind : HeadKind) (number : ℕ)
-    → Progress bytes told0 s0 f0 old.pending old.told old.state old.fetches n false → n < most_requests → NoneTaken old new
-    → IfSome old.pending (λ xs. IsBad xs kind number) → WrotePart old.told new.told (wire (refusal_answer kind) true)
-    → CutAnswers bytes told0 new.told s0 new.state f0 new.fetches n
-refusal_cut bytes told0 s0 f0 old new n kind number p less q wrong told =
-    let W : Option (List ℕ) → Type 0 = λ v. WrotePart v new.told (wire (refusal_answer kind) true) in
-    record {
-      events = p.events;
-      stream = record { left = most_requests - n; closed = false; bytes = p.rest };
-      follows = p.follows;
-      front = replies most_requests s0 p.events;
-      last = wire (refusal_answer kind) true;
-      outputs = inr (kind, number, ((refl, awake n less), known_is old.pending p.rest (λ xs. IsBad xs kind number) p.pending_is wrong), refl);
-      told = subst W p.told_is told;
-      state = q.state ∙ p.state;
-      fetched = omega (arith, q.fetches, p.fetched);
-      count = p.count;
-    }
+refusal_cut : (bytes : List ℕ) (start old new final : LinkState) (n : ℕ) (kind : HeadKind) (number : ℕ) (kept : List ℕ) → Progress bytes start old n false
+    → n < most_requests → NoneTaken old new → IfSome old.pending (λ xs. IsBad xs kind number)
+    → WrotePart old.told new.told (wire (refusal_answer kind) true) → LeftBy kept new final → CutAnswers bytes start final n
+refusal_cut bytes start old new final n kind number kept p less q wrong (size, short, told) l = record {
+  events = p.events;
+  went = went_so start old final n p.events p.went (l.state ∙ q.state) (l.fetches ∙ q.fetches);
+  stream = record { left = most_requests - n; closed = false; bytes = p.rest };
+  follows = p.follows;
+  front = replies most_requests start.state p.events;
+  last = wire (refusal_answer kind) true;
+  outputs = inr (kind, number, ((refl, awake n less), known_is old.pending p.rest (λ xs. IsBad xs kind number) p.pending_is wrong), refl);
+  told = (size, short, l.told ∙ told ∙ ap (λ v. append_known v (take size (wire (refusal_answer kind) true))) p.told_is);
+}
 
 -- a reply was cut short
-pub reply_cut : (bytes : List ℕ) (told0 : Option (List ℕ)) (s0 : State) (f0 : ℕ) (old new : Place) (n : ℕ)
-    → Progress bytes told0 s0 f0 old.pending old.told old.state old.fetches n false → n < most_requests → ReplyCut (most_requests - n) old new
-    → CutAnswers bytes told0 new.told s0 new.state f0 new.fetches (n + 1)
-reply_cut bytes told0 s0 f0 old new n p less r =
-    let l : Longer bytes p.events r.event new.pending n = longer bytes told0 s0 f0 old.pending old.told old.state old.fetches n r.event new.pending p less r.takes.0 r.takes.1 r.takes.2 in
-    let W : Option (List ℕ) → Type 0 = λ v. WrotePart v new.told (reply_to (most_requests - n) old.state r.event) in
+reply_cut : (bytes : List ℕ) (start old new final : LinkState) (n : ℕ) (kept : List ℕ) → Progress bytes start old n false → n < most_requests
+    → ReplyCut (most_requests - n) old new → LeftBy kept new final → CutAnswers bytes start final (n + 1)
+reply_cut bytes start old new final n kept p less r l =
+    let longer' : Longer bytes p.events r.event new.pending n = longer bytes start old n r.event new.pending p less r.takes.0 r.takes.1 r.takes.2 in
+    let went : Went start new (n + 1) (p.events ++ r.event ∷ []) = went_more start old new n p.events r.event p.went r.state r.fetched in
+    let (size, short, told) = r.told in
     record {
       events = p.events ++ r.event ∷ [];
-      stream = record { left = most_requests - (n + 1); closed = r.event.request.closes; bytes = l.rest };
-      follows = l.follows;
-      front = replies most_requests s0 p.events;
+      went = went_so start new final (n + 1) (p.events ++ r.event ∷ []) went l.state l.fetches;
+      stream = record { left = most_requests - (n + 1); closed = r.event.request.closes; bytes = longer'.rest };
+      follows = longer'.follows;
+      front = replies most_requests start.state p.events;
       last = reply_to (most_requests - n) old.state r.event;
-      outputs = inl (sym (next_reply s0 old.state n p.events r.event p.state p.count));
-      told = subst W p.told_is r.told;
-      state = r.state ∙ ap (λ v. state_after v r.event.request r.event.starved) p.state ∙ sym (after_more s0 p.events r.event);
-      fetched = fetched_more s0 f0 old.fetches new.fetches p.events r.event old.state p.state p.fetched r.fetched;
-      count = omega (arith, p.count, length-append p.events (r.event ∷ []));
+      outputs = inl (sym (next_reply start.state old.state n p.events r.event p.went.state p.went.count));
+      told = (size, short, l.told ∙ told ∙ ap (λ v. append_known v (take size (reply_to (most_requests - n) old.state r.event))) p.told_is);
     }
 
 -- an end for bytes that are open
@@ -239,11 +215,10 @@ open_end left bytes some (inl blank) = (between, inl refl, refl, ((refl, some), 
 open_end left bytes some (inr part) = (rest (length bytes), inr (length bytes, refl), refl, ((refl, some), part, refl))
 
 -- a read failed: the replies are those to all requests that came
-pub given_answers : (bytes : List ℕ) (told0 : Option (List ℕ)) (s0 : State) (f0 : ℕ) (old new : Place) (kept : List ℕ) (left1 : Option (List ℕ)) (n : ℕ)
-    → Progress bytes told0 s0 f0 old.pending old.told old.state old.fetches n false → n < most_requests → Quiet old new
-    → new.pending ≡ prepend_known kept left1 → IsOpen kept → GivenAnswers bytes told0 left1 new.told s0 new.state f0 new.fetches n
-given_answers bytes told0 s0 f0 old new kept left1 n p less q at opens =
-    let (more, left, all) = known_rest p.rest kept left1 (sym p.pending_is ∙ sym q.none.pending ∙ at) in
+given_answers : (bytes : List ℕ) (start old new final : LinkState) (n : ℕ) (kept : List ℕ) → Progress bytes start old n false → n < most_requests
+    → Quiet old new → IsOpen kept → LeftBy kept new final → GivenAnswers bytes start final n
+given_answers bytes start old new final n kept p less q opens l =
+    let (more, left, all) = known_rest p.rest kept final.pending (sym p.pending_is ∙ sym q.none.pending ∙ l.pending) in
     let (given, whole, follows) = given_of (fresh bytes) (record { left = most_requests - n; closed = false; bytes = p.rest }) (requests_of p.events) kept more p.follows all in
     let (end, unfinished, none, ends) = open_end (most_requests - n) kept (awake n less) opens in
     record {
@@ -255,11 +230,85 @@ given_answers bytes told0 s0 f0 old new kept left1 n p less q at opens =
       unfinished = unfinished;
       answers = record {
         events = p.events;
+        went = went_so start old final n p.events p.went (l.state ∙ q.none.state) (l.fetches ∙ q.none.fetches);
         requests = (record { left = most_requests - n; closed = false; bytes = kept }, follows, ends);
-        told = q.told ∙ p.told_is
-            ∙ ap (λ v. append_known told0 (join v)) (sym (append-nil (replies most_requests s0 p.events)) ∙ ap (λ v. replies most_requests s0 p.events ++ v) (sym none));
-        state = q.none.state ∙ p.state;
-        fetched = omega (arith, q.none.fetches, p.fetched);
-        count = p.count;
+        told = l.told ∙ q.told ∙ p.told_is ∙ with_nothing start.told (replies most_requests start.state p.events) end none;
       };
     }
+
+-- ---- a turn
+
+abbrev Promised : List ℕ → LinkState → LinkState → LinkEnd → Type 0
+Promised bytes start final end = Served bytes start final end.requests end.status
+
+as_end : (status : Status) (requests : ℕ) (end : LinkEnd) → (P : LinkEnd → Type 0) → Some (record { status = status; requests = requests }) ≡ Some end
+    → P (record { status = status; requests = requests }) → P end
+as_end status requests end P ends p = let same : record { status = status; requests = requests } ≡ end = cc in subst P same p
+
+-- what was written, by the turn that ended the link
+pub served_by : (bytes : List ℕ) (start old new final : LinkState) (n : ℕ) (kept : List ℕ) (t : Turn) (end : LinkEnd) → Progress bytes start old n false
+    → n < most_requests → TurnIs (most_requests - n) old new kept t → end_by n t ≡ Some end → LeftBy kept new final → Promised bytes start final end
+served_by bytes start old new final n kept turn.Next end p less is ends l = absurd (cc)
+served_by bytes start old new final n kept turn.Closed end p less is ends l =
+    let on = goes_on bytes start old new n true p less is in
+    as_end link.Done (n + 1) end (Promised bytes start final) ends (closed, inr refl, ended bytes start new final (n + 1) true closed on refl refl l.told l.state l.fetches)
+served_by bytes start old new final n kept turn.End end p less (q, blank) ends l =
+    as_end link.Done n end (Promised bytes start final) ends (
+      between,
+      inl refl,
+      ended bytes start old final n false between p ((refl, awake n less), known_is old.pending p.rest IsBlank p.pending_is blank) refl
+          (l.told ∙ q.told) (l.state ∙ q.none.state) (l.fetches ∙ q.none.fetches),
+    )
+served_by bytes start old new final n kept (turn.CutShort size) end p less (q, some, part) ends l =
+    let here : IsPart p.rest × (size ≡ length p.rest) = known_is old.pending p.rest (λ xs. IsPart xs × (size ≡ length xs)) p.pending_is part in
+    as_end (link.CutShort size) n end (Promised bytes start final) ends
+    (ended bytes start old final n false (rest size) p ((refl, awake n less), here.0, here.1) refl (l.told ∙ q.told) (l.state ∙ q.none.state) (l.fetches ∙ q.none.fetches))
+served_by bytes start old new final n kept (turn.Bad kind number) end p less (q, wrong, told) ends l =
+    as_end (link.BadHead kind number) n end (Promised bytes start final) ends (bad_answers bytes start old new final n kind number kept p less q wrong told l)
+served_by bytes start old new final n kept turn.ReadFault end p less (q, opens, rose) ends l =
+    as_end link.ReadFault n end (Promised bytes start final) ends (given_answers bytes start old new final n kept p less q opens l)
+served_by bytes start old new final n kept turn.ReplyFault end p less (r, rose) ends l =
+    as_end link.WriteFault (n + 1) end (Promised bytes start final) ends (reply_cut bytes start old new final n kept p less r l)
+served_by bytes start old new final n kept (turn.RefusalFault kind number) end p less (q, wrong, told, rose) ends l =
+    as_end link.WriteFault n end (Promised bytes start final) ends (refusal_cut bytes start old new final n kind number kept p less q wrong told l)
+served_by bytes start old new final n kept turn.NoMemory end p less q ends l =
+    as_end link.NoMemory n end (Promised bytes start final) ends (record {
+      events = p.events;
+      went = went_so start old final n p.events p.went (l.state ∙ q.none.state) (l.fetches ∙ q.none.fetches);
+      stream = record { left = most_requests - n; closed = false; bytes = p.rest };
+      follows = p.follows;
+      told = l.told ∙ q.told ∙ p.told_is;
+    })
+
+-- and by what cause
+abbrev Caused : LinkState → LinkState → LinkEnd → Type 0
+Caused start final end = IsCaused start final end.status
+
+pub caused_by : (start old new final : LinkState) (left n : ℕ) (kept : List ℕ) (t : Turn) (end : LinkEnd) → start.read_faults ≤ old.read_faults
+    → start.write_faults ≤ old.write_faults → TurnIs left old new kept t → end_by n t ≡ Some end → LeftBy kept new final → Caused start final end
+caused_by start old new final left n kept turn.Next end reads writes is ends l = absurd (cc)
+caused_by start old new final left n kept turn.Closed end reads writes is ends l = as_end link.Done (n + 1) end (Caused start final) ends tt
+caused_by start old new final left n kept turn.End end reads writes is ends l = as_end link.Done n end (Caused start final) ends tt
+caused_by start old new final left n kept (turn.CutShort size) end reads writes (q, some, part) ends l =
+    as_end (link.CutShort size) n end (Caused start final) ends some
+caused_by start old new final left n kept (turn.Bad kind number) end reads writes is ends l =
+    as_end (link.BadHead kind number) n end (Caused start final) ends tt
+caused_by start old new final left n kept turn.ReadFault end reads writes (q, opens, rose) ends l =
+    as_end link.ReadFault n end (Caused start final) ends (omega (arith, rose, reads, l.read_faults))
+caused_by start old new final left n kept turn.ReplyFault end reads writes (r, rose) ends l =
+    as_end link.WriteFault (n + 1) end (Caused start final) ends (omega (arith, rose, writes, l.write_faults))
+caused_by start old new final left n kept (turn.RefusalFault kind number) end reads writes (q, wrong, told, rose) ends l =
+    as_end link.WriteFault n end (Caused start final) ends (omega (arith, rose, writes, l.write_faults))
+caused_by start old new final left n kept turn.NoMemory end reads writes is ends l = as_end link.NoMemory n end (Caused start final) ends tt
+
+-- a turn after which a link goes on
+pub replied_by : (old new : LinkState) (left n : ℕ) (kept : List ℕ) (t : Turn) → TurnIs left old new kept t → end_by n t ≡ None → Replied left old new false
+replied_by old new left n kept turn.Next is ends = is
+replied_by old new left n kept turn.Closed is ends = absurd (cc)
+replied_by old new left n kept turn.End is ends = absurd (cc)
+replied_by old new left n kept (turn.CutShort size) is ends = absurd (cc)
+replied_by old new left n kept (turn.Bad kind number) is ends = absurd (cc)
+replied_by old new left n kept turn.ReadFault is ends = absurd (cc)
+replied_by old new left n kept turn.ReplyFault is ends = absurd (cc)
+replied_by old new left n kept (turn.RefusalFault kind number) is ends = absurd (cc)
+replied_by old new left n kept turn.NoMemory is ends = absurd (cc)

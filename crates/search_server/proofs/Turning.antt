@@ -21,12 +21,12 @@ sent_reply : (left : ℕ) (old new : State) (q : Request) (reply : Reply) (says 
     → says ≡ says_close left q → sent reply says ≡ reply_to left old (record { request = q; starved = p.0 })
 sent_reply left old new q reply says p e = p.1.each says ∙ ap (λ v. wire (answer_of old q p.0) v) e
 
-pub turn_replied : (left : ℕ) (pending : Option (List ℕ)) (kept : List ℕ) (left1 left2 told0 told1 told2 : Option (List ℕ)) (s0 s1 : State) (f0 f1 : ℕ)
+pub turn_replied : (left : ℕ) (pending : Option (List ℕ)) (kept : List ℕ) (left1 left2 told0 told1 told2 : Option (List ℕ)) (s0 s1 : State) (f0 f1 r0 r1 w0 w1 : ℕ)
     (q : Request) (reply : Reply) (says closes : Bool) → Performed s0 q s1 reply → f1 ≤ f0 + needed_fetches s0 q
     → TakesFront pending q (prepend_known kept left1) → told1 ≡ told0 → left2 ≡ left1 → says ≡ says_close left q
     → told2 ≡ append_known told1 (sent reply says) → q.closes ≡ closes
-    → Replied left (record { pending = pending; told = told0; state = s0; fetches = f0 }) (record { pending = prepend_known kept left2; told = told2; state = s1; fetches = f1 }) closes
-turn_replied left pending kept left1 left2 told0 told1 told2 s0 s1 f0 f1 q reply says closes p fetched takes same stays e told is =
+    → Replied left (record { pending = pending; told = told0; state = s0; fetches = f0; read_faults = r0; write_faults = w0 }) (record { pending = prepend_known kept left2; told = told2; state = s1; fetches = f1; read_faults = r1; write_faults = w1 }) closes
+turn_replied left pending kept left1 left2 told0 told1 told2 s0 s1 f0 f1 r0 r1 w0 w1 q reply says closes p fetched takes same stays e told is =
     let T : Option (List ℕ) → Type 0 = λ v. TakesFront pending q (prepend_known kept v) in
     let W : List ℕ → Type 0 = λ v. told2 ≡ append_known told0 v in
     let A : Option (List ℕ) → Type 0 = λ v. told2 ≡ append_known v (sent reply says) in
@@ -39,12 +39,12 @@ turn_replied left pending kept left1 left2 told0 told1 told2 s0 s1 f0 f1 q reply
       closes_is = is;
     }
 
-pub turn_cut : (left : ℕ) (pending : Option (List ℕ)) (kept : List ℕ) (left1 left2 told0 told1 told2 : Option (List ℕ)) (s0 s1 : State) (f0 f1 : ℕ)
+pub turn_cut : (left : ℕ) (pending : Option (List ℕ)) (kept : List ℕ) (left1 left2 told0 told1 told2 : Option (List ℕ)) (s0 s1 : State) (f0 f1 r0 r1 w0 w1 : ℕ)
     (q : Request) (reply : Reply) (says : Bool) → Performed s0 q s1 reply → f1 ≤ f0 + needed_fetches s0 q
     → TakesFront pending q (prepend_known kept left1) → told1 ≡ told0 → left2 ≡ left1 → says ≡ says_close left q
     → WrotePart told1 told2 (sent reply says)
-    → ReplyCut left (record { pending = pending; told = told0; state = s0; fetches = f0 }) (record { pending = prepend_known kept left2; told = told2; state = s1; fetches = f1 })
-turn_cut left pending kept left1 left2 told0 told1 told2 s0 s1 f0 f1 q reply says p fetched takes same stays e told =
+    → ReplyCut left (record { pending = pending; told = told0; state = s0; fetches = f0; read_faults = r0; write_faults = w0 }) (record { pending = prepend_known kept left2; told = told2; state = s1; fetches = f1; read_faults = r1; write_faults = w1 })
+turn_cut left pending kept left1 left2 told0 told1 told2 s0 s1 f0 f1 r0 r1 w0 w1 q reply says p fetched takes same stays e told =
     let T : Option (List ℕ) → Type 0 = λ v. TakesFront pending q (prepend_known kept v) in
     let W : List ℕ → Type 0 = λ v. WrotePart told0 told2 v in
     let A : Option (List ℕ) → Type 0 = λ v. WrotePart v told2 (sent reply says) in

@@ -1,4 +1,5 @@
 -- What serving a link is.
+pub mod LinkState
 pub mod Run
 pub mod Served
 pub mod Statuses

@@ -1,9 +1,8 @@
 // The words of the command line.
-ghost use Rattle.std.specs.Prelude.{◌≡◌, ◌↔◌, ◌≤◌, ℕ, List, Some, IsTrue};
+ghost use Rattle.std.specs.Prelude.{◌≡◌, ◌↔◌, ◌≤◌, ℕ, IsTrue};
 ghost use Rattle.search_routes.specs.State.{State};
 ghost use Rattle.search_routes.specs.Machine.{empty_state};
-ghost use Rattle.search_server.specs.Served.{Served};
-ghost use Rattle.search_server.specs.Statuses.{IsCaused};
+ghost use Rattle.search_server.specs.Served.{Serves};
 ghost use Rattle.search_server.specs.Words.{IsPipe};
 
 use crate::{Status, serve_link};
@@ -24,9 +23,24 @@ fn is_pipe(words: &[String]) -> bool
 
 // Serves a link from a machine that holds nothing.
 fn serve_anew<P: Link, F>(alloc: Global, pipe: &mut P, fetches: &mut Steps<F>) -> Status
-    ensures promise { (bytes : List ℕ) → P.left pipe.old ≡ Some bytes → (end : State) × (requests : ℕ)
-        × Served bytes (P.told pipe.old) empty_state fetches.old (P.left pipe.new) (P.told pipe.new) end fetches.new result requests }
-    ensures cause { IsCaused (P.read_faults pipe.old) (P.read_faults pipe.new) (P.write_faults pipe.old) (P.write_faults pipe.new) result }
+    ensures promise { (end : State) × (requests : ℕ) × Serves
+        (record {
+          pending = P.left pipe.old;
+          told = P.told pipe.old;
+          state = empty_state;
+          fetches = fetches.old;
+          read_faults = P.read_faults pipe.old;
+          write_faults = P.write_faults pipe.old;
+        })
+        (record {
+          pending = P.left pipe.new;
+          told = P.told pipe.new;
+          state = end;
+          fetches = fetches.new;
+          read_faults = P.read_faults pipe.new;
+          write_faults = P.write_faults pipe.new;
+        })
+        (record { status = result; requests = requests }) }
     ensures read_later { P.read_faults pipe.old ≤ P.read_faults pipe.new }
     ensures write_later { P.write_faults pipe.old ≤ P.write_faults pipe.new }
 {
@@ -49,10 +63,24 @@ pub fn run_search_server<P: Link, F>(
 ) -> Status
     ensures bad_words { (result ≡ Status.BadWords) ↔ ¬ (IsPipe words.now) }
     ensures untouched { ¬ (IsPipe words.now) → (pipe.new ≡ pipe.old) × (fetches.new ≡ fetches.old) }
-    ensures promise { IsPipe words.now → (bytes : List ℕ) → P.left pipe.old ≡ Some bytes → (end : State) × (requests : ℕ)
-        × Served bytes (P.told pipe.old) empty_state fetches.old (P.left pipe.new) (P.told pipe.new) end fetches.new result requests }
-    ensures cause { IsPipe words.now
-        → IsCaused (P.read_faults pipe.old) (P.read_faults pipe.new) (P.write_faults pipe.old) (P.write_faults pipe.new) result }
+    ensures promise { IsPipe words.now → (end : State) × (requests : ℕ) × Serves
+        (record {
+          pending = P.left pipe.old;
+          told = P.told pipe.old;
+          state = empty_state;
+          fetches = fetches.old;
+          read_faults = P.read_faults pipe.old;
+          write_faults = P.write_faults pipe.old;
+        })
+        (record {
+          pending = P.left pipe.new;
+          told = P.told pipe.new;
+          state = end;
+          fetches = fetches.new;
+          read_faults = P.read_faults pipe.new;
+          write_faults = P.write_faults pipe.new;
+        })
+        (record { status = result; requests = requests }) }
     ensures read_later { P.read_faults pipe.old ≤ P.read_faults pipe.new }
     ensures write_later { P.write_faults pipe.old ≤ P.write_faults pipe.new }
 {

@@ -1,9 +1,8 @@
 // The loop over one link.
-ghost use Rattle.std.specs.Prelude.{◌≡◌, ◌≤◌, ℕ, List, Some};
-ghost use Rattle.search_server.specs.Served.{Served};
-ghost use Rattle.search_server.specs.Statuses.{IsCaused};
+ghost use Rattle.std.specs.Prelude.{◌≤◌};
+ghost use Rattle.search_server.specs.Served.{Serves};
 
-use crate::turn::{Turn, serve_one};
+use crate::turn::serve_one;
 use crate::{LinkEnd, Status};
 use http_wire::Kept;
 use outside_io::Link;
@@ -28,10 +27,24 @@ pub fn serve_link<P: Link, F>(
     link: &mut P,
     fetches: &mut Steps<F>,
 ) -> LinkEnd
-    ensures promise { (bytes : List ℕ) → P.left link.old ≡ Some bytes
-        → Served bytes (P.told link.old) machine.old fetches.old
-        (P.left link.new) (P.told link.new) machine.new fetches.new result.status result.requests }
-    ensures cause { IsCaused (P.read_faults link.old) (P.read_faults link.new) (P.write_faults link.old) (P.write_faults link.new) result.status }
+    ensures promise { Serves
+        (record {
+          pending = P.left link.old;
+          told = P.told link.old;
+          state = machine.old;
+          fetches = fetches.old;
+          read_faults = P.read_faults link.old;
+          write_faults = P.write_faults link.old;
+        })
+        (record {
+          pending = P.left link.new;
+          told = P.told link.new;
+          state = machine.new;
+          fetches = fetches.new;
+          read_faults = P.read_faults link.new;
+          write_faults = P.write_faults link.new;
+        })
+        result }
     ensures requests { result.requests ≤ 1000000 }
     ensures read_later { P.read_faults link.old ≤ P.read_faults link.new }
     ensures write_later { P.write_faults link.old ≤ P.write_faults link.new }
@@ -43,63 +56,10 @@ pub fn serve_link<P: Link, F>(
         };
     };
     for served in 0..MOST_REQUESTS {
-        match serve_one(
-            alloc,
-            machine,
-            link,
-            &mut kept,
-            MOST_REQUESTS - served,
-            fetches,
-        ) {
-            Turn::Next => {}
-            Turn::Closed => {
-                return LinkEnd {
-                    status: Status::Done,
-                    requests: served + 1,
-                };
-            }
-            Turn::End => {
-                return LinkEnd {
-                    status: Status::Done,
-                    requests: served,
-                };
-            }
-            Turn::CutShort { rest } => {
-                return LinkEnd {
-                    status: Status::CutShort { rest },
-                    requests: served,
-                };
-            }
-            Turn::Bad { kind, number } => {
-                return LinkEnd {
-                    status: Status::BadHead { kind, number },
-                    requests: served,
-                };
-            }
-            Turn::ReadFault => {
-                return LinkEnd {
-                    status: Status::ReadFault,
-                    requests: served,
-                };
-            }
-            Turn::ReplyFault => {
-                return LinkEnd {
-                    status: Status::WriteFault,
-                    requests: served + 1,
-                };
-            }
-            Turn::RefusalFault { .. } => {
-                return LinkEnd {
-                    status: Status::WriteFault,
-                    requests: served,
-                };
-            }
-            Turn::NoMemory => {
-                return LinkEnd {
-                    status: Status::NoMemory,
-                    requests: served,
-                };
-            }
+        let left = MOST_REQUESTS - served;
+        let turn = serve_one(alloc, machine, link, &mut kept, left, fetches);
+        if let Some(end) = turn.end(served) {
+            return end;
         }
     }
     LinkEnd {

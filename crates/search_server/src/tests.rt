@@ -10,16 +10,31 @@ use std::str;
 use std::test::Fail;
 
 const ADD_AND_SEARCH: &[u8] =
-    b"POST /indexes/m/documents HTTP/1.1\r\ncontent-length: 254\r\n\r\n[{\"id\":1,\"title\":\"The Dark Knight\",\"year\":2008,\"genres\":[\"Action\",\"Drama\"]},{\"id\":2,\"title\":\"Dark Knight Rises\",\"year\":2012,\"genres\":[\"Action\"]},{\"id\":3,\"title\":\"Knight of the Dark\",\"year\":1999},{\"id\":4,\"title\":\"Darkness\",\"year\":2002,\"genres\":[\"drama\"]}]POST /indexes/m/search HTTP/1.1\r\ncontent-length: 2\r\n\r\n{}";
+    b"POST /indexes/m/documents HTTP/1.1\r\ncontent-length: 254\r\n\r\n[{\"id\":1,\
+    \"title\":\"The Dark Knight\",\"year\":2008,\"genres\":[\"Action\",\"Drama\"]\
+    },{\"id\":2,\"title\":\"Dark Knight Rises\",\"year\":2012,\"genres\":[\"Action\"]\
+    },{\"id\":3,\"title\":\"Knight of the Dark\",\"year\":1999},{\"id\":4,\"title\":\"Darkness\",\
+    \"year\":2002,\"genres\":[\"drama\"]}]POST /indexes/m/search HTTP/1.1\r\n\
+    content-length: 2\r\n\r\n{}";
 
 const ADDED_AND_FOUND: &[u8] =
-    b"HTTP/1.1 202 Accepted\r\ncontent-length: 83\r\ncontent-type: application/json\r\n\r\n{\"indexUid\":\"m\",\"status\":\"succeeded\",\"taskUid\":0,\"type\":\"documentAdditionOrUpdate\"}HTTP/1.1 200 OK\r\ncontent-length: 319\r\ncontent-type: application/json\r\n\r\n{\"estimatedTotalHits\":4,\"hits\":[{\"genres\":[\"Action\",\"Drama\"],\"id\":1,\"title\":\"The Dark Knight\",\"year\":2008},{\"genres\":[\"Action\"],\"id\":2,\"title\":\"Dark Knight Rises\",\"year\":2012},{\"id\":3,\"title\":\"Knight of the Dark\",\"year\":1999},{\"genres\":[\"drama\"],\"id\":4,\"title\":\"Darkness\",\"year\":2002}],\"limit\":20,\"offset\":0,\"query\":\"\"}";
+    b"HTTP/1.1 202 Accepted\r\ncontent-length: 83\r\ncontent-type: application/json\r\n\
+    \r\n{\"indexUid\":\"m\",\"status\":\"succeeded\",\"taskUid\":0,\"type\":\"documentAdditionOrUpdate\"}HTT\
+    P/1.1 200 OK\r\ncontent-length: 319\r\ncontent-type: application/json\r\n\
+    \r\n{\"estimatedTotalHits\":4,\"hits\":[{\"genres\":[\"Action\",\"Drama\"]\
+    ,\"id\":1,\"title\":\"The Dark Knight\",\"year\":2008},{\"genres\":[\"Action\"]\
+    ,\"id\":2,\"title\":\"Dark Knight Rises\",\"year\":2012},{\"id\":3,\"title\":\"Knight of the Dark\",\
+    \"year\":1999},{\"genres\":[\"drama\"],\"id\":4,\"title\":\"Darkness\",\"year\":2002}]\
+    ,\"limit\":20,\"offset\":0,\"query\":\"\"}";
 
 const NO_ROUTE: &[u8] =
-    b"HTTP/1.1 404 Not Found\r\ncontent-length: 72\r\ncontent-type: application/json\r\n\r\n{\"code\":\"not_found\",\"message\":\"No such route.\",\"type\":\"invalid_request\"}";
+    b"HTTP/1.1 404 Not Found\r\ncontent-length: 72\r\ncontent-type: application/json\r\n\
+    \r\n{\"code\":\"not_found\",\"message\":\"No such route.\",\"type\":\"invalid_request\"}";
 
 const NO_LENGTH: &[u8] =
-    b"HTTP/1.1 411 Length Required\r\ncontent-length: 80\r\ncontent-type: application/json\r\nconnection: close\r\n\r\n{\"code\":\"length_required\",\"message\":\"Length required.\",\"type\":\"invalid_request\"}";
+    b"HTTP/1.1 411 Length Required\r\ncontent-length: 80\r\ncontent-type: application/json\r\n\
+    connection: close\r\n\r\n{\"code\":\"length_required\",\"message\":\"Length required.\",\
+    \"type\":\"invalid_request\"}";
 
 // Serves a link that gives these bytes, at most so many at a time, and fails at these calls.
 fn serve(

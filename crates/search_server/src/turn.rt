@@ -1,8 +1,9 @@
 // One turn of a link: one request and its reply.
-ghost use Rattle.std.specs.Prelude.{◌≡◌, ◌==◌, ◌||◌, ◌≤◌};
+ghost use Rattle.std.specs.Prelude.{◌≡◌, ◌==◌, ◌||◌, ◌<◌, ◌≤◌};
 ghost use Rattle.std.specs.Io.KnownBytes.{prepend_known};
-ghost use Rattle.search_server.specs.Turns.{TurnIs};
+ghost use Rattle.search_server.specs.Turns.{TurnIs, end_by};
 
+use crate::{LinkEnd, Status};
 use http_wire::{HeadKind, Kept, WireEnd, read_request, write_refusal, write_reply};
 use outside_io::{Failed, Link};
 use search_base::Steps;
@@ -28,6 +29,27 @@ pub enum Turn {
     NoMemory,
 }
 
+impl Turn {
+    /// How a link ends by this turn, where `before` requests were read before it. None where another request may come.
+    pub fn end(self, before: u64) -> Option<LinkEnd>
+        requires { before < 1000000 }
+        ensures { result ≡ end_by before self }
+    {
+        let (status, requests) = match self {
+            Turn::Next => return None,
+            Turn::Closed => (Status::Done, before + 1),
+            Turn::End => (Status::Done, before),
+            Turn::CutShort { rest } => (Status::CutShort { rest }, before),
+            Turn::Bad { kind, number } => (Status::BadHead { kind, number }, before),
+            Turn::ReadFault => (Status::ReadFault, before),
+            Turn::ReplyFault => (Status::WriteFault, before + 1),
+            Turn::RefusalFault { .. } => (Status::WriteFault, before),
+            Turn::NoMemory => (Status::NoMemory, before),
+        };
+        Some(LinkEnd { status, requests })
+    }
+}
+
 // Whether a reply says that the link closes, where `left` requests may still come.
 fn says_close(closes: bool, left: u64) -> bool
     ensures { result ≡ (closes || left == 1) }
@@ -45,9 +67,23 @@ pub fn serve_one<P: Link, F>(
     fetches: &mut Steps<F>,
 ) -> Turn
     ensures turn { TurnIs left
-        (record { pending = prepend_known kept.old (P.left link.old); told = P.told link.old; state = machine.old; fetches = fetches.old })
-        (record { pending = prepend_known kept.new (P.left link.new); told = P.told link.new; state = machine.new; fetches = fetches.new })
-        kept.new (P.read_faults link.old) (P.read_faults link.new) (P.write_faults link.old) (P.write_faults link.new) result }
+        (record {
+          pending = prepend_known kept.old (P.left link.old);
+          told = P.told link.old;
+          state = machine.old;
+          fetches = fetches.old;
+          read_faults = P.read_faults link.old;
+          write_faults = P.write_faults link.old;
+        })
+        (record {
+          pending = prepend_known kept.new (P.left link.new);
+          told = P.told link.new;
+          state = machine.new;
+          fetches = fetches.new;
+          read_faults = P.read_faults link.new;
+          write_faults = P.write_faults link.new;
+        })
+        kept.new result }
     ensures read_later { P.read_faults link.old ≤ P.read_faults link.new }
     ensures write_later { P.write_faults link.old ≤ P.write_faults link.new }
 {

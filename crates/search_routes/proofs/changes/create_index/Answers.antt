@@ -1,7 +1,7 @@
 use Rattle.std.proofs.Common.{Ok, sym, ap, ◌∙◌, subst, codes}
 use Rattle.std.specs.Prelude.{nat_le}
 use Rattle.http_wire.specs.Sent.{IsSentAs}
-use Rattle.search_routes.specs.Replies.{accepted}
+use Rattle.request_replies.specs.Replies.{accepted}
 use Rattle.search_routes.specs.Machine.{with_index}
 use Rattle.search_routes.proofs.Steps.{created_new}
 use Rattle.search_routes.proofs.changes.create_index.Goals as goal

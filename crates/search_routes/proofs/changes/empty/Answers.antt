@@ -1,7 +1,7 @@
 use Rattle.std.proofs.Common.{sym, subst, ℕ, List, false}
 use Rattle.doc_values.specs.Changes.{kind_view}
 use Rattle.search_routes.specs.Done.{Grows}
-use Rattle.search_routes.specs.Replies.{accepted}
+use Rattle.request_replies.specs.Replies.{accepted}
 use Rattle.search_routes.specs.Machine.{index_after, type_of}
 use Rattle.search_routes.proofs.Steps.{emptied_there}
 use Rattle.search_routes.proofs.changes.empty.Goals as goal

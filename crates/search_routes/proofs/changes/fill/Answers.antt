@@ -3,7 +3,7 @@ use Rattle.std.specs.Prelude.{nat_le}
 use Rattle.doc_values.specs.Changes.{kind_view}
 use Rattle.http_wire.specs.Sent.{IsSentAs}
 use Rattle.search_routes.specs.Done.{Grows}
-use Rattle.search_routes.specs.Replies.{accepted}
+use Rattle.request_replies.specs.Replies.{accepted}
 use Rattle.search_routes.specs.Machine.{with_index, index_after, type_of}
 use Rattle.search_routes.proofs.Steps.{filled_there, filled_not, filled_new}
 use Rattle.search_routes.proofs.changes.fill.Goals as goal

@@ -1,4 +1,4 @@
-use Rattle.search_calls.specs.Asked.{read_view}
+use Rattle.request_calls.specs.Asked.{read_view}
 use Rattle.search_routes.proofs.Steps.{makes, steps_read}
 use Rattle.search_routes.proofs.performing.perform.Goals as goal
 

@@ -1,63 +1,54 @@
-use Rattle.std.proofs.Common.{[], true, false, refl, ap, ◌∙◌, arith}
+use Rattle.std.proofs.Common.{[], false, refl, sym, ap, ◌∙◌, ◌-◌, arith}
 use Rattle.std.specs.Io.KnownBytes.{prepend_known}
-use Rattle.search_server.proofs.Serving.{starts, goes_on, ends_between, ends_closed, ends_spent, ends_rest, ends_bad, first_answers, refusal_cut, reply_cut, given_answers}
+use Rattle.search_server.specs.LinkState.{LinkState}
+use Rattle.search_server.proofs.Progress.{LeftBy}
+use Rattle.search_server.proofs.Serving.{starts, goes_on, ends_spent, served_by, caused_by, replied_by}
 use Rattle.search_server.proofs.serve.serve_link.Goals as goal
 
 pub loop-served-init : goal.loop-served-init
 loop-served-init g c = record {
-  progress = λ bytes e. starts bytes (prepend_known c.in-Ok.kept (g.P.Link.left c.args.link.now)) _ _ c.args.fetches.now (ap (λ v. prepend_known v (g.P.Link.left c.args.link.now)) c.in-Ok.ensures ∙ ap (λ v. prepend_known [] v) e);
+  progress = λ bytes e. starts bytes _ _ (ap (λ v. prepend_known v (g.P.Link.left c.args.link.now)) c.in-Ok.ensures ∙ ap (λ v. prepend_known [] v) e) refl refl refl;
   read_later = omega arith;
   write_later = omega arith;
 }
 
 pub loop-served-preserved : goal.loop-served-preserved
-loop-served-preserved g c = record {
-  progress = λ bytes e. goes_on bytes _ _ _ _ _ c.loop-served.served false (c.loop-served.invariant.progress bytes e) c.loop-served-test.true c.in-Next.ensures.turn;
-  read_later = omega (arith, c.serve_one.ensures.read_later);
-  write_later = omega (arith, c.serve_one.ensures.write_later);
-}
+loop-served-preserved g c =
+    let start : LinkState = record { pending = g.P.Link.left c.args.link.now; told = g.P.Link.told c.args.link.now; state = c.args.machine.now; fetches = c.args.fetches.now; read_faults = g.P.Link.read_faults c.args.link.now; write_faults = g.P.Link.write_faults c.args.link.now } in
+    let old : LinkState = record { pending = prepend_known c.loop-served.kept (g.P.Link.left c.loop-served.link); told = g.P.Link.told c.loop-served.link; state = c.loop-served.machine; fetches = c.loop-served.fetches; read_faults = g.P.Link.read_faults c.loop-served.link; write_faults = g.P.Link.write_faults c.loop-served.link } in
+    let new : LinkState = record { pending = prepend_known c.serve_one-turn.new.kept (g.P.Link.left c.serve_one-turn.new.link); told = g.P.Link.told c.serve_one-turn.new.link; state = c.serve_one-turn.new.machine; fetches = c.serve_one-turn.new.fetches; read_faults = g.P.Link.read_faults c.serve_one-turn.new.link; write_faults = g.P.Link.write_faults c.serve_one-turn.new.link } in
+    let n = c.loop-served.served in
+    record {
+      progress = λ bytes e. goes_on bytes start old new n false (c.loop-served.invariant.progress bytes e) c.loop-served-test.true
+          (replied_by old new (1000000 - n) n c.serve_one-turn.new.kept c.serve_one-turn.result c.serve_one-turn.ensures.turn (sym c.end.ensures ∙ c.in_default-end.is));
+      read_later = omega (arith, c.serve_one-turn.ensures.read_later);
+      write_later = omega (arith, c.serve_one-turn.ensures.write_later);
+    }
 
-pub returns-in-Closed-clause-promise : goal.returns-in-Closed-clause-promise
-returns-in-Closed-clause-promise g c = λ bytes e.
-    ends_closed bytes _ _ _ _ _ _ _ _ (goes_on bytes _ _ _ _ _ c.loop-served.served true
-    (c.loop-served.invariant.progress bytes e) c.loop-served-test.true c.in-Closed.ensures.turn)
-
-pub returns-in-End-clause-promise : goal.returns-in-End-clause-promise
-returns-in-End-clause-promise g c = λ bytes e.
-    ends_between bytes _ _ _ _ _ c.loop-served.served
-    (c.loop-served.invariant.progress bytes e) c.loop-served-test.true c.in-End.ensures.turn.0 c.in-End.ensures.turn.1
-
-pub returns-in-CutShort-clause-promise : goal.returns-in-CutShort-clause-promise
-returns-in-CutShort-clause-promise g c = λ bytes e.
-    ends_rest bytes _ _ _ _ _ c.loop-served.served c.in-CutShort.rest
-    (c.loop-served.invariant.progress bytes e) c.loop-served-test.true c.in-CutShort.ensures.turn.0 c.in-CutShort.ensures.turn.2
-
-pub returns-in-Bad-clause-promise : goal.returns-in-Bad-clause-promise
-returns-in-Bad-clause-promise g c = λ bytes e.
-    ends_bad bytes _ _ _ _ _ c.loop-served.served c.in-Bad.kind c.in-Bad.number
-    (c.loop-served.invariant.progress bytes e) c.loop-served-test.true c.in-Bad.ensures.turn.0 c.in-Bad.ensures.turn.1 c.in-Bad.ensures.turn.2
-
-pub returns-in-ReadFault-clause-promise : goal.returns-in-ReadFault-clause-promise
-returns-in-ReadFault-clause-promise g c = λ bytes e.
-    given_answers bytes _ _ _ _ _ c.serve_one.new.kept (g.P.Link.left c.serve_one.new.link) c.loop-served.served
-    (c.loop-served.invariant.progress bytes e) c.loop-served-test.true c.in-ReadFault.ensures.turn.0 refl c.in-ReadFault.ensures.turn.1
-
-pub returns-in-ReplyFault-clause-promise : goal.returns-in-ReplyFault-clause-promise
-returns-in-ReplyFault-clause-promise g c = λ bytes e.
-    reply_cut bytes _ _ _ _ _ c.loop-served.served
-    (c.loop-served.invariant.progress bytes e) c.loop-served-test.true c.in-ReplyFault.ensures.turn.0
-
-pub returns-in-RefusalFault-clause-promise : goal.returns-in-RefusalFault-clause-promise
-returns-in-RefusalFault-clause-promise g c = λ bytes e.
-    refusal_cut bytes _ _ _ _ _ c.loop-served.served _ _
-    (c.loop-served.invariant.progress bytes e) c.loop-served-test.true c.in-RefusalFault.ensures.turn.0 c.in-RefusalFault.ensures.turn.1 c.in-RefusalFault.ensures.turn.2
-
-pub returns-in-NoMemory-clause-promise : goal.returns-in-NoMemory-clause-promise
-returns-in-NoMemory-clause-promise g c = λ bytes e.
-    first_answers bytes _ _ _ _ _ c.loop-served.served
-    (c.loop-served.invariant.progress bytes e) c.in-NoMemory.ensures.turn
+pub returns-in-Some-clause-promise : goal.returns-in-Some-clause-promise
+returns-in-Some-clause-promise g c =
+    let start : LinkState = record { pending = g.P.Link.left c.args.link.now; told = g.P.Link.told c.args.link.now; state = c.args.machine.now; fetches = c.args.fetches.now; read_faults = g.P.Link.read_faults c.args.link.now; write_faults = g.P.Link.write_faults c.args.link.now } in
+    let old : LinkState = record { pending = prepend_known c.loop-served.kept (g.P.Link.left c.loop-served.link); told = g.P.Link.told c.loop-served.link; state = c.loop-served.machine; fetches = c.loop-served.fetches; read_faults = g.P.Link.read_faults c.loop-served.link; write_faults = g.P.Link.write_faults c.loop-served.link } in
+    let new : LinkState = record { pending = prepend_known c.serve_one-turn.new.kept (g.P.Link.left c.serve_one-turn.new.link); told = g.P.Link.told c.serve_one-turn.new.link; state = c.serve_one-turn.new.machine; fetches = c.serve_one-turn.new.fetches; read_faults = g.P.Link.read_faults c.serve_one-turn.new.link; write_faults = g.P.Link.write_faults c.serve_one-turn.new.link } in
+    let final : LinkState = record { pending = g.P.Link.left c.serve_one-turn.new.link; told = g.P.Link.told c.serve_one-turn.new.link; state = c.serve_one-turn.new.machine; fetches = c.serve_one-turn.new.fetches; read_faults = g.P.Link.read_faults c.serve_one-turn.new.link; write_faults = g.P.Link.write_faults c.serve_one-turn.new.link } in
+    let left : LeftBy c.serve_one-turn.new.kept new final = record { pending = refl; told = refl; state = refl; fetches = refl; read_faults = refl; write_faults = refl } in
+    let n = c.loop-served.served in
+    let ends = sym c.end.ensures ∙ c.in-Some.is in
+    record {
+      promise = λ bytes e. served_by bytes start old new final n c.serve_one-turn.new.kept c.serve_one-turn.result c.in-Some.end (c.loop-served.invariant.progress bytes e)
+          c.loop-served-test.true c.serve_one-turn.ensures.turn ends left;
+      cause = caused_by start old new final (1000000 - n) n c.serve_one-turn.new.kept c.serve_one-turn.result c.in-Some.end c.loop-served.invariant.read_later
+          c.loop-served.invariant.write_later c.serve_one-turn.ensures.turn ends left;
+    }
 
 pub returns-clause-promise : goal.returns-clause-promise
-returns-clause-promise g c = λ bytes e.
-    ends_spent bytes _ _ _ _ _ _ _ c.loop-served.served
-    (c.loop-served.invariant.progress bytes e) (omega (arith, c.loop-served-test.false, c.loop-served.auto.served-end))
+returns-clause-promise g c =
+    let start : LinkState = record { pending = g.P.Link.left c.args.link.now; told = g.P.Link.told c.args.link.now; state = c.args.machine.now; fetches = c.args.fetches.now; read_faults = g.P.Link.read_faults c.args.link.now; write_faults = g.P.Link.write_faults c.args.link.now } in
+    let here : LinkState = record { pending = prepend_known c.loop-served.kept (g.P.Link.left c.loop-served.link); told = g.P.Link.told c.loop-served.link; state = c.loop-served.machine; fetches = c.loop-served.fetches; read_faults = g.P.Link.read_faults c.loop-served.link; write_faults = g.P.Link.write_faults c.loop-served.link } in
+    let final : LinkState = record { pending = g.P.Link.left c.loop-served.link; told = g.P.Link.told c.loop-served.link; state = c.loop-served.machine; fetches = c.loop-served.fetches; read_faults = g.P.Link.read_faults c.loop-served.link; write_faults = g.P.Link.write_faults c.loop-served.link } in
+    let left : LeftBy c.loop-served.kept here final = record { pending = refl; told = refl; state = refl; fetches = refl; read_faults = refl; write_faults = refl } in
+    record {
+      promise = λ bytes e. ends_spent bytes start here final c.loop-served.served c.loop-served.kept (c.loop-served.invariant.progress bytes e)
+          (omega (arith, c.loop-served-test.false, c.loop-served.auto.served-end)) left;
+      cause = tt;
+    }

@@ -1,0 +1,166 @@
+// The replies to calls that are not refused.
+ghost use Rattle.std.specs.Prelude.{◌≡◌, IfOk, map, string_bytes, false};
+ghost use Rattle.std.specs.Option.{option_copied};
+ghost use Rattle.serde_json.specs.View.{view};
+ghost use Rattle.serde_json.specs.Written.{has_float};
+ghost use Rattle.http_wire.specs.Sent.{IsSentAs};
+ghost use Rattle.request_replies.specs.Shown.{view_of};
+ghost use Rattle.request_replies.specs.Replies.{answer, accepted, change_data, health, health_data, index_data, one_index, one_document, list_data, documents_listing, settings as shown_settings, hits as hits_answer};
+
+use crate::hit::Hit;
+use crate::names::common_names;
+use crate::shown::{hits_text, listing_text, shown_text};
+use doc_values::DocumentText;
+use http::StatusCode;
+use http_wire::{Reply, make_reply};
+use index_settings::{Settings, to_json};
+use search_base::{NoMemory, Word};
+use search_call::SearchCall;
+use serde_json::{Value, json};
+use std::alloc::{AllocError, Global};
+
+/// The reply to an accepted change of this kind, with the count of those before it.
+pub fn accepted_reply(alloc: Global, uid: &str, kind: &str, before: u64) -> Result<Reply, NoMemory>
+    ensures { IfOk result (λ reply. IsSentAs reply (accepted uid.now kind.now before)) }
+{
+    let value = change_value(alloc, uid, kind, before)?;
+    let body = value.to_vec(alloc)?;
+    make_reply(alloc, StatusCode::ACCEPTED, body)
+}
+
+fn change_value(alloc: Global, uid: &str, kind: &str, before: u64) -> Result<Value, AllocError>
+    ensures { IfOk result (λ value. view value ≡ change_data uid.now kind.now before) }
+{
+    json!(in alloc; {"indexUid": uid, "status": "succeeded", "taskUid": before, "type": kind})
+}
+
+/// The reply that the server is there.
+pub fn health_reply(alloc: Global) -> Result<Reply, NoMemory>
+    ensures { IfOk result (λ reply. IsSentAs reply health) }
+{
+    let value = health_value(alloc)?;
+    let body = value.to_vec(alloc)?;
+    make_reply(alloc, StatusCode::OK, body)
+}
+
+fn health_value(alloc: Global) -> Result<Value, AllocError>
+    ensures { IfOk result (λ value. view value ≡ health_data) }
+{
+    json!(in alloc; {"status": "available"})
+}
+
+/// The reply that shows an index by its uid, with its primary key.
+pub fn index_reply(alloc: Global, uid: &str, key: Option<&Word>) -> Result<Reply, NoMemory>
+    ensures { IfOk result (λ reply. IsSentAs reply (one_index uid.now (option_copied key.entry))) }
+{
+    let value = index_value(alloc, uid, key)?;
+    let body = value.to_vec(alloc)?;
+    make_reply(alloc, StatusCode::OK, body)
+}
+
+/// An index as JSON.
+pub fn index_value(alloc: Global, uid: &str, key: Option<&Word>) -> Result<Value, AllocError>
+    ensures { IfOk result (λ value. view value ≡ index_data uid.now (option_copied key.entry)) }
+{
+    match key {
+        Some(key) => json!(in alloc; {"primaryKey": key.as_str(), "uid": uid}),
+        None => json!(in alloc; {"primaryKey": null, "uid": uid}),
+    }
+}
+
+/// The reply that shows the settings of an index.
+pub fn settings_reply(alloc: Global, settings: &Settings) -> Result<Reply, NoMemory>
+    ensures { IfOk result (λ reply. IsSentAs reply (shown_settings settings.now)) }
+{
+    let value = to_json(alloc, settings)?;
+    let body = value.to_vec(alloc)?;
+    make_reply(alloc, StatusCode::OK, body)
+}
+
+/// The reply that lists some of `total` things, with these results, which hold no float, by the place of the first and
+/// the most that were asked for.
+pub fn list_reply(
+    alloc: Global,
+    offset: u64,
+    limit: u64,
+    results: Value,
+    total: u64,
+) -> Result<Reply, NoMemory>
+    requires { has_float (view results) ≡ false }
+    ensures { IfOk result (λ reply. IsSentAs reply (answer 200 (list_data offset limit (view results) total))) }
+{
+    let value = list_value(alloc, offset, limit, results, total)?;
+    let body = value.to_vec(alloc)?;
+    make_reply(alloc, StatusCode::OK, body)
+}
+
+fn list_value(
+    alloc: Global,
+    offset: u64,
+    limit: u64,
+    results: Value,
+    total: u64,
+) -> Result<Value, AllocError>
+    ensures { IfOk result (λ value. view value ≡ list_data offset limit (view results) total) }
+{
+    json!(in alloc; {"limit": limit, "offset": offset, "results": results, "total": total})
+}
+
+/// The reply that shows some of `total` documents, by the members that `fields` names.
+pub fn documents_reply(
+    alloc: Global,
+    offset: u64,
+    limit: u64,
+    fields: &[Word],
+    documents: &[&DocumentText],
+    total: u64,
+) -> Result<Reply, NoMemory>
+    ensures { IfOk result (λ reply. IsSentAs reply
+        (documents_listing offset limit fields.now (map (λ d. d.now) documents.now) total)) }
+{
+    let body = listing_text(alloc, offset, limit, fields, documents, total)?;
+    make_reply(alloc, StatusCode::OK, body.into_bytes())
+}
+
+/// The reply that shows one document, by the members that `fields` names.
+pub fn document_reply(
+    alloc: Global,
+    fields: &[Word],
+    document: &DocumentText,
+) -> Result<Reply, NoMemory>
+    ensures { IfOk result (λ reply. IsSentAs reply (one_document fields.now document.now)) }
+{
+    let body = shown_text(alloc, fields, document)?;
+    make_reply(alloc, StatusCode::OK, body.into_bytes())
+}
+
+/// The reply to a search, with its hits out of `total`, by the displayed members that the call asks for.
+pub fn hits_reply(
+    alloc: Global,
+    call: &SearchCall,
+    displayed: &[Word],
+    total: u64,
+    hits: &[Hit],
+) -> Result<Reply, NoMemory>
+    ensures { IfOk result (λ reply. IsSentAs reply
+        (hits_answer displayed.now call.now total (map view_of hits.now))) }
+{
+    let body = body_of_hits(alloc, call, displayed, total, hits)?;
+    make_reply(alloc, StatusCode::OK, body.into_bytes())
+}
+
+fn body_of_hits(
+    alloc: Global,
+    call: &SearchCall,
+    displayed: &[Word],
+    total: u64,
+    hits: &[Hit],
+) -> Result<String, NoMemory>
+    ensures { IfOk result (λ text. string_bytes text
+        ≡ (hits_answer displayed.now call.now total (map view_of hits.now)).body) }
+{
+    let names = common_names(alloc, displayed, &call.retrieve)?;
+    let (offset, limit) = (call.offset, call.limit);
+    let text = hits_text(alloc, call.q.as_str(), offset, limit, &names, total, hits)?;
+    Ok(text)
+}
