@@ -1,5 +1,6 @@
 -- Sets of numbers, as increasing lists.
-use Rattle.std.specs.Prelude.{ℕ, ◌≡◌, ◌<◌, ◌≤◌, length, slice_index, Bool, false, not, ◌||◌, ◌==◌, List, [], ◌∷◌, if◌then◌else◌, nat_lt, ⊤}
+use Rattle.std.specs.Prelude.{ℕ, ◌≡◌, ◌<◌, ◌≤◌, length, slice_index, Bool, false, not, ◌||◌, ◌==◌, List}
+use Rattle.std.specs.Prelude.{[], ◌∷◌, if◌then◌else◌, nat_lt, ⊤}
 use Rattle.std.specs.List.{filter}
 
 -- whether d is in the list
@@ -35,6 +36,10 @@ intersection xs ys = filter (λ d. has ys d) xs
 abbrev pub difference : List ℕ → List ℕ → List ℕ
 difference xs ys = filter (λ d. not (has ys d)) xs
 
+-- what is greater than d
+abbrev pub above : ℕ → List ℕ → List ℕ
+above d xs = filter (nat_lt d) xs
+
 -- what is in one list or the other
 abbrev pub union : List ℕ → List ℕ → List ℕ
 union [] ys = ys
@@ -50,3 +55,8 @@ pub record IsGap (xs : List ℕ) (d i : ℕ) : Type 0 where
   pub within : i ≤ length xs
   pub below : (k : ℕ) → k < i → slice_index xs k < d
   pub above : (k : ℕ) → i ≤ k → k < length xs → d < slice_index xs k
+
+-- what is in any of the lists
+abbrev pub union_all : List (List ℕ) → List ℕ
+union_all [] = []
+union_all (xs ∷ xss) = union xs (union_all xss)

@@ -1,40 +1,56 @@
-ghost use Rattle.std.specs.Prelude.{◌≡◌, ℕ, ◌+◌, ◌≤◌, [], length, map, not, IfOk, IfErr, OnOk, OnErr, ◌==◌};
+ghost use Rattle.std.specs.Prelude.{◌≡◌, ℕ, ◌+◌, ◌≤◌, [], length, map, not, IfOk, OnOk, OnErr, ◌==◌};
 ghost use Rattle.std.specs.Option.{option_map};
 ghost use Rattle.std.specs.List.{slice_get};
 ghost use Rattle.std.specs.Iterator.{YieldsFirstBy, item_count};
-ghost use Rattle.doc_sets.specs.Sets.{has, IsIncreasing, IsAt, IsGap, with_id, without_id, intersection, difference, union};
+ghost use Rattle.doc_sets.specs.Sets.{has, IsIncreasing, above, with_id, without_id, intersection, difference, union};
 
-use crate::merge::{Ids, both_have, holds, joined, left_has, place_in};
+use crate::bits::{BitIter, Bits};
+use crate::kept::{
+    Kept, add_to, kept_and, kept_and_len, kept_insert, kept_insert_reserved, kept_limit,
+    kept_minus, kept_or, kept_remove, listed_and_reserved, numbers, packed, packed_list,
+};
+use crate::merge::{first_above, holds};
 use search_base::{DocId, NoMemory};
 use smallvec::SmallVec;
 use std::alloc::{AllocError, Global};
 use std::marker::Model;
 
-/// A set of documents. Up to four of them take no memory.
+/// A set of documents, which chooses between a list of their ids and a bit for each id below a
+/// limit. Up to four ids take no memory.
 #[derive(Drop)]
 pub struct DocSet {
-    ids: Ids,
+    kept: Kept,
 }
 
 impl Model for DocSet {
-    ghost use Rattle.std.specs.Prelude.{◌-◌};
-    ghost use Rattle.smallvec.specs.SmallVec.{small_vec_len};
     ghost use Rattle.doc_sets.specs.SetView.{SetView};
-    ghost use Rattle.doc_sets.specs.Sets.{IsIncreasing};
+    ghost use Rattle.doc_sets.specs.Kept.{kept_ids, kept_spare, IsKept};
 
     ghost Value = { SetView };
 
-    ghost view = { λ s. record { ids = s.ids.items; spare = s.ids.capacity - small_vec_len s.ids } };
+    ghost view = { λ s. record { ids = kept_ids s.kept; spare = kept_spare s.kept } };
 
-    ghost invariant = { λ s. IsIncreasing s.ids.items };
+    ghost invariant = { λ s. IsKept s.kept };
 }
 
 impl Clone for DocSet {
     ghost is_clone = { λ set copy. copy.ids ≡ set.ids };
 
     fn clone(&self) -> Result<DocSet, AllocError> {
-        let ids = SmallVec::from_slice(*self.ids.allocator(), self.as_slice())?;
-        Ok(DocSet { ids })
+        match &self.kept {
+            Kept::Few(ids) => {
+                let ids = SmallVec::from_slice(*ids.allocator(), ids.as_slice())?;
+                Ok(DocSet {
+                    kept: Kept::Few(ids),
+                })
+            }
+            Kept::Many(bits, count) => {
+                let bits = bits.clone()?;
+                Ok(DocSet {
+                    kept: Kept::Many(bits, *count),
+                })
+            }
+        }
     }
 }
 
@@ -44,7 +60,7 @@ impl DocSet {
         ensures { result.ids ≡ [] }
     {
         DocSet {
-            ids: SmallVec::new(alloc),
+            kept: Kept::Few(SmallVec::new(alloc)),
         }
     }
 
@@ -53,19 +69,19 @@ impl DocSet {
         requires { IsIncreasing (map (λ id. id.0) ids.now) }
         ensures { IfOk result (λ set. set.ids ≡ map (λ id. id.0) ids.now) }
     {
-        let mut kept = SmallVec::new(alloc);
-        kept.reserve(ids.len())?;
-        for id in ids {
-            kept.push(id.0)?;
-        }
-        Ok(DocSet { ids: kept })
+        let list = numbers(alloc, ids)?;
+        let kept = packed_list(alloc, list)?;
+        Ok(DocSet { kept })
     }
 
-    /// Whether the document is in the set, found by halving.
+    /// Whether the document is in the set, found by halving or by its bit.
     pub fn contains(&self, id: DocId) -> bool
         ensures { result ≡ has self.now.ids id.0 }
     {
-        holds(self.as_slice(), id.0)
+        match &self.kept {
+            Kept::Few(ids) => holds(ids.as_slice(), id.0),
+            Kept::Many(bits, _) => bits.contains(id),
+        }
     }
 
     /// How many documents are in the set, each of whose ids is below the next.
@@ -73,23 +89,44 @@ impl DocSet {
         ensures len { result ≡ length self.now.ids }
         ensures increasing { IsIncreasing self.now.ids }
     {
-        self.ids.len() as u64
+        match &self.kept {
+            Kept::Few(ids) => ids.len() as u64,
+            Kept::Many(_, count) => *count,
+        }
     }
 
     /// Whether no document is in the set.
     pub fn is_empty(&self) -> bool
         ensures { result ≡ (length self.now.ids == 0) }
     {
-        self.ids.is_empty()
+        self.len() == 0
     }
 
     /// The least id, or none where the set is empty.
     pub fn first(&self) -> Option<DocId>
-        ensures { option_map (λ id. id.0) result ≡ slice_get self.now.ids 0 }
+        ensures first { option_map (λ id. id.0) result ≡ slice_get self.now.ids 0 }
+        ensures increasing { IsIncreasing self.now.ids }
     {
-        match self.ids.as_slice().first() {
-            Some(id) => Some(DocId(*id)),
-            None => None,
+        match &self.kept {
+            Kept::Few(ids) => match ids.as_slice().first() {
+                Some(id) => Some(DocId(*id)),
+                None => None,
+            },
+            Kept::Many(bits, _) => bits.first(),
+        }
+    }
+
+    /// The least id of the set that is greater than this one, or none. It takes no memory.
+    pub fn next_after(&self, id: DocId) -> Option<DocId>
+        ensures next { option_map (λ id. id.0) result ≡ slice_get (above id.0 self.now.ids) 0 }
+        ensures increasing { IsIncreasing self.now.ids }
+    {
+        match &self.kept {
+            Kept::Few(ids) => match first_above(ids.as_slice(), id.0) {
+                Some(next) => Some(DocId(next)),
+                None => None,
+            },
+            Kept::Many(bits, _) => bits.next_after(id),
         }
     }
 
@@ -98,25 +135,24 @@ impl DocSet {
         ensures ids { result ≡ self.now.ids }
         ensures increasing { IsIncreasing self.now.ids }
     {
-        DocIter {
-            left: self.as_slice(),
+        match &self.kept {
+            Kept::Few(ids) => DocIter {
+                left: Left::Few(ids.as_slice()),
+            },
+            Kept::Many(bits, _) => DocIter {
+                left: Left::Many(bits.iter()),
+            },
         }
     }
 
-    /// Puts the document in, and tells whether it is new. Where there is no memory the set stays as
-    /// it was.
+    /// Puts the document in, and tells whether it is new. Where there is no memory the ids stay as
+    /// they were.
     pub fn insert(&mut self, id: DocId) -> Result<bool, NoMemory>
         ensures ids { OnOk result (self.new.ids ≡ with_id id.0 self.old.ids) }
         ensures new { IfOk result (λ new. new ≡ not (has self.old.ids id.0)) }
         ensures err { OnErr result (self.new ≡ self.old) }
     {
-        match self.place(id) {
-            Ok(_at) => Ok(false),
-            Err(at) => {
-                self.ids.insert(at, id.0)?;
-                Ok(true)
-            }
-        }
+        kept_insert(&mut self.kept, id)
     }
 
     /// Makes `spare` at least `extra`; it never falls. The ids stay, and where there is no memory
@@ -127,7 +163,15 @@ impl DocSet {
         ensures room { OnOk result (extra ≤ self.new.spare) }
         ensures err { OnErr result (self.new ≡ self.old) }
     {
-        self.ids.reserve(extra)?;
+        match &mut self.kept {
+            Kept::Few(ids) => {
+                ids.reserve(extra)?;
+            }
+            Kept::Many(bits, count) => {
+                let ids = listed_and_reserved(bits, *count, extra)?;
+                self.kept = Kept::Few(ids);
+            }
+        }
         Ok(())
     }
 
@@ -139,13 +183,7 @@ impl DocSet {
         ensures new { result ≡ not (has self.old.ids id.0) }
         ensures spare { self.old.spare ≤ self.new.spare + 1 }
     {
-        match self.place(id) {
-            Ok(_at) => false,
-            Err(at) => match self.ids.insert(at, id.0) {
-                Ok(()) => true,
-                Err(_) => unreachable!(),
-            },
-        }
+        kept_insert_reserved(&mut self.kept, id)
     }
 
     /// Takes the document out, and tells whether it was there. `spare` does not fall.
@@ -154,70 +192,80 @@ impl DocSet {
         ensures was { result ≡ has self.old.ids id.0 }
         ensures spare { self.old.spare ≤ self.new.spare }
     {
-        match self.place(id) {
-            Ok(at) => {
-                let _id = self.ids.remove(at);
-                true
-            }
-            Err(_at) => false,
-        }
+        kept_remove(&mut self.kept, id)
     }
 
-    /// The documents that are in both sets. Where one set is much shorter its ids are looked up in
-    /// the other.
+    /// The documents that are in both sets. The ids of a list are looked up in bits, and those of a
+    /// much shorter list in the longer one.
     pub fn and(&self, alloc: Global, other: &DocSet) -> Result<DocSet, NoMemory>
         ensures { IfOk result (λ set. set.ids ≡ intersection self.now.ids other.now.ids) }
     {
-        let ids = both_have(alloc, self.as_slice(), other.as_slice())?;
-        Ok(DocSet { ids })
+        let kept = kept_and(alloc, &self.kept, &other.kept)?;
+        Ok(DocSet { kept })
+    }
+
+    /// How many documents are in both sets. It takes no memory.
+    pub fn and_len(&self, other: &DocSet) -> u64
+        ensures { result ≡ length (intersection self.now.ids other.now.ids) }
+    {
+        kept_and_len(&self.kept, &other.kept)
     }
 
     /// The documents that are in one set or the other, or in both.
     pub fn or(&self, alloc: Global, other: &DocSet) -> Result<DocSet, NoMemory>
         ensures { IfOk result (λ set. set.ids ≡ union self.now.ids other.now.ids) }
     {
-        let ids = joined(alloc, self.as_slice(), other.as_slice())?;
-        Ok(DocSet { ids })
+        let kept = kept_or(alloc, &self.kept, &other.kept)?;
+        Ok(DocSet { kept })
     }
 
-    /// The documents that are in this set and not in the other. Where this set is much shorter its
-    /// ids are looked up in the other.
+    /// The documents that are in this set and not in the other.
     pub fn minus(&self, alloc: Global, other: &DocSet) -> Result<DocSet, NoMemory>
         ensures { IfOk result (λ set. set.ids ≡ difference self.now.ids other.now.ids) }
     {
-        let ids = left_has(alloc, self.as_slice(), other.as_slice())?;
-        Ok(DocSet { ids })
+        let kept = kept_minus(alloc, &self.kept, &other.kept)?;
+        Ok(DocSet { kept })
     }
 
-    // Where the id is, or where it would go.
-    fn place(&self, id: DocId) -> Result<usize, usize>
-        ensures found { IfOk result (IsAt self.now.ids id.0) }
-        ensures absent { IfErr result (IsGap self.now.ids id.0) }
+    // The set of these bits.
+    pub(crate) fn from_bits(alloc: Global, bits: Bits) -> Result<DocSet, NoMemory>
+        ensures { IfOk result (λ set. set.ids ≡ bits.ids) }
     {
-        place_in(self.as_slice(), id.0)
+        let kept = packed(alloc, bits)?;
+        Ok(DocSet { kept })
     }
 
-    // The ids as a slice.
-    fn as_slice(&self) -> &[u32]
-        ensures ids { result.now ≡ self.now.ids }
-        ensures increasing { IsIncreasing self.now.ids }
+    // Puts the ids of this set into bits, whose limit it raises.
+    pub(crate) fn add_to(&self, bits: &mut Bits) -> Result<(), NoMemory>
+        ensures ids { OnOk result (bits.new.ids ≡ union self.now.ids bits.old.ids) }
+        ensures err { OnErr result (bits.new.ids ≡ bits.old.ids) }
     {
-        self.ids.as_slice()
+        bits.grow(kept_limit(&self.kept))?;
+        add_to(bits, &self.kept);
+        Ok(())
     }
 }
 
 /// The ids of a set that are left, in increasing order.
 #[derive(Drop)]
 pub struct DocIter<'a> {
-    left: &'a [u32],
+    left: Left<'a>,
+}
+
+// What is left of a list, or of bits.
+#[derive(Drop)]
+enum Left<'a> {
+    Few(&'a [u32]),
+    Many(BitIter<'a>),
 }
 
 impl<'a> Model for DocIter<'a> {
     ghost use Rattle.std.specs.Prelude.{ℕ, List};
+    ghost use Rattle.doc_sets.specs.Left.{left_ids};
 
     ghost Value = { List ℕ };
 
-    ghost view = { λ ids. ids.left.now };
+    ghost view = { λ ids. left_ids ids.left };
 }
 
 impl<'a> Iterator for DocIter<'a> {
@@ -228,8 +276,13 @@ impl<'a> Iterator for DocIter<'a> {
     ghost remaining = { item_count (λ left. left) };
 
     fn next(&mut self) -> Option<DocId> {
-        let (first, others) = self.left.split_first()?;
-        self.left = others;
-        Some(DocId(*first))
+        match &mut self.left {
+            Left::Few(left) => {
+                let (first, others) = left.split_first()?;
+                *left = others;
+                Some(DocId(*first))
+            }
+            Left::Many(left) => left.next(),
+        }
     }
 }

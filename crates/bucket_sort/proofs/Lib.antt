@@ -1,0 +1,15 @@
+pub mod KeyLemmas
+pub mod RankLemmas
+pub mod HitLemmas
+pub mod EventLemmas
+pub mod TraceLemmas
+pub mod FrameLemmas
+pub mod Rows
+pub mod PendingLemmas
+pub mod StepLemmas
+pub mod WalkLemmas
+pub mod PlanLemmas
+pub mod PageLemmas
+pub mod StartLemmas
+pub mod LawLemmas
+pub mod TableLemmas

@@ -1,2 +1,0 @@
--- What the order of keys is.
-pub mod KeyLemmas

@@ -1,0 +1,16 @@
+//! The costs of a condition graph's paths, cost after cost, with the documents that have each.
+//!
+//! `PathCosts::next_cost` promises the least cost that a remaining document has, with exactly the
+//! documents that have it. A document's cost is the least sum of a path whose conditions it meets.
+//! Contracts see a stream as the cost of each document, the documents that remain, and whether
+//! memory ran out. The crate stands on `search_base`, `condition_graph` and `doc_sets`.
+#![tactic(auto)]
+
+mod fill;
+mod found;
+mod links;
+mod resolve;
+mod stream;
+
+pub use resolve::Resolve;
+pub use stream::PathCosts;

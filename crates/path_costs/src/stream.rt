@@ -1,0 +1,147 @@
+ghost use Rattle.std.specs.Prelude.{◌≡◌, ◌<◌, ◌≤◌, ◌^◌, ℕ, List, false, true, IfOk, OnOk, OnErr, IsErr};
+ghost use Rattle.std.specs.Prelude.{IfSome, IfNone, None};
+ghost use Rattle.doc_sets.specs.Sets.{has};
+ghost use Rattle.condition_graph.specs.Promise.{IsConditionGraph};
+ghost use Rattle.path_costs.specs.Costs.{cost_of, cost_in, IsBucket};
+ghost use Rattle.path_costs.specs.Links.{IsLinks, IsSmall, graph_of};
+ghost use Rattle.path_costs.specs.Found.{IsFound, IsLive};
+
+use crate::fill::fill;
+use crate::found::{Found, NO_COST, filled_at, nothing_found};
+use crate::links::{Links, links_of};
+use crate::resolve::Resolve;
+use condition_graph::ConditionGraph;
+use doc_sets::DocSet;
+use search_base::NoMemory;
+use std::alloc::Global;
+use std::marker::Model;
+
+/// The documents of a universe by their costs, cost after cost.
+#[derive(Drop)]
+pub struct PathCosts<R: Resolve + Drop> {
+    links: Links,
+    pub(crate) source: R,
+    found: Found,
+    remaining: DocSet,
+    next: u64,
+    failed: bool,
+}
+
+impl<R: Resolve + Drop> Model for PathCosts<R> {
+    ghost use Rattle.std.specs.Prelude.{◌≡◌, false};
+    ghost use Rattle.path_costs.specs.Costs.{CostsView};
+    ghost use Rattle.path_costs.specs.Links.{IsLinks, IsSmall, graph_of};
+    ghost use Rattle.path_costs.specs.Found.{IsLive};
+
+    ghost Value = { CostsView R };
+
+    ghost view = { λ p. record {
+      graph = graph_of p.links;
+      source = p.source;
+      remaining = p.remaining.ids;
+      failed = p.failed;
+    } };
+
+    ghost invariant = { λ p. IsLinks p.links × IsSmall (graph_of p.links)
+        × (p.failed ≡ false → IsLive (R.meets p.source) p.links p.remaining.ids p.next p.found) };
+}
+
+// Goes on to the least cost that a remaining document has, and takes out those that have it.
+fn advance<R: Resolve>(
+    alloc: Global,
+    links: &Links,
+    source: &mut R,
+    found: &mut Found,
+    remaining: &mut DocSet,
+    next: &mut u64,
+) -> Result<Option<(u32, DocSet)>, NoMemory>
+    requires links { IsLinks links.now }
+    requires small { IsSmall (graph_of links.now) }
+    requires live { IsLive (R.meets source.old) links.now remaining.old.ids next.old found.old }
+    ensures kept { R.meets source.new ≡ R.meets source.old }
+    ensures live { OnOk result (IsLive (R.meets source.old) links.now remaining.new.ids next.new found.new) }
+    ensures some { IfOk result (λ given. IfSome given
+        (λ (cost, docs). IsBucket (cost_of (R.meets source.old)
+        (graph_of links.now)) remaining.old.ids remaining.new.ids cost docs.ids)) }
+    ensures none { IfOk result (λ given. IfNone given ((d : ℕ) → has remaining.old.ids d ≡ true
+        → cost_of (R.meets source.old) (graph_of links.now) d ≡ None)) }
+{
+    'costs: while *next < NO_COST {
+        if remaining.is_empty() {
+            return Ok(None);
+        }
+        let cost = *next as u32;
+        let at = fill(alloc, links, source, remaining, found, 0, cost)?;
+        let filled = filled_at(&found.filled, at);
+        let docs = remaining.and(alloc, &filled.docs)?;
+        *next = filled.beyond;
+        if docs.is_empty() {
+            continue;
+        }
+        let rest = remaining.minus(alloc, &docs)?;
+        *remaining = rest;
+        return Ok(Some((cost, docs)));
+    }
+    Ok(None)
+}
+
+impl<R: Resolve + Drop> PathCosts<R> {
+    /// The costs of the universe's documents. No condition is asked for yet.
+    pub fn new(
+        alloc: Global,
+        graph: ConditionGraph,
+        source: R,
+        universe: DocSet,
+    ) -> Result<PathCosts<R>, NoMemory>
+        requires { IsConditionGraph graph }
+        ensures cost { IfOk result (λ costs. cost_in R.meets costs ≡ cost_of (R.meets source) graph) }
+        ensures remaining { IfOk result (λ costs. costs.remaining ≡ universe.ids) }
+        ensures failed { IfOk result (λ costs. costs.failed ≡ false) }
+    {
+        let links = links_of(alloc, graph)?;
+        let nodes = links.out.as_slice().len();
+        let edges = links.edges.as_slice().len();
+        let found = nothing_found(alloc, nodes, edges)?;
+        Ok(PathCosts {
+            links,
+            source,
+            found,
+            remaining: universe,
+            next: 0,
+            failed: false,
+        })
+    }
+
+    /// The least cost that a remaining document has, with the documents that have it, which remain
+    /// no longer; or none where no remaining document meets a path. Once memory has run out it is
+    /// the answer from then on.
+    pub fn next_cost(&mut self, alloc: Global) -> Result<Option<(u32, DocSet)>, NoMemory>
+        ensures some { IfOk result (λ given.
+            IfSome given (λ (cost, docs). IsBucket
+            (cost_in R.meets self.old) self.old.remaining self.new.remaining cost docs.ids)) }
+        ensures none { IfOk result (λ given. IfNone given ((d : ℕ) → has self.old.remaining d ≡ true
+            → cost_in R.meets self.old d ≡ None)) }
+        ensures kept { cost_in R.meets self.new ≡ cost_in R.meets self.old }
+        ensures works { OnOk result (self.new.failed ≡ false) }
+        ensures failed { OnErr result (self.new.failed ≡ true) }
+        ensures stays { self.old.failed ≡ true → IsErr result }
+    {
+        if self.failed {
+            return Err(NoMemory);
+        }
+        match advance(
+            alloc,
+            &self.links,
+            &mut self.source,
+            &mut self.found,
+            &mut self.remaining,
+            &mut self.next,
+        ) {
+            Ok(given) => Ok(given),
+            Err(refused) => {
+                self.failed = true;
+                Err(refused)
+            }
+        }
+    }
+}
