@@ -14,8 +14,6 @@ mod kept;
 mod reading;
 mod refusal;
 mod reply;
-#[cfg(test)]
-mod tests;
 
 pub use kept::Kept;
 pub use reading::{Wire, WireEnd, read_request, requests_are_determined};

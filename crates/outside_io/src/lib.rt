@@ -13,8 +13,6 @@ mod link;
 mod memory_disk;
 mod memory_link;
 mod std_link;
-#[cfg(test)]
-mod tests;
 
 pub use disk::Disk;
 pub use file_disk::FileDisk;

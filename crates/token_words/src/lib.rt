@@ -8,8 +8,6 @@
 
 mod normal_form;
 mod segment;
-#[cfg(test)]
-mod tests;
 mod token_list;
 
 pub use normal_form::normal;

@@ -1,0 +1,22 @@
+//! Tests of documents: their values, streams, settings, rows, stores, payloads and images.
+//!
+//! They use what these crates offer to others, and stand in a crate of their own, so that the crates they try are proved
+//! once and not twice. The crate has nothing but tests, and promises nothing.
+#![tactic(auto)]
+
+#[cfg(test)]
+mod images;
+#[cfg(test)]
+mod packed;
+#[cfg(test)]
+mod payloads;
+#[cfg(test)]
+mod rows;
+#[cfg(test)]
+mod settings;
+#[cfg(test)]
+mod stores;
+#[cfg(test)]
+mod streams;
+#[cfg(test)]
+mod values;

@@ -1,0 +1,10 @@
+//! Tests of links, disks and the wire, through what `outside_io` and `http_wire` offer.
+//!
+//! They stand in a crate of their own, so that the crates they try are proved once and not twice. The crate has nothing
+//! but tests, and promises nothing.
+#![tactic(auto)]
+
+#[cfg(test)]
+mod links;
+#[cfg(test)]
+mod wire;

@@ -1,0 +1,427 @@
+ghost use Rattle.std.specs.Prelude.{◌<◌, ◌^◌, length, IfOk};
+ghost use Rattle.serde_json.specs.View.{view as data_of};
+ghost use Rattle.filter_expr.specs.Texts.{texts_of, AreShort};
+
+use filter_expr::*;
+use filter_tree::{Filter, Test};
+use serde_json::{Value, json};
+use std::alloc::{AllocError, Global};
+use std::process::Abort;
+use std::test::Fail;
+
+const OPERATORS: [(&str, &str); 16] = [
+    ("year > 2000", "year > 2000"),
+    ("year >= 2000", "year >= 2000"),
+    ("year < 2000", "year < 2000"),
+    ("year <= 2000", "year <= 2000"),
+    ("genre = drama", "genre = 'drama'"),
+    ("genre != drama", "NOT genre = 'drama'"),
+    ("year 1999 TO 2005", "year 1999 TO 2005"),
+    ("genre IN [drama, action]", "genre IN ['drama', 'action']"),
+    ("genre IN []", "genre IN []"),
+    ("genre NOT IN [drama]", "NOT genre IN ['drama']"),
+    ("genre EXISTS", "genre EXISTS"),
+    ("genre NOT EXISTS", "NOT genre EXISTS"),
+    ("genre IS NULL", "genre IS NULL"),
+    ("genre IS NOT NULL", "NOT genre IS NULL"),
+    ("genre IS EMPTY", "genre IS EMPTY"),
+    ("genre IS NOT EMPTY", "NOT genre IS EMPTY"),
+];
+
+const JOINED: [(&str, &str); 15] = [
+    ("a = 1 AND b = 2", "(a = '1' AND b = '2')"),
+    ("a = 1 OR b = 2", "(a = '1' OR b = '2')"),
+    (
+        "a = 1 OR b = 2 AND c = 3",
+        "(a = '1' OR (b = '2' AND c = '3'))",
+    ),
+    (
+        "a = 1 AND b = 2 AND c = 3",
+        "(a = '1' AND b = '2' AND c = '3')",
+    ),
+    (
+        "(a = 1 OR b = 2) AND c = 3",
+        "((a = '1' OR b = '2') AND c = '3')",
+    ),
+    (
+        "(a = 1 AND b = 2) AND c = 3",
+        "((a = '1' AND b = '2') AND c = '3')",
+    ),
+    ("NOT a = 1", "NOT a = '1'"),
+    ("NOT NOT a = 1", "NOT NOT a = '1'"),
+    ("NOT a != 1", "NOT NOT a = '1'"),
+    ("NOT (a = 1 AND b = 2)", "NOT (a = '1' AND b = '2')"),
+    ("NOT a = 1 AND b = 2", "(NOT a = '1' AND b = '2')"),
+    ("((a = 1))", "a = '1'"),
+    ("", "all"),
+    ("   ", "all"),
+    ("\t\r\n ", "all"),
+];
+
+const TEXTS: [(&str, &str); 19] = [
+    ("a=b", "a = 'b'"),
+    ("\ta\n=\r\nb ", "a = 'b'"),
+    ("a='b c'", "a = 'b c'"),
+    ("a = 'it\\'s'", "a = 'it's'"),
+    ("a = \"say \\\"x\\\"\"", "a = 'say \"x\"'"),
+    ("a = 'b\\\\'", "a = 'b\\'"),
+    ("a = 'b\\n'", "a = 'b\\n'"),
+    ("a = \"it's\"", "a = 'it's'"),
+    ("'AND' = 'OR'", "AND = 'OR'"),
+    ("a IN ['NOT', 'NULL']", "a IN ['NOT', 'NULL']"),
+    ("'' = ''", " = ''"),
+    ("_-/.0 = x.y/z", "_-/.0 = 'x.y/z'"),
+    ("café = naïve", "café = 'naïve'"),
+    ("a = 'é\\é'", "a = 'é\\é'"),
+    ("a =é", "a = 'é'"),
+    ("a = b ", "a = 'b '"),
+    ("and = or", "and = 'or'"),
+    ("Not EXISTS", "Not EXISTS"),
+    ("a = ANDx", "a = 'ANDx'"),
+];
+
+const NUMBERS: [(&str, &str); 17] = [
+    ("n > 007", "n > 7"),
+    ("n > -0", "n > 0"),
+    ("n > '5'", "n > 5"),
+    ("n > 18446744073709551615", "n > 18446744073709551615"),
+    ("n > -9223372036854775808", "n > -9223372036854775808"),
+    (
+        "n > 18446744073709551616",
+        "no number: 18446744073709551616",
+    ),
+    (
+        "n > -9223372036854775809",
+        "no number: -9223372036854775809",
+    ),
+    (
+        "n > 340282366920938463463374607431768211456",
+        "no number: 340282366920938463463374607431768211456",
+    ),
+    ("n > abc", "no number: abc"),
+    ("year > abc", "no number: abc"),
+    ("n > 1.5", "no number: 1.5"),
+    ("n > -", "no number: -"),
+    ("n > ''", "no number: "),
+    ("n 1 TO x", "no number: x"),
+    ("n x TO y", "no number: x"),
+    ("n >= 5 AND m < z", "no number: z"),
+    ("n > x OR m > y", "no number: x"),
+];
+
+const FAULTS: [(&str, &str); 54] = [
+    ("year >> 3", "syntax in text 1 at 6"),
+    ("year >", "syntax in text 1 at 6"),
+    ("n > +5", "syntax in text 1 at 4"),
+    ("a", "syntax in text 1 at 1"),
+    ("a b", "syntax in text 1 at 3"),
+    ("a b c", "syntax in text 1 at 4"),
+    ("a !", "syntax in text 1 at 3"),
+    ("a ! = b", "syntax in text 1 at 3"),
+    ("!", "syntax in text 1 at 0"),
+    ("= b", "syntax in text 1 at 0"),
+    ("a = b c", "syntax in text 1 at 6"),
+    ("a = b )", "syntax in text 1 at 6"),
+    ("(a = b", "syntax in text 1 at 6"),
+    ("a = b OR", "syntax in text 1 at 8"),
+    ("a = b AND AND c = d", "syntax in text 1 at 13"),
+    ("a = AND", "syntax in text 1 at 7"),
+    ("a = AND ", "syntax in text 1 at 7"),
+    ("AND = b", "syntax in text 1 at 3"),
+    ("a = b ANX", "syntax in text 1 at 8"),
+    ("a = b and c = d", "syntax in text 1 at 6"),
+    ("a NOT", "syntax in text 1 at 5"),
+    ("a NOT b", "syntax in text 1 at 6"),
+    ("a NOT IN", "syntax in text 1 at 8"),
+    ("a IN", "syntax in text 1 at 4"),
+    ("a IN [b", "syntax in text 1 at 7"),
+    ("a IN [b,]", "syntax in text 1 at 8"),
+    ("a IN [,b]", "syntax in text 1 at 6"),
+    ("a IN [b c]", "syntax in text 1 at 8"),
+    ("a IN (b)", "syntax in text 1 at 5"),
+    ("a IS", "syntax in text 1 at 4"),
+    ("a IS x", "syntax in text 1 at 5"),
+    ("a IS NOT x", "syntax in text 1 at 9"),
+    ("a EXISTS b", "syntax in text 1 at 9"),
+    ("EXISTS", "syntax in text 1 at 6"),
+    ("NOT", "syntax in text 1 at 3"),
+    ("TO = 1", "syntax in text 1 at 2"),
+    ("a 1 TO", "syntax in text 1 at 6"),
+    ("a 1 TO TO", "syntax in text 1 at 9"),
+    ("a = 'b", "syntax in text 1 at 6"),
+    ("a = 'b\\'", "syntax in text 1 at 8"),
+    ("a = \"b'", "syntax in text 1 at 7"),
+    ("a = b ~", "syntax in text 1 at 6"),
+    ("a & b", "syntax in text 1 at 2"),
+    ("a = é é", "syntax in text 1 at 7"),
+    ("é", "syntax in text 1 at 2"),
+    ("[a = b]", "syntax in text 1 at 0"),
+    ("a,b", "syntax in text 1 at 1"),
+    ("a = (b)", "syntax in text 1 at 4"),
+    (")", "syntax in text 1 at 0"),
+    ("a >= = b", "syntax in text 1 at 5"),
+    ("a = = b", "syntax in text 1 at 4"),
+    ("a <> b", "syntax in text 1 at 3"),
+    ("a => b", "syntax in text 1 at 3"),
+    ("a =! b", "syntax in text 1 at 3"),
+];
+
+fn shown_test(alloc: Global, test: &Test) -> Result<String, AllocError> {
+    match test {
+        Test::Equal(value) => format!(in alloc; "= '{}'", value.as_str()),
+        Test::Above(number) => format!(in alloc; "> {number}"),
+        Test::AtLeast(number) => format!(in alloc; ">= {number}"),
+        Test::Below(number) => format!(in alloc; "< {number}"),
+        Test::AtMost(number) => format!(in alloc; "<= {number}"),
+        Test::Between(low, high) => format!(in alloc; "{low} TO {high}"),
+        Test::OneOf(values) => {
+            let mut all = String::new(alloc);
+            for value in values {
+                if !all.is_empty() {
+                    all.push_str(", ")?;
+                }
+                let quoted = format!(in alloc; "'{}'", value.as_str())?;
+                all.push_str(quoted.as_str())?;
+            }
+            format!(in alloc; "IN [{all}]")
+        }
+        Test::Exists => String::from_str(alloc, "EXISTS"),
+        Test::Null => String::from_str(alloc, "IS NULL"),
+        Test::Empty => String::from_str(alloc, "IS EMPTY"),
+    }
+}
+
+/// A filter as a text, with each AND and OR in brackets.
+#[cycle(shown)]
+fn shown(alloc: Global, filter: &Filter) -> Result<String, AllocError> {
+    match filter {
+        Filter::All => String::from_str(alloc, "all"),
+        Filter::And(members) => joined(alloc, members, " AND "),
+        Filter::Or(members) => joined(alloc, members, " OR "),
+        Filter::Not(member) => {
+            let inner = shown(alloc, member)?;
+            format!(in alloc; "NOT {inner}")
+        }
+        Filter::Test { attribute, test } => {
+            let test = shown_test(alloc, test)?;
+            format!(in alloc; "{} {test}", attribute.as_str())
+        }
+    }
+}
+
+#[cycle(shown)]
+fn joined(alloc: Global, members: &Vec<Filter>, word: &str) -> Result<String, AllocError> {
+    let mut all = String::from_str(alloc, "(")?;
+    for member in members {
+        if all.len() > 1 {
+            all.push_str(word)?;
+        }
+        let one = shown(alloc, member)?;
+        all.push_str(one.as_str())?;
+    }
+    all.push(')')?;
+    Ok(all)
+}
+
+/// The answer for a value, as a text.
+fn answer(alloc: Global, value: &Value) -> Result<String, AllocError>
+    requires few { length (texts_of (data_of value.now)) < 2 ^ 32 }
+    requires short { AreShort (texts_of (data_of value.now)) }
+{
+    match parse(alloc, value) {
+        Ok(filter) => shown(alloc, &filter),
+        Err(FilterFault::Syntax { text, place }) => {
+            format!(in alloc; "syntax in text {text} at {place}")
+        }
+        Err(FilterFault::TooDeep { text, place }) => {
+            format!(in alloc; "too deep in text {text} at {place}")
+        }
+        Err(FilterFault::NotANumber { value }) => {
+            format!(in alloc; "no number: {}", value.as_str())
+        }
+        Err(FilterFault::NotText) => String::from_str(alloc, "no text"),
+        Err(FilterFault::NoMemory) => String::from_str(alloc, "no memory"),
+    }
+}
+
+/// The answer for one text.
+fn answer_of(alloc: Global, text: &str) -> Result<String, AllocError>
+    requires { length text.now < 2 ^ 32 }
+{
+    let value = Value::String(String::from_str(alloc, text)?);
+    answer(alloc, &value)
+}
+
+fn check(rt: &impl Abort, alloc: Global, rows: &[(&str, &str)]) -> Result<(), Fail> {
+    for (text, expected) in rows {
+        assert!(rt; text.len() < 4_294_967_296);
+        let found = answer_of(alloc, text)?;
+        assert_eq!(rt; found.as_str(), *expected, "{text}");
+    }
+    Ok(())
+}
+
+#[test]
+fn each_operator_gives_its_test(rt: HostRuntime) -> Result<(), Fail> {
+    check(&rt, rt.alloc(), &OPERATORS)
+}
+
+#[test]
+fn and_binds_more_than_or(rt: HostRuntime) -> Result<(), Fail> {
+    check(&rt, rt.alloc(), &JOINED)
+}
+
+#[test]
+fn words_and_quoted_texts(rt: HostRuntime) -> Result<(), Fail> {
+    check(&rt, rt.alloc(), &TEXTS)
+}
+
+#[test]
+fn numbers_at_both_ends_and_one_beyond(rt: HostRuntime) -> Result<(), Fail> {
+    check(&rt, rt.alloc(), &NUMBERS)
+}
+
+#[test]
+fn a_fault_stands_where_no_filter_goes_on(rt: HostRuntime) -> Result<(), Fail> {
+    check(&rt, rt.alloc(), &FAULTS)
+}
+
+/// So many copies of a text, a middle, and so many copies of another.
+fn wrapped(
+    alloc: Global,
+    open: &str,
+    middle: &str,
+    close: &str,
+    count: usize,
+) -> Result<String, AllocError> {
+    let mut all = String::new(alloc);
+    for _ in 0..count {
+        all.push_str(open)?;
+    }
+    all.push_str(middle)?;
+    for _ in 0..count {
+        all.push_str(close)?;
+    }
+    Ok(all)
+}
+
+fn check_wrapped(
+    rt: &impl Abort,
+    alloc: Global,
+    rows: &[(&str, &str, &str, usize, &str)],
+) -> Result<(), Fail> {
+    for (open, middle, close, count, expected) in rows {
+        let text = wrapped(alloc, open, middle, close, *count)?;
+        assert!(rt; text.len() < 4_294_967_296);
+        let found = answer_of(alloc, text.as_str())?;
+        assert_eq!(rt; found.as_str(), *expected, "{count} of {open}");
+    }
+    Ok(())
+}
+
+#[test]
+fn two_hundred_may_be_open(rt: HostRuntime) -> Result<(), Fail> {
+    check_wrapped(
+        &rt,
+        rt.alloc(),
+        &[
+            ("(", "a = 1", ")", 200, "a = '1'"),
+            ("(", "a = 1", ")", 201, "too deep in text 1 at 200"),
+            ("(", "", "", 1_000_000, "too deep in text 1 at 200"),
+            ("NOT ", "a = 1", "", 201, "too deep in text 1 at 800"),
+            ("NOT ", "", "", 200, "syntax in text 1 at 800"),
+            ("(", "NOT~", "", 200, "too deep in text 1 at 200"),
+            ("(", "NOTx~", "", 200, "syntax in text 1 at 204"),
+            ("(NOT ", "a", "", 101, "too deep in text 1 at 500"),
+        ],
+    )
+}
+
+#[test]
+fn laws_hold() {
+    a_text_has_one_tree();
+    a_value_has_one_answer();
+}
+
+fn joined_groups(alloc: Global) -> Result<Value, AllocError>
+    ensures few { IfOk result (λ v. length (texts_of (data_of v)) < 2 ^ 32) }
+    ensures short { IfOk result (λ v. AreShort (texts_of (data_of v))) }
+{
+    json!(in alloc; ["a = 1 OR b = 2", ["c = 3", "d = 4"], ["e = 5"]])
+}
+
+fn blank_groups(alloc: Global) -> Result<Value, AllocError>
+    ensures few { IfOk result (λ v. length (texts_of (data_of v)) < 2 ^ 32) }
+    ensures short { IfOk result (λ v. AreShort (texts_of (data_of v))) }
+{
+    json!(in alloc; ["", [" ", "\t"], []])
+}
+
+fn one_group(alloc: Global) -> Result<Value, AllocError>
+    ensures few { IfOk result (λ v. length (texts_of (data_of v)) < 2 ^ 32) }
+    ensures short { IfOk result (λ v. AreShort (texts_of (data_of v))) }
+{
+    json!(in alloc; [" ", ["", "a = 1"]])
+}
+
+fn fault_after_a_bad_number(alloc: Global) -> Result<Value, AllocError>
+    ensures few { IfOk result (λ v. length (texts_of (data_of v)) < 2 ^ 32) }
+    ensures short { IfOk result (λ v. AreShort (texts_of (data_of v))) }
+{
+    json!(in alloc; ["n > x", ["", "a ="], "b"])
+}
+
+fn two_bad_numbers(alloc: Global) -> Result<Value, AllocError>
+    ensures few { IfOk result (λ v. length (texts_of (data_of v)) < 2 ^ 32) }
+    ensures short { IfOk result (λ v. AreShort (texts_of (data_of v))) }
+{
+    json!(in alloc; [["a = 1", "n > x"], "m > y"])
+}
+
+fn array_in_an_inner_array(alloc: Global) -> Result<Value, AllocError>
+    ensures few { IfOk result (λ v. length (texts_of (data_of v)) < 2 ^ 32) }
+    ensures short { IfOk result (λ v. AreShort (texts_of (data_of v))) }
+{
+    json!(in alloc; ["a", ["b = 1", ["c = 2"]]])
+}
+
+fn number_after_a_fault(alloc: Global) -> Result<Value, AllocError>
+    ensures few { IfOk result (λ v. length (texts_of (data_of v)) < 2 ^ 32) }
+    ensures short { IfOk result (λ v. AreShort (texts_of (data_of v))) }
+{
+    json!(in alloc; ["a", 5])
+}
+
+fn check_value(rt: &impl Abort, alloc: Global, value: &Value, expected: &str) -> Result<(), Fail>
+    requires few { length (texts_of (data_of value.now)) < 2 ^ 32 }
+    requires short { AreShort (texts_of (data_of value.now)) }
+{
+    let found = answer(alloc, value)?;
+    assert_eq!(rt; found.as_str(), expected);
+    Ok(())
+}
+
+#[test]
+fn arrays_join_by_and_and_inner_arrays_by_or(rt: HostRuntime) -> Result<(), Fail> {
+    let alloc = rt.alloc();
+    let joined = "((a = '1' OR b = '2') AND (c = '3' OR d = '4') AND e = '5')";
+    check_value(&rt, alloc, &joined_groups(alloc)?, joined)?;
+    check_value(&rt, alloc, &blank_groups(alloc)?, "all")?;
+    check_value(&rt, alloc, &one_group(alloc)?, "a = '1'")?;
+    check_value(&rt, alloc, &Value::Null, "all")
+}
+
+#[test]
+fn the_first_text_with_a_fault_decides(rt: HostRuntime) -> Result<(), Fail> {
+    let alloc = rt.alloc();
+    check_value(
+        &rt,
+        alloc,
+        &fault_after_a_bad_number(alloc)?,
+        "syntax in text 3 at 3",
+    )?;
+    check_value(&rt, alloc, &two_bad_numbers(alloc)?, "no number: x")?;
+    check_value(&rt, alloc, &array_in_an_inner_array(alloc)?, "no text")?;
+    check_value(&rt, alloc, &number_after_a_fault(alloc)?, "no text")?;
+    check_value(&rt, alloc, &Value::Bool(true), "no text")
+}

@@ -1,0 +1,14 @@
+//! Tests of words, synonyms, queries and filters.
+//!
+//! They use what these crates offer to others, and stand in a crate of their own, so that the crates they try are proved
+//! once and not twice. The crate has nothing but tests, and promises nothing.
+#![tactic(auto)]
+
+#[cfg(test)]
+mod filters;
+#[cfg(test)]
+mod graphs;
+#[cfg(test)]
+mod synonyms;
+#[cfg(test)]
+mod words;

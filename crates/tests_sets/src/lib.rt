@@ -1,0 +1,14 @@
+//! Tests of sets of documents, sorted lists in pages, least path costs and nested buckets.
+//!
+//! They use what these crates offer to others, and stand in a crate of their own, so that the crates they try are proved
+//! once and not twice. The crate has nothing but tests, and promises nothing.
+#![tactic(auto)]
+
+#[cfg(test)]
+mod buckets;
+#[cfg(test)]
+mod doc_lists;
+#[cfg(test)]
+mod pages;
+#[cfg(test)]
+mod paths;
