@@ -12,8 +12,8 @@ use Rattle.filter_expr.specs.Faults.{IsSyntaxFault, IsTooDeep}
 use Rattle.filter_expr.specs.Texts.{texts_in, group_of, and_group, groups_in, groups_of, texts_among, texts_of_member, texts_of_members, texts_of}
 use Rattle.filter_expr.specs.Parsed.{is_blank, Write, GroupsWrite, group_trees, values_of, values_of_groups, IsFirstFault}
 use Rattle.filter_expr.specs.Reader.{Progress, progress, new_progress, with_reading, text_read, and_then, texts_read, with_group, group_end, group_read, groups_read, value_read}
-use Rattle.filter_expr.specs.declared.fault.FilterFault.{FilterFault}
-use Rattle.filter_expr.specs.declared.fault.FilterFault.TheVariants.{Syntax, TooDeep, NotANumber, NotText, NoMemory}
+use Rattle.filter_expr.specs.declared.fault.FilterRefusal.{FilterRefusal}
+use Rattle.filter_expr.specs.declared.fault.FilterRefusal.TheVariants.{Syntax, TooDeep, NotANumber, NotText}
 use Rattle.filter_expr.proofs.Complete.{bad_after-append}
 use Rattle.filter_expr.proofs.Answered.{AnswerIs, answer_is}
 
@@ -97,7 +97,7 @@ pub record TextsOk (ts : List (List ℕ)) (p q : Progress) : Type 0 where
   pub groups_are : q.groups ≡ p.groups
   pub members_are : q.members ≡ p.members ++ map ors_tree filters
 
-abbrev pub TextsSay : List (List ℕ) → Progress → Result Progress FilterFault → Type 0
+abbrev pub TextsSay : List (List ℕ) → Progress → Result Progress FilterRefusal → Type 0
 TextsSay ts p (Ok q) = TextsOk ts p q
 TextsSay ts p (Err (Syntax n k)) = FaultFrom p.count ts n (IsRefused k)
 TextsSay ts p (Err (TooDeep n k)) = FaultFrom p.count ts n (IsDeep k)
@@ -142,7 +142,7 @@ text_says text p = by_blank (is_blank text) refl
     }
     by_blank false blank = by_answer blank (reading_of text) (answer_is text)
 
-joined : (ts us : List (List ℕ)) (p q : Progress) (r : Result Progress FilterFault) → TextsOk ts p q → TextsSay us q r → TextsSay (ts ++ us) p r
+joined : (ts us : List (List ℕ)) (p q : Progress) (r : Result Progress FilterRefusal) → TextsOk ts p q → TextsSay us q r → TextsSay (ts ++ us) p r
 joined ts us p q (Ok last) h k = record {
   filters = h.filters ++ k.filters;
   write = Write-append ts us h.filters k.filters h.write k.write;
@@ -157,15 +157,13 @@ joined ts us p q (Err (Syntax n k)) h fault = fault_later p.count q.count ts us 
 joined ts us p q (Err (TooDeep n k)) h fault = fault_later p.count q.count ts us h.filters n (IsDeep k) h.count_is h.write fault
 joined ts us p q (Err (NotANumber w)) h wrong = wrong
 joined ts us p q (Err NotText) h wrong = wrong
-joined ts us p q (Err NoMemory) h wrong = wrong
 
-then_says : (ts us : List (List ℕ)) (p : Progress) (r : Result Progress FilterFault) (f : Progress → Result Progress FilterFault) → TextsSay ts p r → ((q : Progress) → TextsSay us q (f q)) → TextsSay (ts ++ us) p (and_then r f)
+then_says : (ts us : List (List ℕ)) (p : Progress) (r : Result Progress FilterRefusal) (f : Progress → Result Progress FilterRefusal) → TextsSay ts p r → ((q : Progress) → TextsSay us q (f q)) → TextsSay (ts ++ us) p (and_then r f)
 then_says ts us p (Ok q) f h later = joined ts us p q (f q) h (later q)
 then_says ts us p (Err (Syntax n k)) f fault later = fault_front p.count ts us n (IsRefused k) fault
 then_says ts us p (Err (TooDeep n k)) f fault later = fault_front p.count ts us n (IsDeep k) fault
 then_says ts us p (Err (NotANumber w)) f wrong later = wrong
 then_says ts us p (Err NotText) f wrong later = wrong
-then_says ts us p (Err NoMemory) f wrong later = wrong
 
 mapped : (o : Option (List (List ℕ))) (s : List ℕ) (ts : List (List ℕ)) → option_map (λ us. s ∷ us) o ≡ Some ts → (us : List (List ℕ)) × (o ≡ Some us) × (s ∷ us ≡ ts)
 mapped None s ts e = absurd (let wrong = e in cc)
@@ -196,7 +194,7 @@ pub record GroupsOk (gs : List (List (List ℕ))) (ts : List (List ℕ)) (p q : 
   pub bad_is : q.bad ≡ bad_after p.bad (values_of_groups filters)
   pub groups_are : q.groups ≡ p.groups ++ group_trees filters
 
-abbrev pub GroupsSay : List (List (List ℕ)) → List (List ℕ) → Progress → Result Progress FilterFault → Type 0
+abbrev pub GroupsSay : List (List (List ℕ)) → List (List ℕ) → Progress → Result Progress FilterRefusal → Type 0
 GroupsSay gs ts p (Ok q) = GroupsOk gs ts p q
 GroupsSay gs ts p (Err (Syntax n k)) = FaultFrom p.count ts n (IsRefused k)
 GroupsSay gs ts p (Err (TooDeep n k)) = FaultFrom p.count ts n (IsDeep k)
@@ -206,7 +204,7 @@ group_added : (fs : List Ors) (fss : List (List Ors)) (gs : List Tree) → with_
 group_added [] fss gs = refl
 group_added (f ∷ fs) fss gs = append_assoc gs (or_of (map ors_tree (f ∷ fs)) ∷ []) (group_trees fss)
 
-group_joined : (g : List (List ℕ)) (gs : List (List (List ℕ))) (us : List (List ℕ)) (p q : Progress) (r : Result Progress FilterFault) → p.members ≡ [] → TextsOk g p q → GroupsSay gs us (group_end q) r
+group_joined : (g : List (List ℕ)) (gs : List (List (List ℕ))) (us : List (List ℕ)) (p q : Progress) (r : Result Progress FilterRefusal) → p.members ≡ [] → TextsOk g p q → GroupsSay gs us (group_end q) r
     → GroupsSay (g ∷ gs) (g ++ us) p r
 group_joined g gs us p q (Ok last) none h k = record {
   filters = h.filters ∷ k.filters;
@@ -222,16 +220,14 @@ group_joined g gs us p q (Err (Syntax n k)) none h fault = fault_later p.count q
 group_joined g gs us p q (Err (TooDeep n k)) none h fault = fault_later p.count q.count g us h.filters n (IsDeep k) h.count_is h.write fault
 group_joined g gs us p q (Err (NotANumber w)) none h wrong = wrong
 group_joined g gs us p q (Err NotText) none h wrong = wrong
-group_joined g gs us p q (Err NoMemory) none h wrong = wrong
 
-group_then : (g : List (List ℕ)) (gs : List (List (List ℕ))) (us : List (List ℕ)) (p : Progress) (r : Result Progress FilterFault) (f : Progress → Result Progress FilterFault)
+group_then : (g : List (List ℕ)) (gs : List (List (List ℕ))) (us : List (List ℕ)) (p : Progress) (r : Result Progress FilterRefusal) (f : Progress → Result Progress FilterRefusal)
     → p.members ≡ [] → TextsSay g p r → ((q : Progress) → q.members ≡ [] → GroupsSay gs us q (f q)) → GroupsSay (g ∷ gs) (g ++ us) p (and_then r (λ q. f (group_end q)))
 group_then g gs us p (Ok q) f none h later = group_joined g gs us p q (f (group_end q)) none h (later (group_end q) refl)
 group_then g gs us p (Err (Syntax n k)) f none fault later = fault_front p.count g us n (IsRefused k) fault
 group_then g gs us p (Err (TooDeep n k)) f none fault later = fault_front p.count g us n (IsDeep k) fault
 group_then g gs us p (Err (NotANumber w)) f none wrong later = wrong
 group_then g gs us p (Err NotText) f none wrong later = wrong
-group_then g gs us p (Err NoMemory) f none wrong later = wrong
 
 pub group_says : (d : Data) (g : List (List ℕ)) (p : Progress) → group_of d ≡ Some g → TextsSay g p (group_read d p) × (texts_of_member d ≡ g)
 group_says (string s) g p e = let same : s ∷ [] ≡ g = cc in (subst (λ us. TextsSay us p (text_read s p)) same (text_says s p), same)

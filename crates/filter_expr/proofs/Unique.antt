@@ -13,10 +13,8 @@ use Rattle.filter_expr.specs.Text.{is_space, class_of, space, IsFilter}
 use Rattle.filter_expr.specs.Faults.{IsWithin, IsTooDeep}
 use Rattle.filter_expr.specs.Texts.{group_of, groups_in, groups_of, texts_of_member, texts_of_members, texts_of}
 use Rattle.filter_expr.specs.Parsed.{is_blank, Writes, Write, GroupsWrite, group_trees, conditions, values_of, values_of_groups, IsFirstFault, IsParsed}
-use Rattle.filter_expr.specs.Answers.{SameAnswer}
-use Rattle.filter_tree.specs.declared.tree.Filter.{Filter}
-use Rattle.filter_expr.specs.declared.fault.FilterFault.{FilterFault}
-use Rattle.filter_expr.specs.declared.fault.FilterFault.TheVariants.{Syntax, TooDeep, NotANumber, NotText, NoMemory}
+use Rattle.filter_expr.specs.declared.fault.FilterRefusal.{FilterRefusal}
+use Rattle.filter_expr.specs.declared.fault.FilterRefusal.TheVariants.{Syntax, TooDeep, NotANumber, NotText}
 use Rattle.filter_expr.proofs.Complete.{bad_after-append}
 use Rattle.filter_expr.proofs.Readings.{filter_reading, one_reading}
 use Rattle.filter_expr.proofs.Within.{within_read}
@@ -193,49 +191,44 @@ no_groups d gs none e = let wrong : None ≡ Some gs = sym none ∙ e in cc
 deep_once : (text : List ℕ) (p q : ℕ) → IsTooDeep text p → IsTooDeep text q → p ≡ q
 deep_once text p q h k = let same : Err (too_deep_at p) ≡ Err (too_deep_at q) = sym (too_deep_read text p h) ∙ too_deep_read text q k in cc
 
-pub one_answer : (d : Data) (r s : Result Filter FilterFault) → IsParsed d r → IsParsed d s → SameAnswer r s
-one_answer d (Err NoMemory) s h k = tt
-one_answer d (Ok f) (Err NoMemory) h k = tt
+pub one_answer : (d : Data) (r s : Result Tree FilterRefusal) → IsParsed d r → IsParsed d s → r ≡ s
 one_answer d (Ok f) (Ok g) (gs, fss, e, write, good, tree) (gs', fss', e', write', good', tree') =
     let same = same_groups d gs' gs e' e in
-    tree ∙ ap conditions ((groups_same gs fss fss' write (subst (λ x. GroupsWrite x fss') same write')).trees) ∙ sym tree'
+    ap (λ x. Ok x) (tree ∙ ap conditions ((groups_same gs fss fss' write (subst (λ x. GroupsWrite x fss') same write')).trees) ∙ sym tree')
 one_answer d (Ok f) (Err (NotANumber w)) (gs, fss, e, write, good, tree) (gs', fss', e', write', bad') =
     let same = same_groups d gs' gs e' e in
-    let wrong : None ≡ Some w = sym good ∙ bad_same gs fss fss' write (subst (λ x. GroupsWrite x fss') same write') ∙ bad' in cc
+    absurd (let wrong : None ≡ Some w = sym good ∙ bad_same gs fss fss' write (subst (λ x. GroupsWrite x fss') same write') ∙ bad' in cc)
 one_answer d (Ok f) (Err (Syntax n p)) (gs, fss, e, write, good, tree) (gs', e', fault) =
-    let (fs, all) = value_writes d gs fss e write in apart (texts_of d) fs n (IsRefused p) all (refused_fault p) fault
+    let (fs, all) = value_writes d gs fss e write in absurd (apart (texts_of d) fs n (IsRefused p) all (refused_fault p) fault)
 one_answer d (Ok f) (Err (TooDeep n p)) (gs, fss, e, write, good, tree) (gs', e', fault) =
-    let (fs, all) = value_writes d gs fss e write in apart (texts_of d) fs n (IsDeep p) all (deep_fault p) fault
-one_answer d (Ok f) (Err NotText) (gs, fss, e, write, good, tree) none = no_groups d gs none e
-one_answer d (Err (NotANumber w)) (Err NoMemory) h k = tt
+    let (fs, all) = value_writes d gs fss e write in absurd (apart (texts_of d) fs n (IsDeep p) all (deep_fault p) fault)
+one_answer d (Ok f) (Err NotText) (gs, fss, e, write, good, tree) none = absurd (no_groups d gs none e)
 one_answer d (Err (NotANumber w)) (Ok f) (gs, fss, e, write, bad) (gs', fss', e', write', good', tree') =
     let same = same_groups d gs' gs e' e in
-    let wrong : Some w ≡ None = sym bad ∙ bad_same gs fss fss' write (subst (λ x. GroupsWrite x fss') same write') ∙ good' in cc
+    absurd (let wrong : Some w ≡ None = sym bad ∙ bad_same gs fss fss' write (subst (λ x. GroupsWrite x fss') same write') ∙ good' in cc)
 one_answer d (Err (NotANumber w)) (Err (NotANumber v)) (gs, fss, e, write, bad) (gs', fss', e', write', bad') =
     let same = same_groups d gs' gs e' e in
     let words : Some w ≡ Some v = sym bad ∙ bad_same gs fss fss' write (subst (λ x. GroupsWrite x fss') same write') ∙ bad' in
     let alike : w ≡ v = cc in
-    ap (λ x. NotANumber x) alike
+    ap (λ x. Err (NotANumber x)) alike
 one_answer d (Err (NotANumber w)) (Err (Syntax n p)) (gs, fss, e, write, bad) (gs', e', fault) =
     let (fs, all) = value_writes d gs fss e write in absurd (apart (texts_of d) fs n (IsRefused p) all (refused_fault p) fault)
 one_answer d (Err (NotANumber w)) (Err (TooDeep n p)) (gs, fss, e, write, bad) (gs', e', fault) =
     let (fs, all) = value_writes d gs fss e write in absurd (apart (texts_of d) fs n (IsDeep p) all (deep_fault p) fault)
 one_answer d (Err (NotANumber w)) (Err NotText) (gs, fss, e, write, bad) none = absurd (no_groups d gs none e)
-one_answer d (Err (Syntax n p)) (Err NoMemory) h k = tt
 one_answer d (Err (Syntax n p)) (Ok f) (gs', e', fault) (gs, fss, e, write, good, tree) =
-    let (fs, all) = value_writes d gs fss e write in apart (texts_of d) fs n (IsRefused p) all (refused_fault p) fault
+    let (fs, all) = value_writes d gs fss e write in absurd (apart (texts_of d) fs n (IsRefused p) all (refused_fault p) fault)
 one_answer d (Err (Syntax n p)) (Err (NotANumber w)) (gs', e', fault) (gs, fss, e, write, bad) =
     let (fs, all) = value_writes d gs fss e write in absurd (apart (texts_of d) fs n (IsRefused p) all (refused_fault p) fault)
 one_answer d (Err (Syntax n p)) (Err (Syntax m q)) (gs, e, fault) (gs', e', fault') =
     let (text, one, other, numbers) = faults_same (texts_of d) n m (IsRefused p) (IsRefused q) (refused_fault p) (refused_fault q) fault fault' in
-    ap₂ (λ a b. Syntax a b) numbers (one_place text p q one.0 other.0)
+    ap₂ (λ a b. Err (Syntax a b)) numbers (one_place text p q one.0 other.0)
 one_answer d (Err (Syntax n p)) (Err (TooDeep m q)) (gs, e, fault) (gs', e', fault') =
     let (text, one, other, numbers) = faults_same (texts_of d) n m (IsRefused p) (IsDeep q) (refused_fault p) (deep_fault q) fault fault' in
     absurd (one.1 q other)
 one_answer d (Err (Syntax n p)) (Err NotText) (gs, e, fault) none = absurd (no_groups d gs none e)
-one_answer d (Err (TooDeep n p)) (Err NoMemory) h k = tt
 one_answer d (Err (TooDeep n p)) (Ok f) (gs', e', fault) (gs, fss, e, write, good, tree) =
-    let (fs, all) = value_writes d gs fss e write in apart (texts_of d) fs n (IsDeep p) all (deep_fault p) fault
+    let (fs, all) = value_writes d gs fss e write in absurd (apart (texts_of d) fs n (IsDeep p) all (deep_fault p) fault)
 one_answer d (Err (TooDeep n p)) (Err (NotANumber w)) (gs', e', fault) (gs, fss, e, write, bad) =
     let (fs, all) = value_writes d gs fss e write in absurd (apart (texts_of d) fs n (IsDeep p) all (deep_fault p) fault)
 one_answer d (Err (TooDeep n p)) (Err (Syntax m q)) (gs, e, fault) (gs', e', fault') =
@@ -243,10 +236,9 @@ one_answer d (Err (TooDeep n p)) (Err (Syntax m q)) (gs, e, fault) (gs', e', fau
     absurd (other.1 p one)
 one_answer d (Err (TooDeep n p)) (Err (TooDeep m q)) (gs, e, fault) (gs', e', fault') =
     let (text, one, other, numbers) = faults_same (texts_of d) n m (IsDeep p) (IsDeep q) (deep_fault p) (deep_fault q) fault fault' in
-    ap₂ (λ a b. TooDeep a b) numbers (deep_once text p q one other)
+    ap₂ (λ a b. Err (TooDeep a b)) numbers (deep_once text p q one other)
 one_answer d (Err (TooDeep n p)) (Err NotText) (gs, e, fault) none = absurd (no_groups d gs none e)
-one_answer d (Err NotText) (Err NoMemory) h k = tt
-one_answer d (Err NotText) (Ok f) none (gs, fss, e, write, good, tree) = no_groups d gs none e
+one_answer d (Err NotText) (Ok f) none (gs, fss, e, write, good, tree) = absurd (no_groups d gs none e)
 one_answer d (Err NotText) (Err (NotANumber w)) none (gs, fss, e, write, bad) = absurd (no_groups d gs none e)
 one_answer d (Err NotText) (Err (Syntax n p)) none (gs, e, fault) = absurd (no_groups d gs none e)
 one_answer d (Err NotText) (Err (TooDeep n p)) none (gs, e, fault) = absurd (no_groups d gs none e)

@@ -5,8 +5,9 @@ pub mod Number
 pub mod Faults
 pub mod Texts
 pub mod Parsed
+pub mod Answer
 pub mod Answers
--- The parser's own machines, which no public contract cites.
+-- The parser's own machines, which the law of `answers_are_the_grammars` ties to the grammar.
 pub mod Machine
 pub mod Scan
 pub mod Limit

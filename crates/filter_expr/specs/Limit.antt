@@ -1,4 +1,4 @@
--- The same machine with places and the limit on how deep a filter nests: the parser's answer for one text. No public contract cites it.
+-- The same machine with places and the limit on how deep a filter nests: the parser's answer for one text. `answers_are_the_grammars` ties it to the grammar.
 use Rattle.std.specs.Prelude.{ℕ, suc, ◌-◌, List, [], ◌∷◌, ◌++◌, length, Bool, if◌then◌else◌, nat_eq, nat_lt, Option, Some, None, Result, Ok, Err}
 use Rattle.filter_expr.specs.Text.{Class, space, letter, quote, bang, greater, less, single, strange, class_of, is_letter, word_token, is_special}
 use Rattle.filter_expr.specs.Machine.{State, start, Machine, step, new_machine, Reading, accept}

@@ -1,4 +1,4 @@
--- The parser as a machine over tokens, between the grammar and the code. No public contract cites it.
+-- The parser as a machine over tokens, between the grammar and the code. `answers_are_the_grammars` ties it to the grammar.
 use Rattle.std.specs.Prelude.{ℕ, List, [], ◌∷◌, ◌++◌, Bool, true, false, Option, Some, None}
 use Rattle.filter_tree.specs.Tree.{Tree, negation, and_of, or_of}
 use Rattle.filter_expr.specs.Number.{bad_in}

@@ -8,10 +8,8 @@ use Rattle.filter_expr.specs.Grammar.{Ors, ors_tree, ors_values}
 use Rattle.filter_expr.specs.Text.{is_space, IsFilter}
 use Rattle.filter_expr.specs.Faults.{IsWithin, IsSyntaxFault, IsTooDeep}
 use Rattle.filter_expr.specs.Texts.{groups_of, texts_of}
-use Rattle.filter_tree.specs.View.{view}
-use Rattle.filter_tree.specs.declared.tree.Filter.{Filter}
-use Rattle.filter_expr.specs.declared.fault.FilterFault.{FilterFault}
-use Rattle.filter_expr.specs.declared.fault.FilterFault.TheVariants.{Syntax, TooDeep, NotANumber, NotText, NoMemory}
+use Rattle.filter_expr.specs.declared.fault.FilterRefusal.{FilterRefusal}
+use Rattle.filter_expr.specs.declared.fault.FilterRefusal.TheVariants.{Syntax, TooDeep, NotANumber, NotText}
 
 -- nothing but spaces, tabs, CR and LF
 abbrev pub is_blank : List ℕ → Bool
@@ -69,15 +67,14 @@ pub record IsFirstFault (texts : List (List ℕ)) (number : ℕ) (Fault : List �
   pub not_blank : is_blank text ≡ false
   pub fault : Fault text
 
--- Want of memory may be reported of any value.
-abbrev pub IsParsed : Data → Result Filter FilterFault → Type 0
-IsParsed d (Ok filter) =
+-- the answers that the grammar allows for a value
+abbrev pub IsParsed : Data → Result Tree FilterRefusal → Type 0
+IsParsed d (Ok tree) =
     (gs : List (List (List ℕ))) × (fss : List (List Ors)) × (groups_of d ≡ Some gs) × GroupsWrite gs fss
-    × (find is_no_number (values_of_groups fss) ≡ None) × (view filter ≡ conditions (group_trees fss))
+    × (find is_no_number (values_of_groups fss) ≡ None) × (tree ≡ conditions (group_trees fss))
 IsParsed d (Err (Syntax n p)) =
     (gs : List (List (List ℕ))) × (groups_of d ≡ Some gs) × IsFirstFault (texts_of d) n (λ text. IsSyntaxFault text p × ((q : ℕ) → IsTooDeep text q → ⊥))
 IsParsed d (Err (TooDeep n p)) = (gs : List (List (List ℕ))) × (groups_of d ≡ Some gs) × IsFirstFault (texts_of d) n (λ text. IsTooDeep text p)
 IsParsed d (Err (NotANumber value)) =
     (gs : List (List (List ℕ))) × (fss : List (List Ors)) × (groups_of d ≡ Some gs) × GroupsWrite gs fss × (find is_no_number (values_of_groups fss) ≡ Some value)
 IsParsed d (Err NotText) = groups_of d ≡ None
-IsParsed d (Err NoMemory) = Unit {0}

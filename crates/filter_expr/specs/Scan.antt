@@ -1,4 +1,4 @@
--- The parser as a machine over bytes, without a limit on depth. It refuses a byte exactly where no filter begins with the text up to it. No public contract cites it.
+-- The parser as a machine over bytes, without a limit on depth. It refuses a byte exactly where no filter begins with the text up to it. `answers_are_the_grammars` ties it to the grammar.
 use Rattle.std.specs.Prelude.{ℕ, List, [], ◌∷◌, ◌++◌, Bool, true, false, ◌&&◌, ◌||◌, if◌then◌else◌, nat_eq, Option, Some, None, is_some}
 use Rattle.filter_expr.specs.Text.{Class, space, letter, quote, bang, greater, less, single, strange, class_of, is_letter, keywords, word_token, is_special}
 use Rattle.filter_expr.specs.Machine.{State, Machine, level_of, bracket, move, step}

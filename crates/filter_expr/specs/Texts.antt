@@ -1,6 +1,5 @@
 -- The texts of a filter value: a text alone, or an array of texts and of arrays of texts. Each member of the outer array is a group.
-use Rattle.std.specs.Prelude.{ℕ, ◌<◌, ◌^◌, List, [], ◌∷◌, ◌++◌, length, Option, Some, None, option_map}
-use Rattle.std.specs.List.{AllByRecursion}
+use Rattle.std.specs.Prelude.{ℕ, List, [], ◌∷◌, ◌++◌, Option, Some, None, option_map}
 use Rattle.serde_json.specs.Data.{Data, null, string, array, Items, no_items, item}
 
 -- an array of texts alone
@@ -51,7 +50,3 @@ abbrev pub texts_of : Data → List (List ℕ)
 texts_of (string s) = s ∷ []
 texts_of (array ds) = texts_of_members ds
 texts_of _ = []
-
--- each text is shorter than 2^32 bytes
-abbrev pub AreShort : List (List ℕ) → Type 0
-AreShort ts = AllByRecursion (λ t. length t < 2 ^ 32) ts

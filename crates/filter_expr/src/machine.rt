@@ -9,9 +9,8 @@ ghost use Rattle.filter_expr.specs.Held.{level_view, frames_of, machine_view};
 ghost use Rattle.filter_expr.specs.Steps.{StepIs};
 ghost use Rattle.filter_expr.specs.declared.machine.StepFault.TheVariants.{NoMemory as Memory};
 
-use crate::number::whole_number;
 use crate::token::Comparison;
-use filter_tree::{Filter, Test};
+use filter_tree::{Filter, Test, whole_number};
 use search_base::{NoMemory, Word};
 use std::alloc::{AllocError, AllocFailed, Global};
 

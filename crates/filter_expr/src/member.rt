@@ -1,23 +1,26 @@
-ghost use Rattle.std.specs.Prelude.{◌≡◌, ◌≢◌, ◌+◌, ◌<◌, ◌^◌, length, map, Ok, Err, IfOk, MatchResult};
+ghost use Rattle.std.specs.Prelude.{◌≡◌, map, IfOk};
 ghost use Rattle.serde_json.specs.View.{view as data_of, items_view};
 ghost use Rattle.filter_expr.specs.Text.{is_space as is_space_byte};
 ghost use Rattle.filter_expr.specs.Machine.{or_first};
 ghost use Rattle.filter_tree.specs.View.{view};
 ghost use Rattle.filter_expr.specs.Held.{reader_view};
-ghost use Rattle.filter_expr.specs.Texts.{texts_among, texts_of_member, texts_of_members, texts_of, AreShort};
-ghost use Rattle.filter_expr.specs.Parsed.{is_blank as is_blank_text, conditions as condition_tree, IsParsed};
+ghost use Rattle.search_base.specs.Gives.{Gives};
+ghost use Rattle.filter_expr.specs.Parsed.{is_blank as is_blank_text, conditions as condition_tree};
+ghost use Rattle.filter_expr.specs.Answer.{parsed};
 ghost use Rattle.filter_expr.specs.Reader.{new_progress, text_read, texts_read, group_end, group_read, groups_read, value_read, concluded};
-ghost use Rattle.filter_expr.specs.declared.fault.FilterFault.TheVariants.{NoMemory as Memory};
 
-use crate::fault::FilterFault;
+use crate::fault::{FilterFault, FilterRefusal};
 use crate::feed::ScanFault;
 use crate::machine::{Reading, and_of, or_of};
 use crate::shape::has_groups;
 use crate::text::read;
 use filter_tree::Filter;
-use search_base::{NoMemory, Word};
+use search_base::{Fault, NoMemory, Word};
 use serde_json::Value;
 use std::alloc::Global;
+
+/// A longer text is not read, since the place of its fault may not fit in 32 bits.
+const MOST_BYTES: usize = u32::MAX as usize;
 
 /// What has been read of a value: how many texts, the first value in them that should be a number
 /// and is none, a filter for each group, and the filters of the group that is read.
@@ -30,8 +33,7 @@ pub(crate) struct Reader {
 }
 
 fn new_reader(alloc: Global) -> Reader
-    ensures view { reader_view result ≡ new_progress }
-    ensures count { result.count ≡ 0 }
+    ensures { reader_view result ≡ new_progress }
 {
     Reader {
         count: 0,
@@ -62,14 +64,9 @@ fn first_of(first: Option<Word>, second: Option<Word>) -> Option<Word>
     }
 }
 
-/// One text more.
+/// One text more. One of 2^32 bytes or more, or with that number, counts as one for which there is no memory.
 fn read_text(alloc: Global, reader: Reader, text: &str) -> Result<Reader, FilterFault>
-    requires few { reader.count + 1 < 2 ^ 32 }
-    requires short { length text.now < 2 ^ 32 }
-    ensures answer { MatchResult result
-        (λ r. text_read text.now (reader_view reader) ≡ Ok (reader_view r))
-        (λ fault. fault ≢ Memory → text_read text.now (reader_view reader) ≡ Err fault) }
-    ensures count { IfOk result (λ r. r.count ≡ reader.count + 1) }
+    ensures { Gives reader_view result (text_read text.now (reader_view reader)) }
 {
     let Reader {
         count,
@@ -77,6 +74,9 @@ fn read_text(alloc: Global, reader: Reader, text: &str) -> Result<Reader, Filter
         groups,
         mut members,
     } = reader;
+    if count == u32::MAX || text.len() > MOST_BYTES {
+        return Err(Fault::NoMemory);
+    }
     let number = count + 1;
     if is_blank(text) {
         return Ok(Reader {
@@ -97,35 +97,27 @@ fn read_text(alloc: Global, reader: Reader, text: &str) -> Result<Reader, Filter
                 members,
             })
         }
-        Err(ScanFault::Syntax(place)) => Err(FilterFault::Syntax {
+        Err(ScanFault::Syntax(place)) => Err(Fault::Refused(FilterRefusal::Syntax {
             text: number,
             place: place as u32,
-        }),
-        Err(ScanFault::TooDeep(place)) => Err(FilterFault::TooDeep {
+        })),
+        Err(ScanFault::TooDeep(place)) => Err(Fault::Refused(FilterRefusal::TooDeep {
             text: number,
             place: place as u32,
-        }),
-        Err(ScanFault::NoMemory) => Err(FilterFault::NoMemory),
+        })),
+        Err(ScanFault::NoMemory) => Err(Fault::NoMemory),
     }
 }
 
 /// The texts of an inner array.
 fn read_texts(alloc: Global, reader: Reader, members: &Vec<Value>) -> Result<Reader, FilterFault>
-    requires few { reader.count + length (texts_among (items_view members.now.items)) < 2 ^ 32 }
-    requires short { AreShort (texts_among (items_view members.now.items)) }
-    ensures answer { MatchResult result
-        (λ r. texts_read (items_view members.now.items) (reader_view reader)
-        ≡ Ok (reader_view r))
-        (λ fault. fault ≢ Memory
-        → texts_read (items_view members.now.items) (reader_view reader) ≡ Err fault) }
-    ensures count { IfOk result
-        (λ r. r.count ≡ reader.count + length (texts_among (items_view members.now.items))) }
+    ensures { Gives reader_view result (texts_read (items_view members.now.items) (reader_view reader)) }
 {
     let mut reader = reader;
     for member in members {
         match member {
             Value::String(text) => reader = read_text(alloc, reader, text.as_str())?,
-            _ => return Err(FilterFault::NotText),
+            _ => return Err(Fault::Refused(FilterRefusal::NotText)),
         }
     }
     Ok(reader)
@@ -133,8 +125,7 @@ fn read_texts(alloc: Global, reader: Reader, members: &Vec<Value>) -> Result<Rea
 
 /// One group more: OR over its filters, where it has any.
 fn end_group(alloc: Global, reader: Reader) -> Result<Reader, NoMemory>
-    ensures view { IfOk result (λ r. reader_view r ≡ group_end (reader_view reader)) }
-    ensures count { IfOk result (λ r. r.count ≡ reader.count) }
+    ensures { IfOk result (λ r. reader_view r ≡ group_end (reader_view reader)) }
 {
     let Reader {
         count,
@@ -161,31 +152,18 @@ fn end_group(alloc: Global, reader: Reader) -> Result<Reader, NoMemory>
 
 /// A member of the outer array.
 fn read_group(alloc: Global, reader: Reader, member: &Value) -> Result<Reader, FilterFault>
-    requires few { reader.count + length (texts_of_member (data_of member.now)) < 2 ^ 32 }
-    requires short { AreShort (texts_of_member (data_of member.now)) }
-    ensures answer { MatchResult result
-        (λ r. group_read (data_of member.now) (reader_view reader) ≡ Ok (reader_view r))
-        (λ fault. fault ≢ Memory → group_read (data_of member.now) (reader_view reader) ≡ Err fault) }
-    ensures count { IfOk result
-        (λ r. r.count ≡ reader.count + length (texts_of_member (data_of member.now))) }
+    ensures { Gives reader_view result (group_read (data_of member.now) (reader_view reader)) }
 {
     match member {
         Value::String(text) => read_text(alloc, reader, text.as_str()),
         Value::Array(members) => read_texts(alloc, reader, members),
-        _ => Err(FilterFault::NotText),
+        _ => Err(Fault::Refused(FilterRefusal::NotText)),
     }
 }
 
 /// The members of the outer array.
 fn read_groups(alloc: Global, reader: Reader, members: &Vec<Value>) -> Result<Reader, FilterFault>
-    requires few { reader.count + length (texts_of_members (items_view members.now.items))
-        < 2 ^ 32 }
-    requires short { AreShort (texts_of_members (items_view members.now.items)) }
-    ensures { MatchResult result
-        (λ r. groups_read (items_view members.now.items) (reader_view reader)
-        ≡ Ok (reader_view r))
-        (λ fault. fault ≢ Memory
-        → groups_read (items_view members.now.items) (reader_view reader) ≡ Err fault) }
+    ensures { Gives reader_view result (groups_read (items_view members.now.items) (reader_view reader)) }
 {
     let mut reader = reader;
     for member in members {
@@ -196,11 +174,7 @@ fn read_groups(alloc: Global, reader: Reader, members: &Vec<Value>) -> Result<Re
 }
 
 fn read_value(alloc: Global, value: &Value) -> Result<Reader, FilterFault>
-    requires few { length (texts_of (data_of value.now)) < 2 ^ 32 }
-    requires short { AreShort (texts_of (data_of value.now)) }
-    ensures { MatchResult result
-        (λ r. value_read (data_of value.now) new_progress ≡ Ok (reader_view r))
-        (λ fault. fault ≢ Memory → value_read (data_of value.now) new_progress ≡ Err fault) }
+    ensures { Gives reader_view result (value_read (data_of value.now) new_progress) }
 {
     let reader = new_reader(alloc);
     match value {
@@ -210,7 +184,7 @@ fn read_value(alloc: Global, value: &Value) -> Result<Reader, FilterFault>
             Ok(end_group(alloc, reader)?)
         }
         Value::Array(members) => read_groups(alloc, reader, members),
-        _ => Err(FilterFault::NotText),
+        _ => Err(Fault::Refused(FilterRefusal::NotText)),
     }
 }
 
@@ -226,13 +200,11 @@ fn conditions(groups: Vec<Filter>) -> Filter
 }
 
 fn conclude(reader: Reader) -> Result<Filter, FilterFault>
-    ensures { MatchResult result
-        (λ filter. concluded (reader_view reader) ≡ Ok (view filter))
-        (λ fault. concluded (reader_view reader) ≡ Err fault) }
+    ensures { Gives view result (concluded (reader_view reader)) }
 {
     let Reader { bad, groups, .. } = reader;
     match bad {
-        Some(value) => Err(FilterFault::NotANumber { value }),
+        Some(value) => Err(Fault::Refused(FilterRefusal::NotANumber { value })),
         None => Ok(conditions(groups)),
     }
 }
@@ -242,16 +214,15 @@ fn conclude(reader: Reader) -> Result<Filter, FilterFault>
 ///
 /// A value of another shape is `NotText`. Then the first text that is neither blank nor a filter
 /// within the depth decides, by `TooDeep` or `Syntax`, and last the first value that must be a number
-/// and is none. Want of memory may be reported of any value.
+/// and is none.
 ///
-/// A value has fewer than 2^32 texts, each of fewer than 2^32 bytes.
+/// A text of 2^32 bytes or more, and text number 2^32, count as ones for which there is no memory.
+#[tactic(auto, unfolding(crate::specs::Answer::parsed))]
 pub fn parse(alloc: Global, value: &Value) -> Result<Filter, FilterFault>
-    requires few { length (texts_of (data_of value.now)) < 2 ^ 32 }
-    requires short { AreShort (texts_of (data_of value.now)) }
-    ensures { IsParsed (data_of value.now) result }
+    ensures { Gives view result (parsed (data_of value.now)) }
 {
     if !has_groups(value) {
-        return Err(FilterFault::NotText);
+        return Err(Fault::Refused(FilterRefusal::NotText));
     }
     match read_value(alloc, value) {
         Ok(reader) => conclude(reader),

@@ -1,15 +1,9 @@
-use Rattle.std.proofs.Common.{◌≡◌, ◌+◌, drop, length}
+use Rattle.std.proofs.Common.{◌≡◌, drop}
 use Rattle.serde_json.specs.View.{items_view}
-use Rattle.filter_expr.specs.Texts.{texts_among, AreShort}
 use Rattle.filter_expr.specs.Reader.{texts_read}
 use Rattle.filter_expr.specs.Held.{reader_view}
 use Rattle.filter_expr.proofs.member.read_texts.Given as goal
 
 -- the answer for all is the answer for what is left
 abbrev pub invariant-loop-member : goal.invariant-loop-member
-invariant-loop-member l =
-    let left = items_view (drop l.member-index l.member-items) in record {
-      all : texts_read (items_view l.member-items) (reader_view l.fn.reader) ≡ texts_read left (reader_view l.reader);
-      count : l.reader.count + length (texts_among left) ≡ l.fn.reader.count + length (texts_among (items_view l.member-items));
-      short : AreShort (texts_among left);
-    }
+invariant-loop-member l = texts_read (items_view l.member-items) (reader_view l.fn.reader) ≡ texts_read (items_view (drop l.member-index l.member-items)) (reader_view l.reader)

@@ -1,6 +1,6 @@
 use Rattle.std.proofs.Common.{◌≡◌, ◌-◌, ◌^◌, min, take}
 use Rattle.std.specs.Str.Parse.{digits_value}
-use Rattle.filter_expr.proofs.number.value_of.Given as goal
+use Rattle.filter_tree.proofs.number.value_of.Given as goal
 
 -- the number so far
 abbrev pub invariant-loop-digit : goal.invariant-loop-digit

@@ -2,14 +2,14 @@ ghost use Rattle.std.specs.Prelude.{◌≡◌, ◌+◌, ◌*◌, ◌-◌, ◌^�
 ghost use Rattle.std.specs.Char.{is_ascii_digit, digit_value};
 ghost use Rattle.std.specs.List.{list_all};
 ghost use Rattle.std.specs.Str.Parse.{digits_value};
-ghost use Rattle.filter_expr.specs.Number.{is_numeral as is_numeral_text, numeral_up_to, number_of};
+ghost use Rattle.filter_tree.specs.Number.{is_numeral as is_numeral_text, numeral_up_to, number_of};
 
 /// The least whole number has this magnitude.
 const MOST_BELOW_ZERO: u64 = 1 << 63;
 
-/// The whole number that a text writes: an optional `-` and decimal digits, from -2^63 to 2^64 - 1.
+/// The whole number that a text writes: an optional `-` and decimal digits, from -2^63 to 2^64 - 1. Takes no memory.
 #[tactic(auto, unfolding(crate::specs::Number::number_of))]
-pub(crate) fn whole_number(text: &str) -> Option<i128>
+pub fn whole_number(text: &str) -> Option<i128>
     ensures { result ≡ number_of text.now }
 {
     match text.as_bytes() {
