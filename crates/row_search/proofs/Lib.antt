@@ -3,3 +3,5 @@ pub mod Placing
 pub mod Searching
 pub mod Collecting
 pub mod Free
+pub mod Counting
+pub mod Same

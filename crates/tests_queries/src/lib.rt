@@ -9,6 +9,8 @@ mod filters;
 #[cfg(test)]
 mod graphs;
 #[cfg(test)]
+mod row_filters;
+#[cfg(test)]
 mod synonyms;
 #[cfg(test)]
 mod words;

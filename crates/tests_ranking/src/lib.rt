@@ -9,4 +9,6 @@ mod conditions;
 #[cfg(test)]
 mod costs;
 #[cfg(test)]
+mod facets;
+#[cfg(test)]
 mod ranked;

@@ -1,7 +1,10 @@
 ghost use Rattle.std.specs.Prelude.{◌<◌, ◌≤◌, IfOk};
 ghost use Rattle.search_base.specs.Graphs.{IsGraph, IsPlaced};
 
+use facet_counts::{FacetCounts, FacetPath};
+use filter_tree::{Filter, Test};
 use packed_rows::PackedSlots;
+use row_filter::RowFilter;
 use row_search::{Ranked, rank};
 use search_base::{
     Block, CostKey, DocId, DocRows, FacetValue, Graph, Kind, Leaf, LevelGraph, NoMemory, PathId,
@@ -138,21 +141,41 @@ fn rules(alloc: Global, told: &str) -> Result<Vec<Rule>, Fail> {
     Ok(rules)
 }
 
-// Whether a query has words, the rules, the window, the hits with their costs, and the number of matches.
-const SEARCHES: [(bool, &str, u64, u64, &str, u64); 5] = [
+// Whether a query has words, the least year that passes, the rules, the window, the hits with their costs, and the
+// number of matches.
+const SEARCHES: [(bool, Option<i128>, &str, u64, u64, &str, u64); 7] = [
     (
         true,
+        None,
         "wd",
         0,
         20,
         "1 0 down 2012;0 0 down 2008;2 1 down 1999;",
         3,
     ),
-    (true, "wd", 1, 2, "0 0 down 2008;", 3),
-    (true, "wd", 2, 1, "", 3),
-    (false, "u", 0, 3, "2 up 1999;3 up 2002;0 up 2008;", 4),
-    (false, "wi", 1, 3, "1 0 0;2 0 0;", 4),
+    (true, None, "wd", 1, 2, "0 0 down 2008;", 3),
+    (true, None, "wd", 2, 1, "", 3),
+    (false, None, "u", 0, 3, "2 up 1999;3 up 2002;0 up 2008;", 4),
+    (false, None, "wi", 1, 3, "1 0 0;2 0 0;", 4),
+    (true, Some(2000), "wd", 1, 20, "0 0 down 2008;", 2),
+    (false, Some(2002), "wi", 0, 2, "0 0 0;1 0 0;", 3),
 ];
+
+// The documents of this year and later, or all.
+fn filter(alloc: Global, least: Option<i128>) -> Result<RowFilter, NoMemory> {
+    let paths = Vec::from_array(
+        alloc,
+        [Word::new(alloc, "title")?, Word::new(alloc, "year")?],
+    )?;
+    let filter = match least {
+        None => Filter::All,
+        Some(year) => Filter::Test {
+            attribute: Word::new(alloc, "year")?,
+            test: Test::AtLeast(year),
+        },
+    };
+    RowFilter::of(alloc, &filter, &paths)
+}
 
 fn shelf(alloc: Global) -> Result<PackedSlots, Fail> {
     let mut kept = PackedSlots::new(alloc);
@@ -177,16 +200,69 @@ fn documents_stand_by_costs_and_ids(rt: HostRuntime) -> Result<(), Fail> {
     let alloc = rt.alloc();
     let kept = shelf(alloc)?;
     assert!(rt; kept.len() <= 1000000);
-    for (has_words, names, offset, end, want, total) in SEARCHES {
+    for (has_words, least, names, offset, end, want, total) in SEARCHES {
         let query = query(alloc, has_words)?;
+        let filter = filter(alloc, least)?;
         let rules = rules(alloc, names)?;
-        let ranked = rank(alloc, &kept, &query, rules.as_slice(), offset, end)?;
+        let mut facets = FacetCounts::new(alloc, Vec::new(alloc))?;
+        let ranked = rank(
+            alloc,
+            &kept,
+            &query,
+            &filter,
+            rules.as_slice(),
+            offset,
+            end,
+            &mut facets,
+        )?;
         assert_eq!(rt;
             told(alloc, &ranked)?.as_str(),
             want,
             "{names} {offset} {end}"
         );
         assert_eq!(rt; ranked.total, total, "{names} {offset} {end}");
+    }
+    Ok(())
+}
+
+// The least year that passes, and the years that are counted under a query for `knight dark` and a window of one hit.
+const YEARS: [(Option<i128>, &str); 2] = [
+    (None, "1999 1;2008 1;2012 1;"),
+    (Some(2000), "2008 1;2012 1;"),
+];
+
+#[test]
+fn values_are_counted_in_all_matches(rt: HostRuntime) -> Result<(), Fail> {
+    let alloc = rt.alloc();
+    let kept = shelf(alloc)?;
+    assert!(rt; kept.len() <= 1000000);
+    for (least, want) in YEARS {
+        let query = query(alloc, true)?;
+        let filter = filter(alloc, least)?;
+        let rules = rules(alloc, "w")?;
+        let year = FacetPath {
+            attribute: Word::new(alloc, "year")?,
+            path: Some(PathId(1)),
+        };
+        let mut facets = FacetCounts::new(alloc, Vec::from_array(alloc, [year])?)?;
+        rank(
+            alloc,
+            &kept,
+            &query,
+            &filter,
+            rules.as_slice(),
+            0,
+            1,
+            &mut facets,
+        )?;
+        let mut counted = String::new(alloc);
+        for reply in &facets.finish(alloc, 100)? {
+            for row in &reply.rows {
+                let line = format!(in alloc; "{} {};", row.value.as_str(), row.count)?;
+                counted.push_str(line.as_str())?;
+            }
+        }
+        assert_eq!(rt; counted.as_str(), want);
     }
     Ok(())
 }

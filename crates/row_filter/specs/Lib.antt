@@ -1,0 +1,4 @@
+-- Which documents pass a filter.
+pub mod Holds
+pub mod Attributes
+pub mod Ready
