@@ -1,5 +1,6 @@
 pub mod JsonBodies
 pub mod Listed
+pub mod Lengths
 pub mod Patches
 pub mod Accepted
 pub mod Asking

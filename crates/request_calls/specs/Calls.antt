@@ -12,12 +12,13 @@ use Rattle.request_refusals.specs.declared.refusal.Refusal.{Refusal}
 use Rattle.search_base.specs.Trying.{◌>>=◌, ◌>>◌}
 use Rattle.request_calls.specs.Refusals.{refused}
 use Rattle.request_routes.specs.declared.routes.Route.{Route}
-use Rattle.request_routes.specs.declared.routes.Route.TheVariants.{Health, CreateIndex, ListIndexes, ShowIndex, DropIndex, AddDocuments, UpdateDocuments, ListDocuments, ClearDocuments, ShowDocument, RemoveDocument, RemoveDocuments, ShowSettings, PatchSettings, ResetSettings, Search}
+use Rattle.request_routes.specs.declared.routes.Route.TheVariants.{Health, CreateIndex, ListIndexes, ShowIndex, DropIndex, AddDocuments, UpdateDocuments, ListDocuments, ClearDocuments, ShowDocument, RemoveDocument, RemoveDocuments, ShowSettings, PatchSettings, ResetSettings, Search, SearchByQuery}
 use Rattle.request_routes.specs.Routes.{path_of, query_of, parts_of, route_of, uid_fault}
 use Rattle.request_routes.specs.Query.{Pair, query_for, value_of, count_in, fields_in}
 use Rattle.request_calls.specs.declared.call.Call.{Call}
 use Rattle.request_calls.specs.declared.call.Call.TheVariants as call
-use Rattle.request_calls.specs.Bodies.{index_in, documents_in, ids_in, patch_in, search_of}
+use Rattle.request_calls.specs.Bodies.{index_in, documents_in, ids_in, patch_in}
+use Rattle.request_calls.specs.Searches.{search_of, search_by}
 use Rattle.request_calls.specs.Asked.{CallData, write, read, read_view}
 use Rattle.request_calls.specs.Asked as asked
 
@@ -53,6 +54,9 @@ call_at PatchSettings uid id query body = do
 call_at ResetSettings uid id query body = Ok (write (record { uid = uid; kind = reset }))
 call_at Search uid id query body = do
   search ← search_of body
+  Ok (read (asked.search uid search))
+call_at SearchByQuery uid id query body = do
+  search ← search_by query
   Ok (read (asked.search uid search))
 
 -- the path and the method, the uid, the query string, and the body

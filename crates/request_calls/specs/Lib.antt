@@ -1,5 +1,6 @@
 pub mod Refusals
 pub mod Bodies
+pub mod Searches
 pub mod Asked
 pub mod Calls
 pub mod Held

@@ -3,14 +3,14 @@ ghost use Rattle.doc_values.specs.Changes.{kind_view};
 ghost use Rattle.http_wire.specs.Wire.{request_of};
 ghost use Rattle.search_base.specs.Gives.{Gives};
 ghost use Rattle.request_routes.specs.Held.{pair_of};
-ghost use Rattle.request_routes.specs.declared.routes.Route.TheVariants.{CreateIndex, ListIndexes, AddDocuments, UpdateDocuments, ListDocuments, ShowDocument, RemoveDocument, RemoveDocuments, PatchSettings, Search};
+ghost use Rattle.request_routes.specs.declared.routes.Route.TheVariants.{CreateIndex, ListIndexes, AddDocuments, UpdateDocuments, ListDocuments, ShowDocument, RemoveDocument, RemoveDocuments, PatchSettings, Search, SearchByQuery};
 ghost use Rattle.request_calls.specs.Asked.{write};
 ghost use Rattle.request_calls.specs.Calls.{call_of, call_at, IsCall, IsAccepted, OnChange};
 ghost use Rattle.request_calls.specs.Held.{call_data};
 
 use crate::body::{NewIndex, read_documents, read_ids, read_index};
 use crate::reply::refusal_reply;
-use crate::search::read_search;
+use crate::search::{read_search, search_by_pairs};
 use crate::settings::read_patch;
 use doc_values::{Change, ChangeKind};
 use http_wire::{Reply, Wire};
@@ -139,6 +139,7 @@ fn ask_at(
         Route::PatchSettings => patch_settings(alloc, uid, body),
         Route::ResetSettings => changed(alloc, uid, ChangeKind::Reset),
         Route::Search => search(alloc, uid, body),
+        Route::SearchByQuery => search_by_query(alloc, uid, pairs),
     }
 }
 
@@ -248,6 +249,16 @@ fn search(alloc: Global, uid: &str, body: &[u8]) -> Result<Request, Fault<Refusa
     ensures { Gives call_data result (call_at Search uid.now [] [] body.now) }
 {
     let call = read_search(alloc, body)?;
+    Ok(Request::Read(ReadCall::Search {
+        uid: Word::new(alloc, uid)?,
+        call,
+    }))
+}
+
+fn search_by_query(alloc: Global, uid: &str, pairs: &[Pair]) -> Result<Request, Fault<Refusal>>
+    ensures { Gives call_data result (call_at SearchByQuery uid.now [] (map pair_of pairs.now) []) }
+{
+    let call = search_by_pairs(alloc, pairs)?;
     Ok(Request::Read(ReadCall::Search {
         uid: Word::new(alloc, uid)?,
         call,

@@ -4,12 +4,15 @@
 //! status, code and message are those of `told_of` in specs/Refusals.antt; its one free answer is want of memory.
 //! Contracts see a `Call` as a `CallData`, a change or a read whose vectors are lists. Stands on http_wire for requests
 //! and replies, on request_refusals for why a request is refused, on request_routes for routes and query strings, on
-//! search_call for searches, on doc_values for ids and changes, on document_stream for documents, on index_settings for
-//! what a patch of settings may say, and on serde_json for other bodies.
+//! search_call for searches, on filter_expr for their filters, on doc_values for ids and changes, on document_stream
+//! for documents, on index_settings for what a patch of settings may say and a search may sort by, and on serde_json for
+//! other bodies.
 #![tactic(auto)]
 
 mod body;
 mod call;
+mod draft;
+mod members;
 mod reply;
 mod search;
 mod settings;

@@ -1,7 +1,8 @@
 ghost use Rattle.std.specs.Prelude.{◌≡◌, IfOk, string_bytes};
+ghost use Rattle.request_refusals.specs.declared.refusal.Refusal.TheVariants.{FilterSyntax, FilterTooDeep, FilterNotANumber, NotSortable, NotFilterable};
 ghost use Rattle.serde_json.specs.View.{view};
 ghost use Rattle.http_wire.specs.Sent.{IsSentAs};
-ghost use Rattle.request_calls.specs.Refusals.{told_of, refused, refusal_data};
+ghost use Rattle.request_calls.specs.Refusals.{told_of, told_of_member, refused, refusal_data};
 
 use http::StatusCode;
 use http_wire::{Reply, make_reply};
@@ -33,9 +34,13 @@ fn code_of(refusal: &Refusal) -> &'static str
         Refusal::InvalidUid => "invalid_index_uid",
         Refusal::Unknown { .. } => "bad_request",
         Refusal::NotBuilt { .. } => "not_built",
-        Refusal::InvalidSearch { member } => match member {
-            SearchMember::ShowCosts => "invalid_search_show_costs",
-        },
+        Refusal::InvalidSearch { member } => member_code(*member),
+        Refusal::FilterSyntax { .. }
+        | Refusal::FilterTooDeep { .. }
+        | Refusal::FilterNotANumber { .. }
+        | Refusal::NotFilterable { .. } => "invalid_search_filter",
+        Refusal::NoSortRule | Refusal::NotSortable { .. } => "invalid_search_sort",
+        Refusal::NotFacet { .. } => "invalid_search_facets",
         Refusal::NotJson | Refusal::NotList | Refusal::NotObject { .. } => "malformed_payload",
         Refusal::NumberNotWhole { .. } => "number_not_whole",
         Refusal::BadListedId { .. } | Refusal::BadId { .. } => "invalid_document_id",
@@ -56,6 +61,72 @@ fn code_of(refusal: &Refusal) -> &'static str
     }
 }
 
+fn member_code(member: SearchMember) -> &'static str
+    ensures { result.now ≡ (told_of_member member).code }
+{
+    match member {
+        SearchMember::Query => "invalid_search_q",
+        SearchMember::Offset => "invalid_search_offset",
+        SearchMember::Limit => "invalid_search_limit",
+        SearchMember::Page => "invalid_search_page",
+        SearchMember::HitsPerPage => "invalid_search_hits_per_page",
+        SearchMember::Filter => "invalid_search_filter",
+        SearchMember::Facets => "invalid_search_facets",
+        SearchMember::Sort => "invalid_search_sort",
+        SearchMember::AttributesToRetrieve => "invalid_search_attributes_to_retrieve",
+        SearchMember::MatchingStrategy => "invalid_search_matching_strategy",
+        SearchMember::ShowCosts => "invalid_search_show_costs",
+    }
+}
+
+fn member_message(member: SearchMember) -> &'static str
+    ensures { result.now ≡ (told_of_member member).message }
+{
+    match member {
+        SearchMember::Query => "Invalid `q`.",
+        SearchMember::Offset => "Invalid `offset`.",
+        SearchMember::Limit => "Invalid `limit`.",
+        SearchMember::Page => "Invalid `page`.",
+        SearchMember::HitsPerPage => "Invalid `hitsPerPage`.",
+        SearchMember::Filter => "Invalid `filter`.",
+        SearchMember::Facets => "Invalid `facets`.",
+        SearchMember::Sort => "Invalid `sort`.",
+        SearchMember::AttributesToRetrieve => "Invalid `attributesToRetrieve`.",
+        SearchMember::MatchingStrategy => "Invalid `matchingStrategy`.",
+        SearchMember::ShowCosts => "Invalid `showCosts`.",
+    }
+}
+
+fn syntax_message(alloc: Global, text: u32, place: u32) -> Result<String, AllocError>
+    ensures { IfOk result (λ message. string_bytes message ≡ (told_of (FilterSyntax text place)).message) }
+{
+    format!(in alloc; "Filter text {text}: unexpected at byte {place}.")
+}
+
+fn depth_message(alloc: Global, text: u32, place: u32) -> Result<String, AllocError>
+    ensures { IfOk result (λ message. string_bytes message ≡ (told_of (FilterTooDeep text place)).message) }
+{
+    format!(in alloc; "Filter text {text}: deeper than 200 at byte {place}.")
+}
+
+fn number_message(alloc: Global, value: &str) -> Result<String, AllocError>
+    ensures { IfOk result (λ message. string_bytes message ≡ (told_of (FilterNotANumber value.now)).message) }
+{
+    format!(in alloc; "`{value}` is not a whole number.")
+}
+
+fn sortable_message(alloc: Global, attribute: &str) -> Result<String, AllocError>
+    ensures { IfOk result (λ message. string_bytes message ≡ (told_of (NotSortable attribute.now)).message) }
+{
+    format!(in alloc; "`{attribute}` is not sortable.")
+}
+
+fn filterable_message(alloc: Global, attribute: &str) -> Result<String, AllocError>
+    ensures { IfOk result (λ message. string_bytes message ≡ (told_of (NotFilterable attribute.now)).message) }
+{
+    format!(in alloc; "`{attribute}` is not filterable.")
+}
+
 fn message_of(alloc: Global, refusal: &Refusal) -> Result<String, AllocError>
     ensures { IfOk result (λ message. string_bytes message ≡ (told_of refusal.now).message) }
 {
@@ -71,9 +142,10 @@ fn message_of(alloc: Global, refusal: &Refusal) -> Result<String, AllocError>
             "Not built: `{name}`.",
             name = name.as_str()
         ),
-        Refusal::InvalidSearch { member } => match member {
-            SearchMember::ShowCosts => String::from_str(alloc, "Invalid `showCosts`."),
-        },
+        Refusal::InvalidSearch { member } => String::from_str(alloc, member_message(*member)),
+        Refusal::FilterSyntax { text, place } => syntax_message(alloc, *text, *place),
+        Refusal::FilterTooDeep { text, place } => depth_message(alloc, *text, *place),
+        Refusal::FilterNotANumber { value } => number_message(alloc, value.as_str()),
         Refusal::NotJson => String::from_str(alloc, "The body is not JSON."),
         Refusal::NotList => String::from_str(alloc, "The body is not a list."),
         Refusal::NotObject { document } => format!(in alloc;
@@ -114,6 +186,11 @@ fn message_of(alloc: Global, refusal: &Refusal) -> Result<String, AllocError>
         Refusal::IndexesSpent => String::from_str(alloc, "No more indexes."),
         Refusal::IdsSpent => String::from_str(alloc, "No more documents."),
         Refusal::PathsSpent => String::from_str(alloc, "No more attributes."),
+        Refusal::NoSortRule => String::from_str(alloc, "The ranking rules have no sort."),
+        Refusal::NotSortable { attribute } => sortable_message(alloc, attribute.as_str()),
+        Refusal::NotFilterable { attribute } | Refusal::NotFacet { attribute } => {
+            filterable_message(alloc, attribute.as_str())
+        }
     }
 }
 

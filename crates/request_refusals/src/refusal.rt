@@ -1,8 +1,28 @@
 use search_base::Word;
 
-/// The members of a search whose wrong shape is a refusal of their own.
+/// The members of a search. A wrong shape of each is a refusal.
 #[derive(Clone, Copy, Debug, PartialEq, Eq)]
 pub enum SearchMember {
+    /// `q`
+    Query,
+    /// `offset`
+    Offset,
+    /// `limit`
+    Limit,
+    /// `page`
+    Page,
+    /// `hitsPerPage`
+    HitsPerPage,
+    /// `filter`
+    Filter,
+    /// `facets`
+    Facets,
+    /// `sort`
+    Sort,
+    /// `attributesToRetrieve`
+    AttributesToRetrieve,
+    /// `matchingStrategy`
+    MatchingStrategy,
     /// `showCosts`
     ShowCosts,
 }
@@ -23,6 +43,13 @@ pub enum Refusal {
     NotBuilt { name: Word },
     /// This member of a search has a wrong shape.
     InvalidSearch { member: SearchMember },
+    /// A text of the filter, by its number from 1, is neither blank nor a filter. Up to the byte at this place, from
+    /// 0, it begins one.
+    FilterSyntax { text: u32, place: u32 },
+    /// In a text of the filter, by its number from 1, a NOT or a bracket opens at this place inside 200 others.
+    FilterTooDeep { text: u32, place: u32 },
+    /// A value of the filter is compared by order and is no whole number from -2^63 to 2^64 - 1.
+    FilterNotANumber { value: Word },
     /// The body is no JSON text.
     NotJson,
     /// The body of added documents is neither an object nor an array.
@@ -63,4 +90,12 @@ pub enum Refusal {
     IdsSpent,
     /// The index would have more than 1,000 paths.
     PathsSpent,
+    /// A search sorts, and the ranking rules of the index do not.
+    NoSortRule,
+    /// The settings do not let a search sort by this attribute.
+    NotSortable { attribute: Word },
+    /// The settings do not let a search filter by this attribute.
+    NotFilterable { attribute: Word },
+    /// The settings do not let a search count the values of this attribute.
+    NotFacet { attribute: Word },
 }

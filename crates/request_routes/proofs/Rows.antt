@@ -4,7 +4,7 @@ use Rattle.std.specs.List.{list_any}
 use Rattle.std.specs.Str.{bytes_eq}
 use Rattle.std.proofs.lemmas.Slice.Eq.{bytes_eq-Decides}
 use Rattle.std.proofs.lemmas.Bool.{true≢false}
-use Rattle.request_routes.specs.declared.routes.Route.TheVariants.{Health, CreateIndex, ListIndexes, ShowIndex, DropIndex, AddDocuments, UpdateDocuments, ListDocuments, ClearDocuments, ShowDocument, RemoveDocument, RemoveDocuments, ShowSettings, PatchSettings, ResetSettings, Search}
+use Rattle.request_routes.specs.declared.routes.Route.TheVariants.{Health, CreateIndex, ListIndexes, ShowIndex, DropIndex, AddDocuments, UpdateDocuments, ListDocuments, ClearDocuments, ShowDocument, RemoveDocument, RemoveDocuments, ShowSettings, PatchSettings, ResetSettings, Search, SearchByQuery}
 use Rattle.request_routes.specs.Routes.{text, any_id, Row, row, routes, health, indexes, index, of_index, of_documents, agrees, has_path}
 
 -- ---- the rows of a path
@@ -52,6 +52,7 @@ marked h i x d m b g s =
     ∷ (g, row (codes "PATCH") (of_index (codes "settings")) PatchSettings)
     ∷ (g, row (codes "DELETE") (of_index (codes "settings")) ResetSettings)
     ∷ (s, row (codes "POST") (of_index (codes "search")) Search)
+    ∷ (s, row (codes "GET") (of_index (codes "search")) SearchByQuery)
     ∷ []
 
 pub rows_of : (parts : List (List ℕ)) (h i x d m b g s : Bool) → Agreement parts h i x d m b g s → filter (has_path parts) routes ≡ keep (marked h i x d m b g s)

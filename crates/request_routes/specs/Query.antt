@@ -1,5 +1,5 @@
 -- Query strings.
-use Rattle.std.specs.Prelude.{ℕ, ◌^◌, List, [], ◌∷◌, length, map, Bool, true, false, ◌&&◌, nat_lt, nat_le, codes, Option, Some, None, Result, Ok, if◌then◌else◌}
+use Rattle.std.specs.Prelude.{ℕ, ◌^◌, List, [], ◌∷◌, length, map, Bool, true, false, ◌&&◌, ◌||◌, nat_lt, nat_le, codes, Option, Some, None, Result, Ok, if◌then◌else◌}
 use Rattle.std.specs.List.{list_any, list_all}
 use Rattle.std.specs.Map.{lookup}
 use Rattle.std.specs.Str.{bytes_eq}
@@ -10,7 +10,7 @@ use Rattle.request_refusals.specs.declared.refusal.Refusal.{Refusal}
 use Rattle.request_refusals.specs.declared.refusal.Refusal.TheVariants.{Unknown}
 use Rattle.search_base.specs.Trying.{◌>>◌}
 use Rattle.request_routes.specs.declared.routes.Route.{Route}
-use Rattle.request_routes.specs.declared.routes.Route.TheVariants.{Health, CreateIndex, ListIndexes, ShowIndex, DropIndex, AddDocuments, UpdateDocuments, ListDocuments, ClearDocuments, ShowDocument, RemoveDocument, RemoveDocuments, ShowSettings, PatchSettings, ResetSettings, Search}
+use Rattle.request_routes.specs.declared.routes.Route.TheVariants.{Health, CreateIndex, ListIndexes, ShowIndex, DropIndex, AddDocuments, UpdateDocuments, ListDocuments, ClearDocuments, ShowDocument, RemoveDocument, RemoveDocuments, ShowSettings, PatchSettings, ResetSettings, Search, SearchByQuery}
 use Rattle.request_routes.specs.declared.query.Shape.{Shape}
 use Rattle.request_routes.specs.declared.query.Shape.TheVariants.{Count, Text, Texts}
 
@@ -45,6 +45,10 @@ is_digit b = nat_le 48 b && nat_le b 57
 abbrev pub is_count : List ℕ → Bool
 is_count text = nat_lt 0 (length text) && (list_all is_digit text && nat_lt (digits_value 10 text) (2 ^ 64))
 
+-- the number that they write
+abbrev pub number_of : List ℕ → Option ℕ
+number_of text = if is_count text then Some (digits_value 10 text) else None
+
 -- a list is written with commas, and the empty text is the empty list
 abbrev pub texts_of : List ℕ → List (List ℕ)
 texts_of [] = []
@@ -78,14 +82,20 @@ names ShowSettings = []
 names PatchSettings = []
 names ResetSettings = []
 names Search = []
+names SearchByQuery = []
 
 abbrev pub is_shaped : List ℕ → Option Shape → Bool
 is_shaped value None = false
 is_shaped value (Some shape) = has_shape shape value
 
+-- the pairs of a search are tried where it is read, as its members
+abbrev pub takes_each : Route → Bool
+takes_each SearchByQuery = true
+takes_each _ = false
+
 -- whether a route takes a pair
 abbrev pub takes : Route → Pair → Bool
-takes route pair = is_shaped pair.1 (lookup (bytes_eq pair.0) (names route))
+takes route pair = takes_each route || is_shaped pair.1 (lookup (bytes_eq pair.0) (names route))
 
 -- the first pair that the route does not take
 abbrev pub first_unknown : Route → List Pair → Option Refusal

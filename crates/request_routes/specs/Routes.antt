@@ -8,7 +8,7 @@ use Rattle.request_refusals.specs.declared.refusal.Refusal.{Refusal}
 use Rattle.request_refusals.specs.declared.refusal.Refusal.TheVariants.{NoRoute, MethodNotAllowed, InvalidUid}
 use Rattle.search_base.specs.Trying.{or_refuse, ◌>>=◌}
 use Rattle.request_routes.specs.declared.routes.Route.{Route}
-use Rattle.request_routes.specs.declared.routes.Route.TheVariants.{Health, CreateIndex, ListIndexes, ShowIndex, DropIndex, AddDocuments, UpdateDocuments, ListDocuments, ClearDocuments, ShowDocument, RemoveDocument, RemoveDocuments, ShowSettings, PatchSettings, ResetSettings, Search}
+use Rattle.request_routes.specs.declared.routes.Route.TheVariants.{Health, CreateIndex, ListIndexes, ShowIndex, DropIndex, AddDocuments, UpdateDocuments, ListDocuments, ClearDocuments, ShowDocument, RemoveDocument, RemoveDocuments, ShowSettings, PatchSettings, ResetSettings, Search, SearchByQuery}
 
 -- ---- the table
 
@@ -62,6 +62,7 @@ routes =
     ∷ row (codes "PATCH") (of_index (codes "settings")) PatchSettings
     ∷ row (codes "DELETE") (of_index (codes "settings")) ResetSettings
     ∷ row (codes "POST") (of_index (codes "search")) Search
+    ∷ row (codes "GET") (of_index (codes "search")) SearchByQuery
     ∷ []
 
 -- ---- a request's path

@@ -1,11 +1,10 @@
-ghost use Rattle.std.specs.Prelude.{◌≡◌, ◌≤◌, length, map, drop, IfOk, if◌then◌else◌, Some, None, option_map};
+ghost use Rattle.std.specs.Prelude.{◌≡◌, ◌≤◌, length, map, drop, IfOk, option_map};
 ghost use Rattle.std.specs.List.{list_all};
 ghost use Rattle.std.specs.Map.{lookup};
 ghost use Rattle.std.specs.Str.{bytes_eq};
-ghost use Rattle.std.specs.Str.Parse.{digits_value};
 ghost use Rattle.search_base.specs.Gives.{Gives, Checks};
 ghost use Rattle.request_routes.specs.Held.{pair_of};
-ghost use Rattle.request_routes.specs.Query.{decoded, pairs_of, has_name as has_name_in, last_pairs as last_of, takes as takes_pair, first_unknown, query_for, value_of as value_in, count_in as count_at, fields_in as fields_at, texts_of as texts_in, is_count, is_digit, names, has_shape as has_shape_in};
+ghost use Rattle.request_routes.specs.Query.{decoded, pairs_of, has_name as has_name_in, last_pairs as last_of, takes_each as takes_each_pair, takes as takes_pair, first_unknown, query_for, value_of as value_in, count_in as count_at, fields_in as fields_at, texts_of as texts_in, number_of as number_in, is_digit, names, has_shape as has_shape_in};
 
 use crate::parts::parts_of;
 use crate::routes::Route;
@@ -33,7 +32,7 @@ pub struct Pair {
 /// place.
 ///
 /// Refused is the first of these pairs whose name the route does not have, or whose value has a wrong shape (`Unknown`,
-/// with the name). Its one other error is want of memory.
+/// with the name); none of a search, whose pairs are tried where it is read. Its one other error is want of memory.
 pub fn read_query(alloc: Global, route: Route, query: &str) -> Result<Vec<Pair>, Fault<Refusal>>
     ensures { Gives (λ pairs. map pair_of pairs.items) result (query_for route query.now) }
 {
@@ -90,8 +89,9 @@ pub fn fields_in(alloc: Global, pairs: &[Pair]) -> Result<Vec<Word>, NoMemory>
     }
 }
 
-// The texts of a list, which is written with commas. The empty text is the empty list.
-fn texts_of(alloc: Global, list: &str) -> Result<Vec<Word>, NoMemory>
+/// The texts of a list, which is written with commas. The empty text is the empty list. Its one error is want of
+/// memory.
+pub fn texts_of(alloc: Global, list: &str) -> Result<Vec<Word>, NoMemory>
     ensures { IfOk result (λ texts. texts.items ≡ texts_in list.now) }
 {
     let mut texts = Vec::new(alloc);
@@ -103,9 +103,9 @@ fn texts_of(alloc: Global, list: &str) -> Result<Vec<Word>, NoMemory>
     Ok(texts)
 }
 
-// The number that decimal digits write, where it is below 2^64 and nothing else stands there.
-fn number_of(text: &str) -> Option<u64>
-    ensures { result ≡ (if is_count text.now then Some (digits_value 10 text.now) else None) }
+/// The number that decimal digits write, where it is below 2^64 and nothing else stands there. Takes no memory.
+pub fn number_of(text: &str) -> Option<u64>
+    ensures { result ≡ number_in text.now }
 {
     if !are_digits(text.as_bytes()) {
         return None;
@@ -214,9 +214,19 @@ fn has_shape(shape: Shape, value: &str) -> bool
     }
 }
 
+// The pairs of a search are tried where it is read.
+fn takes_each(route: Route) -> bool
+    ensures { result ≡ takes_each_pair route }
+{
+    matches!(route, Route::SearchByQuery)
+}
+
 fn takes(route: Route, pair: &Pair) -> bool
     ensures { result ≡ takes_pair route (pair_of pair.now) }
 {
+    if takes_each(route) {
+        return true;
+    }
     match shape_of(route, pair.name.as_str()) {
         Some(shape) => has_shape(shape, pair.value.as_str()),
         None => false,

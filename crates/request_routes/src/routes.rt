@@ -44,6 +44,8 @@ pub enum Route {
     ResetSettings,
     /// `POST /indexes/{uid}/search`
     Search,
+    /// `GET /indexes/{uid}/search`
+    SearchByQuery,
 }
 
 /// A route, with the uid and the id that the request's path names; each is empty where the path names none.
@@ -163,6 +165,7 @@ fn page_route<'a>(method: &str, uid: &'a str, page: &str) -> Result<Found<'a>, R
         ("settings", "PATCH") => Route::PatchSettings,
         ("settings", "DELETE") => Route::ResetSettings,
         ("search", "POST") => Route::Search,
+        ("search", "GET") => Route::SearchByQuery,
         ("documents" | "settings" | "search", _) => return Err(Refusal::MethodNotAllowed),
         _ => return Err(Refusal::NoRoute),
     };

@@ -1,2 +1,4 @@
 -- What a search asks for.
+pub mod TreeCode
 pub mod SearchView
+pub mod Windows

@@ -1,13 +1,24 @@
 -- What contracts see of a search.
-use Rattle.std.specs.Prelude.{ℕ, Bool, List}
+use Rattle.std.specs.Prelude.{ℕ, Bool, List, Option, Vec}
+use Rattle.std.specs.Option.{option_map}
+use Rattle.filter_tree.specs.Tree.{Tree}
 use Rattle.search_base.specs.declared.query.Strategy.{Strategy}
+use Rattle.search_call.specs.declared.Window.{Window}
+use Rattle.search_call.specs.declared.Criterion.{Criterion}
 
--- the text that is searched for, the place of the first hit and the most hits, which words a hit must hold, whether it
--- shows its costs, and the names of the members that it shows
+-- the text that is searched for, the hits that are asked for, the filter that they pass, the attributes whose values
+-- are counted, by what hits are sorted, which words a hit must hold, whether it shows its costs, and the names of the
+-- members that it shows
 pub record SearchView : Type 0 where
   pub q : List ℕ
-  pub offset : ℕ
-  pub limit : ℕ
+  pub window : Window
+  pub filter : Tree
+  pub facets : Option (List (List ℕ))
+  pub sort : List Criterion
   pub strategy : Strategy
   pub costs : Bool
   pub retrieve : List (List ℕ)
+
+-- the names of a list, where there is one
+abbrev pub names_view : {A : Type 0} → Option (Vec (List ℕ) A) → Option (List (List ℕ))
+names_view names = option_map (λ list. list.items) names

@@ -1,21 +1,43 @@
 //! What a search asks for, as requests and indexes see it.
 //!
-//! A `SearchCall` holds data and promises nothing. Contracts see it as a `SearchView`, whose vectors are lists. The crate
-//! stands on `search_base`, and on nothing that reads requests or keeps documents.
+//! A `SearchCall` holds data and promises nothing. Contracts see it as a `SearchView`, whose vectors are lists and
+//! whose filter is a tree. The crate stands on `search_base` and `filter_tree`, and on nothing that reads requests or
+//! keeps documents.
 #![tactic(auto)]
 
+use filter_tree::Filter;
 use search_base::{Strategy, Word};
 use std::marker::Model;
 
-/// What is searched for, which hits are asked for, and what they show. Places are counted from 0.
+/// Which of the hits are asked for. Places are counted from 0.
+#[derive(Clone, Copy, Debug, PartialEq, Eq)]
+pub enum Window {
+    /// From the place `offset` on, at most `limit` of them.
+    Slice { offset: u64, limit: u64 },
+    /// The page of this number, from 1, where each has `per` hits. A page 0 has none.
+    Page { page: u64, per: u64 },
+}
+
+/// A path by whose values hits are sorted, and whether from the least on.
+#[derive(Debug, Drop)]
+pub struct Criterion {
+    pub attribute: Word,
+    pub up: bool,
+}
+
+/// What is searched for, which hits are asked for, and what they show.
 #[derive(Debug, Drop)]
 pub struct SearchCall {
     /// The text that is searched for, empty where the request names none. A double quote opens or closes a phrase.
     pub q: Word,
-    /// The place of the first hit: 0 where the request names none.
-    pub offset: u64,
-    /// The most hits: 20 where the request names no number.
-    pub limit: u64,
+    /// Which hits are asked for: the first 20 where the request does not say.
+    pub window: Window,
+    /// What a hit must pass; `All` where the request sets no condition.
+    pub filter: Filter,
+    /// The attributes whose values are counted, where the request asks for counts. `*` stands for all that may be.
+    pub facets: Option<Vec<Word>>,
+    /// By what hits are sorted, where the ranking rules sort.
+    pub sort: Vec<Criterion>,
     /// Which words of the text a hit must hold: as many as there are, where the request does not say.
     pub strategy: Strategy,
     /// Whether each hit shows the costs by which it stands where it stands.
@@ -25,9 +47,23 @@ pub struct SearchCall {
 }
 
 impl Model for SearchCall {
-    ghost use Rattle.search_call.specs.SearchView.{SearchView};
+    ghost use Rattle.search_call.specs.SearchView.{SearchView, names_view};
+    ghost use Rattle.filter_tree.specs.View.{view as tree_of};
+    ghost use Rattle.std.specs.Coded.{codes};
+    ghost use Rattle.search_call.specs.TreeCode.{tree_code};
 
     ghost Value = { SearchView };
 
-    ghost view = { λ call. record { q = call.q; offset = call.offset; limit = call.limit; strategy = call.strategy; costs = call.costs; retrieve = call.retrieve.items } };
+    ghost coded = { Prim.hlevel (codes, tree_code) };
+
+    ghost view = { λ call. record {
+      q = call.q;
+      window = call.window;
+      filter = tree_of call.filter;
+      facets = names_view call.facets;
+      sort = call.sort.items;
+      strategy = call.strategy;
+      costs = call.costs;
+      retrieve = call.retrieve.items;
+    } };
 }

@@ -2,7 +2,7 @@ use doc_values::ChangeKind;
 use http_wire::{Reply, Wire};
 use request_calls::{Call, ReadCall, read_call, refusal_reply};
 use request_refusals::Refusal;
-use search_base::{Strategy, Word};
+use search_base::Word;
 use std::alloc::{AllocError, Global};
 use std::process::Abort;
 use std::str;
@@ -11,8 +11,6 @@ use std::test::Fail;
 const DOCUMENTS: &str = "/indexes/m/documents";
 
 const BATCH: &str = "/indexes/m/documents/delete-batch";
-
-const SEARCH: &str = "/indexes/m/search";
 
 // A method, a target, a body, and what that asks for.
 const ROUTES: &str = r#"GET~/health~x~health
@@ -34,13 +32,13 @@ PATCH~/indexes/m/settings~{"stopWords":["a"],"synonyms":null}~patch
 DELETE~/indexes/m/settings~~reset
 POST~/indexes/m/documents/delete-batch~[]~remove
 POST~/indexes/m/search~~search
-POST~/indexes/m/search~{"attributesToRetrieve":null,"matchingStrategy":null,"showCosts":null}~search
-POST~/indexes/m/search~{"q":"\u0022a b\u0022 c","matchingStrategy":"last","showCosts":false}~search"#;
+GET~/indexes/m/search?q=a%20b&page=2~{~search"#;
 
 // A method, a target, a body, and the status, the code and the message of its refusal. Each row has a later fault too.
 const FIRST_FAULTS: &str = r#"GET~/nothing?x~{~404~not_found~No such route.
 PATCH~/indexes//search?x~~404~not_found~No such route.
 PATCH~/indexes/a.b/search?x~~405~method_not_allowed~Method not allowed.
+GET~/indexes/a.b/search?x~~400~invalid_index_uid~Invalid index uid.
 POST~/health?x~{~405~method_not_allowed~Method not allowed.
 POST~/indexes/a.b/search?x~{~400~invalid_index_uid~Invalid index uid.
 GET~/health?x=1~{~400~bad_request~Unknown or malformed `x`.
@@ -79,25 +77,6 @@ PATCH~/indexes/m/settings~{"rankingRules":[":asc"]}~400~invalid_settings_ranking
 PATCH~/indexes/m/settings~{"distinctAttribute":5}~400~invalid_settings~Invalid `distinctAttribute`.
 PATCH~/indexes/m/settings~{"distinctAttribute":"year"}~501~not_built~Not built: `distinctAttribute`."#;
 
-const BAD_SEARCHES: &str = r#"POST~/indexes/m/search~{~400~malformed_payload~The body is not JSON.
-POST~/indexes/m/search~[]~400~bad_request~Unknown or malformed `body`.
-POST~/indexes/m/search~{"zz":1,"a":1}~400~bad_request~Unknown or malformed `a`.
-POST~/indexes/m/search~{"attributesToRetrieve":"id"}~501~not_built~Not built: `attributesToRetrieve`.
-POST~/indexes/m/search~{"attributesToRetrieve":["id",1]}~501~not_built~Not built: `attributesToRetrieve`.
-POST~/indexes/m/search~{"filter":null}~501~not_built~Not built: `filter`.
-POST~/indexes/m/search~{"q":5}~501~not_built~Not built: `q`.
-POST~/indexes/m/search~{"matchingStrategy":"LAST"}~501~not_built~Not built: `matchingStrategy`.
-POST~/indexes/m/search~{"matchingStrategy":["all"],"showCosts":1}~501~not_built~Not built: `matchingStrategy`.
-POST~/indexes/m/search~{"showCosts":"true"}~400~invalid_search_show_costs~Invalid `showCosts`.
-POST~/indexes/m/search~{"showCosts":0,"zz":1}~400~invalid_search_show_costs~Invalid `showCosts`.
-POST~/indexes/m/search~{"limit":-1}~501~not_built~Not built: `limit`.
-POST~/indexes/m/search~{"limit":18446744073709551616}~501~not_built~Not built: `limit`."#;
-
-// A search that gives each member but `offset`.
-const WHOLE_SEARCH: &str =
-    r#"{"q":"it's","limit":18446744073709551615,"matchingStrategy":"all","showCosts":true,
-"attributesToRetrieve":["a","b"]}"#;
-
 // A refusal that only a machine's state gives, its status, its code and its message.
 const BY_STATE: &str = r#"NoIndex~404~index_not_found~No index `m`.
 IndexExists~409~index_already_exists~Index `m` exists.
@@ -110,9 +89,13 @@ BadId~400~invalid_document_id~Document 3 has an invalid id.
 ChangesSpent~400~changes_spent~No more changes.
 IndexesSpent~400~indexes_spent~No more indexes.
 IdsSpent~400~ids_spent~No more documents.
-PathsSpent~400~paths_spent~No more attributes."#;
+PathsSpent~400~paths_spent~No more attributes.
+NoSortRule~400~invalid_search_sort~The ranking rules have no sort.
+NotSortable~400~invalid_search_sort~`m` is not sortable.
+NotFilterable~400~invalid_search_filter~`m` is not filterable.
+NotFacet~400~invalid_search_facets~`m` is not filterable."#;
 
-fn call_of(alloc: Global, method: &str, target: &str, body: &str) -> Result<Call, Fail> {
+pub(crate) fn call_of(alloc: Global, method: &str, target: &str, body: &str) -> Result<Call, Fail> {
     let wire = Wire {
         method: Word::new(alloc, method)?,
         target: Word::new(alloc, target)?,
@@ -123,7 +106,7 @@ fn call_of(alloc: Global, method: &str, target: &str, body: &str) -> Result<Call
 }
 
 // The status and the body of a refusal, and of any other call what it asks for.
-fn answer_of(alloc: Global, call: &Call) -> Result<String, AllocError> {
+pub(crate) fn answer_of(alloc: Global, call: &Call) -> Result<String, AllocError> {
     match call {
         Call::Refused(Reply::Made { status, body, .. }) => {
             let text = str::from_utf8(body).unwrap_or("no text");
@@ -133,7 +116,12 @@ fn answer_of(alloc: Global, call: &Call) -> Result<String, AllocError> {
     }
 }
 
-fn refusal(alloc: Global, status: &str, code: &str, message: &str) -> Result<String, AllocError> {
+pub(crate) fn refusal(
+    alloc: Global,
+    status: &str,
+    code: &str,
+    message: &str,
+) -> Result<String, AllocError> {
     format!(in alloc;
         "{status} {{\"code\":\"{code}\",\"message\":\"{message}\",\"type\":\"invalid_request\"}}"
     )
@@ -195,13 +183,7 @@ fn each_route_once(rt: HostRuntime) -> Result<(), Fail> {
 #[test]
 fn the_first_fault_is_told(rt: HostRuntime) -> Result<(), Fail> {
     let alloc = rt.alloc();
-    for table in [
-        FIRST_FAULTS,
-        BAD_UIDS,
-        BAD_BODIES,
-        BAD_SETTINGS,
-        BAD_SEARCHES,
-    ] {
+    for table in [FIRST_FAULTS, BAD_UIDS, BAD_BODIES, BAD_SETTINGS] {
         check_table(&rt, alloc, table)?;
     }
     Ok(())
@@ -225,7 +207,11 @@ fn refusal_named(alloc: Global, name: &str) -> Result<Refusal, Fail> {
         "ChangesSpent" => Refusal::ChangesSpent,
         "IndexesSpent" => Refusal::IndexesSpent,
         "IdsSpent" => Refusal::IdsSpent,
-        _ => Refusal::PathsSpent,
+        "PathsSpent" => Refusal::PathsSpent,
+        "NoSortRule" => Refusal::NoSortRule,
+        "NotSortable" => Refusal::NotSortable { attribute: m },
+        "NotFilterable" => Refusal::NotFilterable { attribute: m },
+        _ => Refusal::NotFacet { attribute: m },
     })
 }
 
@@ -274,15 +260,6 @@ fn what_calls_say(rt: HostRuntime) -> Result<(), Fail> {
             assert!(rt; fields.iter().all(|name| name.as_str() == "*"));
         }
         _ => assert!(rt; false, "document"),
-    }
-    match &call_of(alloc, "POST", SEARCH, WHOLE_SEARCH)? {
-        Call::Read(ReadCall::Search { call, .. }) => {
-            assert_eq!(rt; call.q.as_str(), "it's");
-            assert_eq!(rt; (call.offset, call.limit), (0, 18446744073709551615));
-            assert_eq!(rt; (call.strategy, call.costs), (Strategy::All, true));
-            assert!(rt; call.retrieve.iter().any(|name| name.as_str() == "b"));
-        }
-        _ => assert!(rt; false, "search"),
     }
     Ok(())
 }

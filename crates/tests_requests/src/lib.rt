@@ -8,3 +8,5 @@
 mod calls;
 #[cfg(test)]
 mod routes;
+#[cfg(test)]
+mod searches;

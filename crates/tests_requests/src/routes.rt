@@ -26,7 +26,9 @@ POST~/indexes/m/documents/delete-batch~RemoveDocuments `m` `` 0
 GET~/indexes/m/settings~ShowSettings `m` `` 0
 PATCH~/indexes/m/settings~PatchSettings `m` `` 0
 DELETE~/indexes/m/settings~ResetSettings `m` `` 0
-POST~/indexes/m/search~Search `m` `` 0"#;
+POST~/indexes/m/search~Search `m` `` 0
+GET~/indexes/m/search~SearchByQuery `m` `` 0
+GET~/indexes/m/search?limit=x&q&zz=1&q=b~SearchByQuery `m` `` 3"#;
 
 // A method, a target, and why they are refused.
 const NO_ROUTES: &str = r#"GET~/nothing~no route
@@ -47,11 +49,12 @@ PATCH~/indexes/m~no method
 PUT~/indexes/m/documents/delete-batch~no method
 POST~/indexes/m/documents/7~no method
 PUT~/indexes/m/settings~no method
-GET~/indexes/m/search~no method
+PUT~/indexes/m/search~no method
 PATCH~/indexes/a.b/search?x~no method"#;
 
 const BAD_QUERIES: &str = r#"GET~/indexes/a.b~no uid
 POST~/indexes/a.b/search?x~no uid
+GET~/indexes/a.b/search?x~no uid
 GET~/health?x=1~unknown x
 POST~/indexes/m/search?q=x~unknown q
 POST~/indexes/m/search?y&x&y~unknown x
