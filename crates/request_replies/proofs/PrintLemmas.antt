@@ -1,11 +1,17 @@
 -- The pieces of a reply's body, one after the other, are its text.
-use Rattle.std.proofs.Common.{◌≡◌, ℕ, List, ◌++◌, codes, decimal, append_assoc, ap, ◌∙◌}
-use Rattle.serde_json.specs.Data.{Data, array}
+use Rattle.std.proofs.Common.{◌≡◌, ℕ, ℤ, pos, negsuc, List, ◌++◌, ◌∷◌, Bool, true, false, Option, Some, codes, decimal, append_assoc, refl, ap, ap₂, ◌∙◌}
+use Rattle.std.specs.Fmt.{signed_decimal}
+use Rattle.serde_json.specs.Data.{Data, array, Members, member}
 use Rattle.serde_json.specs.View.{items_of}
-use Rattle.serde_json.specs.Written.{compact_text}
+use Rattle.serde_json.specs.Written.{compact_text, members_text, comma_if, number_text}
 use Rattle.json.specs.Print.{quoted}
 use Rattle.serde_json.proofs.OnLiterals.{serde_json_on_literals}
-use Rattle.request_replies.specs.Replies.{listing_data, hits_data}
+use Rattle.search_call.specs.declared.Window.{Window}
+use Rattle.search_call.specs.declared.Window.TheVariants.{Slice, Page}
+use Rattle.facet_counts.specs.FacetView.{FacetView}
+use Rattle.request_replies.specs.Costs.{whole}
+use Rattle.request_replies.specs.Facets.{distribution_data, stats_data, ends_data, facet_members}
+use Rattle.request_replies.specs.Replies.{count, listing_data, hits_data, total_pages, with_estimate, window_members}
 
 -- what stands behind pieces stands behind the last of them
 behind_three : (a b c x : List ℕ) → (a ++ (b ++ c)) ++ x ≡ a ++ (b ++ (c ++ x))
@@ -33,16 +39,107 @@ listing_printed limit offset total ds front docs rest whole is_front is_docs is_
     three_pieces front docs rest whole _ _ x is_front is_docs is_rest is_whole
     ∙ behind_five (codes "{\"limit\":") (decimal limit) (codes ",\"offset\":") (decimal offset) (codes ",\"results\":") _
 
-pub hits_printed : (q : List ℕ) (offset limit total : ℕ) (ds : List Data) (front docs query rest whole : List ℕ)
-    → front ≡ codes "{\"estimatedTotalHits\":" ++ (decimal total ++ codes ",\"hits\":")
-    → docs ≡ front ++ compact_text (array (items_of ds))
-    → query ≡ quoted q
-    → rest ≡ codes ",\"limit\":" ++ (decimal limit ++ (codes ",\"offset\":" ++ (decimal offset ++ (codes ",\"query\":" ++ (query ++ codes "}")))))
-    → whole ≡ docs ++ rest
-    → whole ≡ compact_text (hits_data q offset limit total ds)
+-- ---- the hits of a search
+
+-- a text, pieces behind it, and a rest
+four_pieces : (t a b c d : List ℕ) → (((t ++ a) ++ b) ++ c) ++ d ≡ t ++ (a ++ (b ++ (c ++ d)))
+four_pieces t a b c d =
+    append_assoc ((t ++ a) ++ b) c d ∙ append_assoc (t ++ a) b (c ++ d) ∙ append_assoc t a (b ++ (c ++ d))
+
+whole_hits : (q : List ℕ) (window : Window) (total : ℕ) (facets : Option (List FacetView)) (ds : List Data)
+    → codes "{" ++ members_text false (with_estimate window total (facet_members facets (member (codes "hits") (array (items_of ds)) (window_members q window total))))
+    ≡ compact_text (hits_data q window total facets ds)
 unfolding serde_json_on_literals
-hits_printed q offset limit total ds front docs query rest whole is_front is_docs is_query is_rest is_whole =
-    let x = compact_text (array (items_of ds)) in
-    three_pieces front docs rest whole _ _ x is_front is_docs
-    (is_rest ∙ ap (λ v. codes ",\"limit\":" ++ (decimal limit ++ (codes ",\"offset\":" ++ (decimal offset ++ (codes ",\"query\":" ++ (v ++ codes "}")))))) is_query) is_whole
-    ∙ behind_three (codes "{\"estimatedTotalHits\":") (decimal total) (codes ",\"hits\":") _
+whole_hits q (Slice offset limit) total facets ds = refl
+whole_hits q (Page page per) total facets ds = refl
+
+hits_named : (t : List ℕ) (later : Bool) (ds : List Data) (ms : Members)
+    → (((t ++ comma_if later) ++ codes "\"hits\":") ++ compact_text (array (items_of ds))) ++ members_text true ms
+    ≡ t ++ members_text later (member (codes "hits") (array (items_of ds)) ms)
+unfolding serde_json_on_literals
+hits_named t later ds ms = four_pieces t (comma_if later) (codes "\"hits\":") (compact_text (array (items_of ds))) (members_text true ms)
+
+pub hits_printed : (q : List ℕ) (window : Window) (total : ℕ) (facets : Option (List FacetView)) (ds : List Data) (later after : Bool)
+    (start front counted comma named docs rest text : List ℕ)
+    → start ≡ codes "{"
+    → ((ms : Members) → front ++ members_text later ms ≡ start ++ members_text false (with_estimate window total ms))
+    → ((ms : Members) → counted ++ members_text after ms ≡ front ++ members_text later (facet_members facets ms))
+    → comma ≡ counted ++ comma_if after
+    → named ≡ comma ++ codes "\"hits\":"
+    → docs ≡ named ++ compact_text (array (items_of ds))
+    → rest ≡ members_text true (window_members q window total)
+    → text ≡ docs ++ rest
+    → text ≡ compact_text (hits_data q window total facets ds)
+hits_printed q window total facets ds later after start front counted comma named docs rest text is_start is_front is_counted is_comma is_named is_docs is_rest is_text =
+    let behind = window_members q window total in
+    let found = member (codes "hits") (array (items_of ds)) behind in
+    let joined : text ≡ (((counted ++ comma_if after) ++ codes "\"hits\":") ++ compact_text (array (items_of ds))) ++ members_text true behind
+    = rw (is_text, is_rest, is_docs, is_named, is_comma) refl in
+    joined
+    ∙ hits_named counted after ds behind
+    ∙ is_counted found
+    ∙ is_front (facet_members facets found)
+    ∙ ap (λ v. v ++ members_text false (with_estimate window total (facet_members facets found))) is_start
+    ∙ whole_hits q window total facets ds
+
+pub estimate_printed : (total : ℕ) (old estimate new : List ℕ) (rest : Members)
+    → estimate ≡ codes "\"estimatedTotalHits\":" ++ decimal total
+    → new ≡ old ++ estimate
+    → new ++ members_text true rest ≡ old ++ members_text false (member (codes "estimatedTotalHits") (count total) rest)
+unfolding serde_json_on_literals
+estimate_printed total old estimate new rest is_estimate is_new =
+    ap (λ v. v ++ members_text true rest) (is_new ∙ ap (λ v. old ++ v) is_estimate)
+    ∙ append_assoc old (codes "\"estimatedTotalHits\":" ++ decimal total) (members_text true rest)
+
+pub slice_printed : (q : List ℕ) (offset limit total : ℕ) (query text : List ℕ)
+    → query ≡ quoted q
+    → text ≡ codes ",\"limit\":" ++ (decimal limit ++ (codes ",\"offset\":" ++ (decimal offset ++ (codes ",\"query\":" ++ (query ++ codes "}")))))
+    → text ≡ members_text true (window_members q (Slice offset limit) total)
+unfolding serde_json_on_literals
+slice_printed q offset limit total query text is_query is_text =
+    is_text ∙ ap (λ v. codes ",\"limit\":" ++ (decimal limit ++ (codes ",\"offset\":" ++ (decimal offset ++ (codes ",\"query\":" ++ (v ++ codes "}")))))) is_query
+
+pub page_printed : (q : List ℕ) (page per total pages : ℕ) (query text : List ℕ)
+    → query ≡ quoted q
+    → pages ≡ total_pages total per
+    → text ≡ codes ",\"hitsPerPage\":" ++ (decimal per ++ (codes ",\"page\":" ++ (decimal page ++ (codes ",\"query\":" ++ (query ++ (codes ",\"totalHits\":" ++ (decimal total ++ (codes ",\"totalPages\":" ++ (decimal pages ++ codes "}")))))))))
+    → text ≡ members_text true (window_members q (Page page per) total)
+unfolding serde_json_on_literals
+page_printed q page per total pages query text is_query are_pages is_text =
+    is_text ∙ ap₂ (λ v n. codes ",\"hitsPerPage\":" ++ (decimal per ++ (codes ",\"page\":" ++ (decimal page ++ (codes ",\"query\":" ++ (v ++ (codes ",\"totalHits\":" ++ (decimal total ++ (codes ",\"totalPages\":" ++ (decimal n ++ codes "}")))))))))) is_query are_pages
+
+-- ---- counts
+
+-- two pieces behind a text, a comma between them, and a rest
+both_pieces : (t comma a d b s x : List ℕ) → ((t ++ comma) ++ (a ++ (d ++ (b ++ s)))) ++ x ≡ t ++ (comma ++ (a ++ (d ++ (b ++ (s ++ x)))))
+both_pieces t comma a d b s x = simp append_assoc
+
+pub facets_printed : (facets : List FacetView) (later : Bool) (old comma distribution stats both new : List ℕ) (rest : Members)
+    → comma ≡ old ++ comma_if later
+    → distribution ≡ compact_text (distribution_data facets)
+    → stats ≡ compact_text (stats_data facets)
+    → both ≡ codes "\"facetDistribution\":" ++ (distribution ++ (codes ",\"facetStats\":" ++ stats))
+    → new ≡ comma ++ both
+    → new ++ members_text true rest ≡ old ++ members_text later (facet_members (Some facets) rest)
+unfolding serde_json_on_literals
+facets_printed facets later old comma distribution stats both new rest is_comma is_distribution is_stats is_both is_new =
+    let d = compact_text (distribution_data facets) in let s = compact_text (stats_data facets) in
+    let joined : new ≡ (old ++ comma_if later) ++ (codes "\"facetDistribution\":" ++ (d ++ (codes ",\"facetStats\":" ++ s)))
+    = rw (is_new, is_both, is_stats, is_distribution, is_comma) refl in
+    ap (λ v. v ++ members_text true rest) joined
+    ∙ both_pieces old (comma_if later) (codes "\"facetDistribution\":") d (codes ",\"facetStats\":") s (members_text true rest)
+
+whole_text : (z : ℤ) → signed_decimal z ≡ number_text (whole z)
+whole_text (pos n) = refl
+whole_text (negsuc n) = refl
+
+pub ends_printed : (attribute : List ℕ) (ends : ℤ × ℤ) (old name piece new : List ℕ)
+    → name ≡ quoted attribute
+    → piece ≡ name ++ (codes ":{\"max\":" ++ (signed_decimal ends.1 ++ (codes ",\"min\":" ++ (signed_decimal ends.0 ++ codes "}"))))
+    → new ≡ old ++ piece
+    → new ≡ old ++ (quoted attribute ++ 58 ∷ compact_text (ends_data ends))
+unfolding serde_json_on_literals
+ends_printed attribute ends old name piece new is_name is_piece is_new =
+    let printed : piece ≡ quoted attribute ++ (codes ":{\"max\":" ++ (number_text (whole ends.1) ++ (codes ",\"min\":" ++ (number_text (whole ends.0) ++ codes "}"))))
+    = is_piece ∙ rw (is_name, whole_text ends.0, whole_text ends.1) refl in
+    is_new ∙ ap (λ v. old ++ v) printed

@@ -6,7 +6,6 @@ use Rattle.std.proofs.lemmas.Slice.Eq.{bytes_eq-Decides}
 use Rattle.serde_json.specs.Data.{Data, null, boolean, number, string, array, object, Members, no_members, member}
 use Rattle.doc_values.specs.Walk.{members_in}
 use Rattle.doc_values.specs.Whole.{IsDocument}
-use Rattle.request_replies.specs.Replies.{hits_data}
 use Rattle.request_replies.specs.Shown.{is_among, is_shown, shown_members, shown, HitView, with_costs, hit_shown, common_names, hit_by}
 
 all_members : (names : List (List ℕ)) (ms : Members) → is_among names (codes "*") ≡ true → shown_members names ms ≡ ms
@@ -85,7 +84,6 @@ hits_common : (displayed retrieve : List (List ℕ)) (hits : List HitView)
 hits_common displayed retrieve [] = refl
 hits_common displayed retrieve (hit ∷ hits) = ap₂ (λ x xs. x ∷ xs) (hit_common displayed retrieve hit) (hits_common displayed retrieve hits)
 
-pub data_common : (displayed retrieve names : List (List ℕ)) (q : List ℕ) (offset limit total : ℕ) (hits : List HitView) → names ≡ common_names displayed retrieve
-    → hits_data q offset limit total (map (hit_by names) hits) ≡ hits_data q offset limit total (map (hit_shown displayed retrieve) hits)
-data_common displayed retrieve names q offset limit total hits e =
-    ap (λ v. hits_data q offset limit total v) (ap (λ v. map (hit_by v) hits) e ∙ hits_common displayed retrieve hits)
+pub found_common : (displayed retrieve names : List (List ℕ)) (hits : List HitView) → names ≡ common_names displayed retrieve
+    → map (hit_by names) hits ≡ map (hit_shown displayed retrieve) hits
+found_common displayed retrieve names hits e = ap (λ v. map (hit_by v) hits) e ∙ hits_common displayed retrieve hits

@@ -1,3 +1,4 @@
 pub mod Costs
 pub mod Shown
+pub mod Facets
 pub mod Replies

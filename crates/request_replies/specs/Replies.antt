@@ -1,13 +1,18 @@
 -- The replies to calls that are not refused.
-use Rattle.std.specs.Prelude.{ℕ, List, map, codes, Option, Some, None}
-use Rattle.serde_json.specs.Data.{Data, null, number, unsigned, string, array, object, member, no_members}
+use Rattle.std.specs.Prelude.{ℕ, List, map, codes, Option, Some, None, ◌==◌, if◌then◌else◌}
+use Rattle.std.specs.Int.{div_ceil}
+use Rattle.serde_json.specs.Data.{Data, null, number, unsigned, string, array, object, Members, member, no_members}
 use Rattle.serde_json.specs.View.{items_of}
 use Rattle.serde_json.specs.Written.{compact_text}
 use Rattle.http_wire.specs.Reply.{Answer}
 use Rattle.index_settings.specs.View.{SettingsView}
 use Rattle.index_settings.specs.Json.{settings_data}
 use Rattle.search_call.specs.SearchView.{SearchView}
+use Rattle.search_call.specs.declared.Window.{Window}
+use Rattle.search_call.specs.declared.Window.TheVariants.{Slice, Page}
+use Rattle.facet_counts.specs.FacetView.{FacetView}
 use Rattle.request_replies.specs.Shown.{shown, all_shown, HitView, hit_shown}
+use Rattle.request_replies.specs.Facets.{facet_members}
 
 abbrev pub answer : ℕ → Data → Answer
 answer status d = record { status = status; body = compact_text d }
@@ -79,16 +84,49 @@ documents_listing offset limit fields documents total = listing offset limit (al
 
 -- ---- searches
 
--- the hits of a search for this text, of so many in all
-abbrev pub hits_data : List ℕ → ℕ → ℕ → ℕ → List Data → Data
-hits_data q offset limit total hits =
+-- so many hits by so many a page
+abbrev pub total_pages : ℕ → ℕ → ℕ
+total_pages total per = if per == 0 then 0 else div_ceil total per
+
+-- the hits of a search for this text by a slice or a page of them, of so many in all, with the counts that it asks for
+abbrev pub hits_data : List ℕ → Window → ℕ → Option (List FacetView) → List Data → Data
+hits_data q (Slice offset limit) total facets hits =
     object (member (codes "estimatedTotalHits") (count total)
+    (facet_members facets
     (member (codes "hits") (array (items_of hits))
     (member (codes "limit") (count limit)
     (member (codes "offset") (count offset)
-    (member (codes "query") (string q) no_members)))))
+    (member (codes "query") (string q) no_members))))))
+hits_data q (Page page per) total facets hits =
+    object (facet_members facets
+    (member (codes "hits") (array (items_of hits))
+    (member (codes "hitsPerPage") (count per)
+    (member (codes "page") (count page)
+    (member (codes "query") (string q)
+    (member (codes "totalHits") (count total)
+    (member (codes "totalPages") (count (total_pages total per)) no_members)))))))
 
 -- a hit shows the members that both the displayed names and the search name
-abbrev pub hits : List (List ℕ) → SearchView → ℕ → List HitView → Answer
-hits displayed call total found =
-    answer 200 (hits_data call.q call.offset call.limit total (map (hit_shown displayed call.retrieve) found))
+abbrev pub hits : List (List ℕ) → SearchView → ℕ → List HitView → Option (List FacetView) → Answer
+hits displayed call total found facets =
+    answer 200 (hits_data call.q call.window total facets (map (hit_shown displayed call.retrieve) found))
+
+-- ---- as the code does it
+
+-- what stands before the counts and the hits
+abbrev pub with_estimate : Window → ℕ → Members → Members
+with_estimate (Slice offset limit) total ms = member (codes "estimatedTotalHits") (count total) ms
+with_estimate (Page page per) total ms = ms
+
+-- what stands behind the hits
+abbrev pub window_members : List ℕ → Window → ℕ → Members
+window_members q (Slice offset limit) total =
+    member (codes "limit") (count limit)
+    (member (codes "offset") (count offset)
+    (member (codes "query") (string q) no_members))
+window_members q (Page page per) total =
+    member (codes "hitsPerPage") (count per)
+    (member (codes "page") (count page)
+    (member (codes "query") (string q)
+    (member (codes "totalHits") (count total)
+    (member (codes "totalPages") (count (total_pages total per)) no_members))))

@@ -3,11 +3,13 @@
 //!
 //! Promises that each reply is the answer of its definition in specs/Replies.antt, byte for byte; the one error is want
 //! of memory. Contracts see a `Hit` through `view_of`. Stands on `doc_values` for documents, `index_settings` for
-//! settings, `search_call` and `search_base` for searches and costs, `http_wire` for replies, and on nothing that keeps
-//! documents.
+//! settings, `search_call` and `search_base` for searches and costs, `facet_counts` for counts of values, `http_wire`
+//! for replies, and on nothing that keeps documents.
 #![tactic(auto)]
 
 mod costs;
+mod facets;
+mod found;
 mod hit;
 mod names;
 mod replies;

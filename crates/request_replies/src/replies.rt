@@ -7,10 +7,12 @@ ghost use Rattle.http_wire.specs.Sent.{IsSentAs};
 ghost use Rattle.request_replies.specs.Shown.{view_of};
 ghost use Rattle.request_replies.specs.Replies.{answer, accepted, change_data, health, health_data, index_data, one_index, one_document, list_data, documents_listing, settings as shown_settings, hits as hits_answer};
 
+use crate::found::hits_text;
 use crate::hit::Hit;
 use crate::names::common_names;
-use crate::shown::{hits_text, listing_text, shown_text};
+use crate::shown::{listing_text, shown_text};
 use doc_values::DocumentText;
+use facet_counts::FacetReply;
 use http::StatusCode;
 use http_wire::{Reply, make_reply};
 use index_settings::{Settings, to_json};
@@ -134,18 +136,20 @@ pub fn document_reply(
     make_reply(alloc, StatusCode::OK, body.into_bytes())
 }
 
-/// The reply to a search, with its hits out of `total`, by the displayed members that the call asks for.
+/// The reply to a search, with its hits out of `total`, by the displayed members that the call asks for, and with the
+/// counts of values, where there are some.
 pub fn hits_reply(
     alloc: Global,
     call: &SearchCall,
     displayed: &[Word],
     total: u64,
     hits: &[Hit],
+    facets: Option<&[FacetReply]>,
 ) -> Result<Reply, NoMemory>
     ensures { IfOk result (λ reply. IsSentAs reply
-        (hits_answer displayed.now call.now total (map view_of hits.now))) }
+        (hits_answer displayed.now call.now total (map view_of hits.now) (option_copied facets.entry))) }
 {
-    let body = body_of_hits(alloc, call, displayed, total, hits)?;
+    let body = body_of_hits(alloc, call, displayed, total, hits, facets)?;
     make_reply(alloc, StatusCode::OK, body.into_bytes())
 }
 
@@ -155,12 +159,13 @@ fn body_of_hits(
     displayed: &[Word],
     total: u64,
     hits: &[Hit],
+    facets: Option<&[FacetReply]>,
 ) -> Result<String, NoMemory>
     ensures { IfOk result (λ text. string_bytes text
-        ≡ (hits_answer displayed.now call.now total (map view_of hits.now)).body) }
+        ≡ (hits_answer displayed.now call.now total (map view_of hits.now) (option_copied facets.entry)).body) }
 {
     let names = common_names(alloc, displayed, &call.retrieve)?;
-    let (offset, limit) = (call.offset, call.limit);
-    let text = hits_text(alloc, call.q.as_str(), offset, limit, &names, total, hits)?;
+    let q = call.q.as_str();
+    let text = hits_text(alloc, q, call.window, &names, total, hits, facets)?;
     Ok(text)
 }

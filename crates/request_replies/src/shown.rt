@@ -9,7 +9,7 @@ ghost use Rattle.serde_json.specs.Written.{compact_text, has_float, members_text
 ghost use Rattle.doc_values.specs.Walk.{members_in};
 ghost use Rattle.request_replies.specs.Costs.{costs_data};
 ghost use Rattle.request_replies.specs.Shown.{is_shown as is_shown_by, shown, shown_members, all_shown, with_costs, view_of, hit_by};
-ghost use Rattle.request_replies.specs.Replies.{listing_data, hits_data};
+ghost use Rattle.request_replies.specs.Replies.{listing_data};
 
 use crate::costs::put_costs;
 use crate::hit::Hit;
@@ -38,27 +38,6 @@ pub(crate) fn listing_text(
     let mut text = format!(in alloc; "{{\"limit\":{limit},\"offset\":{offset},\"results\":")?;
     put_documents(alloc, &mut text, fields, documents)?;
     let rest = format!(in alloc; ",\"total\":{total}}}")?;
-    text.push_str(&rest)?;
-    Ok(text)
-}
-
-/// The body of a search's reply, with its hits by the members that `names` has.
-pub(crate) fn hits_text(
-    alloc: Global,
-    q: &str,
-    offset: u64,
-    limit: u64,
-    names: &[Word],
-    total: u64,
-    hits: &[Hit],
-) -> Result<String, NoMemory>
-    ensures { IfOk result (λ text. string_bytes text
-        ≡ compact_text (hits_data q.now offset limit total (map (hit_by names.now) (map view_of hits.now)))) }
-{
-    let mut text = format!(in alloc; "{{\"estimatedTotalHits\":{total},\"hits\":")?;
-    put_hits(alloc, &mut text, names, hits)?;
-    let query = quoted_text(alloc, q)?;
-    let rest = format!(in alloc; ",\"limit\":{limit},\"offset\":{offset},\"query\":{query}}}")?;
     text.push_str(&rest)?;
     Ok(text)
 }
@@ -97,8 +76,13 @@ fn put_documents(
     Ok(())
 }
 
-// Puts a list of hits.
-fn put_hits(alloc: Global, text: &mut String, names: &[Word], hits: &[Hit]) -> Result<(), NoMemory>
+/// Puts a list of hits.
+pub(crate) fn put_hits(
+    alloc: Global,
+    text: &mut String,
+    names: &[Word],
+    hits: &[Hit],
+) -> Result<(), NoMemory>
     ensures { OnOk result (string_bytes text.new ≡ string_bytes text.old
         ++ compact_text (array (items_of (map (hit_by names.now) (map view_of hits.now))))) }
 {
