@@ -1,6 +1,6 @@
 -- Documents found by their ids.
-use Rattle.std.proofs.Common.{◌≡◌, ℕ, zero, suc, ◌+◌, ◌-◌, ◌<◌, ◌≤◌, ◌==◌, Bool, true, false, List, [], ◌∷◌, ◌++◌, length, map, take, drop, slice_index_or, Option, None, Some, refl, sym, ap, subst, ◌∙◌, arith, append_assoc}
-use Rattle.std.specs.Prelude.{bytes_eq}
+use Rattle.std.proofs.Common.{◌≡◌, ℕ, zero, suc, ◌+◌, ◌-◌, ◌<◌, ◌≤◌, ◌==◌, ◌⊎◌, inl, inr, min, Bool, true, false, cond, List, [], ◌∷◌, ◌++◌, length, map, take, drop, slice_index_or, filter, Option, None, Some, refl, sym, ap, subst, ◌∙◌, arith, append_assoc}
+use Rattle.std.specs.Prelude.{bytes_eq, ◌&&◌}
 use Rattle.std.specs.Option.{option_map, is_some}
 use Rattle.std.specs.List.{AllByRecursion, filter_map, cons_option}
 use Rattle.std.proofs.lemmas.Bool.{cond-true, cond-false, eq-eqb, ne_eqb}
@@ -15,19 +15,23 @@ use Rattle.search_base.specs.declared.rule.Rule.{Rule}
 use Rattle.search_base.specs.GraphView.{GraphView}
 use Rattle.search_base.specs.Query.{tuple_under}
 use Rattle.search_base.specs.RowsView.{RowsView}
-use Rattle.search_base.specs.Tuple.{tuple}
+use Rattle.search_base.specs.Tuple.{tuple, cost_of, entry}
 use Rattle.row_search.specs.Hits.{costs_of, id_of as id_of_match, hits_of}
-use Rattle.row_search.specs.Matching.{match_at, matches_among, matches_in}
+use Rattle.row_search.specs.Matching.{match_at, costs_where, is_match, matches_among, matches_in, rows_matching}
+use Rattle.row_filter.specs.Holds.{holds}
+use Rattle.facet_counts.specs.FacetView.{FacetView}
+use Rattle.facet_counts.specs.Counts.{counted}
 use Rattle.search_call.specs.SearchView.{SearchView}
+use Rattle.search_call.specs.Windows.{offset_of}
 use Rattle.doc_store.specs.Store.{Row, Store, id_of, row_at}
 use Rattle.doc_store.specs.Sound.{Increase, IsSound}
 use Rattle.index_settings.specs.View.{SettingsView}
 use Rattle.index_core.specs.Index.{Index, document_under}
-use Rattle.row_search.specs.Slots.{KeptRows, kept_at}
+use Rattle.row_search.specs.Slots.{KeptRows, kept_at, kept_from}
 use Rattle.index_core.specs.Kept.{AreKept, AreOf}
-use Rattle.index_core.specs.Matching.{Matching, with_costs, match_of, matching, query_in, rows_in, rules_in, rows_with}
-use Rattle.index_core.specs.Found.{hit_of, asked_of, most_hits, window_end, window_size, found}
-use Rattle.index_core.specs.Shown.{hit_at}
+use Rattle.index_core.specs.Matching.{Matching, with_costs, match_of, matching, query_in, rows_in, rules_in, rows_with, costs_in, rows_matching as rows_of_matches}
+use Rattle.index_core.specs.Found.{Found, FoundHit, hit_of, asked_of, most_hits, window_end, window_size, paths_asked, counts_of}
+use Rattle.index_core.specs.Shown.{hit_at, Finds}
 use Rattle.index_core.specs.Slots.{AreInSlots}
 use Rattle.index_core.proofs.HitLemmas.{all-hits, hits-seen}
 
@@ -184,7 +188,7 @@ as_match m = record { costs = m.costs; id = m.row.id }
 -- documents that match are there
 matching-there : (index : Index) (call : SearchView) (all rows : List Row) → AllByRecursion (IsThere all) rows → AllByRecursion (λ m. IsThere all m.row) (filter_map (match_of index call) rows)
 matching-there index call all [] h = tt
-matching-there index call all (r ∷ rows) h = by (tuple_under (rows_in index r.document) (query_in index call) (rules_in index)) (matching-there index call all rows h.1)
+matching-there index call all (r ∷ rows) h = by (costs_in index call r.document) (matching-there index call all rows h.1)
   where
     by : (o : Option (List CostKey)) → AllByRecursion (λ m. IsThere all m.row) (filter_map (match_of index call) rows) → AllByRecursion (λ m. IsThere all m.row) (cons_option (option_map (with_costs r) o) (filter_map (match_of index call) rows))
     by None rest = rest
@@ -193,7 +197,7 @@ matching-there index call all (r ∷ rows) h = by (tuple_under (rows_in index r.
 -- and so are those that are asked for
 pub asked-there : (index : Index) (call : SearchView) → IsSound index.store → AllByRecursion (λ m. IsThere index.store.rows m.row) (asked_of (most_hits index) call (matching index call))
 asked-there index call sound =
-    all-hits before (λ m. m.costs) (λ m. m.row.id) (λ m. IsThere index.store.rows m.row) (matching index call) call.offset (window_size (most_hits index) call) (matching-there index call index.store.rows index.store.rows (rows-there index.store sound))
+    all-hits before (λ m. m.costs) (λ m. m.row.id) (λ m. IsThere index.store.rows m.row) (matching index call) (offset_of call.window) (window_size (most_hits index) call) (matching-there index call index.store.rows index.store.rows (rows-there index.store sound))
 
 pub hits-read : (rows : List Row) (hits : List Matching) → AllByRecursion (λ m. IsThere rows m.row) hits → filter_map (hit_at rows) (map as_match hits) ≡ map hit_of hits
 hits-read rows [] h = refl
@@ -201,49 +205,124 @@ hits-read rows (m ∷ hits) h =
     ap (λ o. cons_option (option_map (λ (row : Row). record { document = row.document; costs = m.costs }) o) (filter_map (hit_at rows) (map as_match hits))) h.0
     ∙ ap (λ v. hit_of m ∷ v) (hits-read rows hits h.1)
 
+-- what ranking is handed for a search: its query as a graph, its filter made ready, and its rules
+pub record IsAsked (index : Index) (call : SearchView) (passing : RowsView → Bool) (graph : GraphView) (rules : List Rule) : Type 0 where
+  pub filter : (rows : RowsView) → passing rows ≡ holds index.store.paths rows call.filter
+  pub query : (rows : RowsView) → tuple rows graph (rules_in index call) ≡ tuple_under rows (query_in index call) (rules_in index call)
+  pub ruled : rules ≡ rules_in index call
+
+costs-same : (index : Index) (call : SearchView) (passing : RowsView → Bool) (graph : GraphView) (rules : List Rule) → IsAsked index call passing graph rules → (document : Data)
+    → costs_where passing graph rules (rows_in index document) ≡ costs_in index call document
+costs-same index call passing graph rules h document =
+    let rows = rows_in index document in
+    ap (λ b. cond b (tuple rows graph rules) None) (h.filter rows)
+    ∙ ap (λ t. cond (holds index.store.paths rows call.filter) t None) (ap (tuple rows graph) h.ruled ∙ h.query rows)
+
 -- the matches that a search collects are those of the index
-matches-same : (index : Index) (call : SearchView) (graph : GraphView) (rules : List Rule) (slots : List (Option RowsView)) → AreInSlots slots index.settings index.store
-    → ((rows : RowsView) → tuple rows graph (rules_in index) ≡ tuple_under rows (query_in index call) (rules_in index)) → rules ≡ rules_in index → matches_in graph rules slots ≡ map as_match (matching index call)
-matches-same index call graph rules slots h same is =
-    ap (λ rs. matches_in graph rs slots) is ∙ ap (matches_among graph (rules_in index)) h.kept.same ∙ among index.store.rows
+matches-same : (index : Index) (call : SearchView) (passing : RowsView → Bool) (graph : GraphView) (rules : List Rule) (slots : List (Option RowsView)) → AreInSlots slots index.settings index.store
+    → IsAsked index call passing graph rules → matches_in passing graph rules slots ≡ map as_match (matching index call)
+matches-same index call passing graph rules slots h is = ap (matches_among passing graph rules) h.kept.same ∙ among index.store.rows
   where
-    among : (rows : List Row) → matches_among graph (rules_in index) (map (λ r. kept_at r.id (rows_in index r.document)) rows) ≡ map as_match (filter_map (match_of index call) rows)
+    among : (rows : List Row) → matches_among passing graph rules (map (λ r. kept_at r.id (rows_in index r.document)) rows) ≡ map as_match (filter_map (match_of index call) rows)
     among [] = refl
     among (r ∷ rows) =
-        ap (λ o. cons_option (option_map (match_at r.id) o) (matches_among graph (rules_in index) (map (λ r. kept_at r.id (rows_in index r.document)) rows))) (same (rows_in index r.document))
-        ∙ by (tuple_under (rows_in index r.document) (query_in index call) (rules_in index)) (among rows)
+        ap (λ o. cons_option (option_map (match_at r.id) o) (matches_among passing graph rules (map (λ r. kept_at r.id (rows_in index r.document)) rows))) (costs-same index call passing graph rules is r.document)
+        ∙ by (costs_in index call r.document) (among rows)
       where
-        by : (o : Option (List CostKey)) → matches_among graph (rules_in index) (map (λ r. kept_at r.id (rows_in index r.document)) rows) ≡ map as_match (filter_map (match_of index call) rows)
-            → cons_option (option_map (match_at r.id) o) (matches_among graph (rules_in index) (map (λ r. kept_at r.id (rows_in index r.document)) rows))
+        by : (o : Option (List CostKey)) → matches_among passing graph rules (map (λ r. kept_at r.id (rows_in index r.document)) rows) ≡ map as_match (filter_map (match_of index call) rows)
+            → cons_option (option_map (match_at r.id) o) (matches_among passing graph rules (map (λ r. kept_at r.id (rows_in index r.document)) rows))
             ≡ map as_match (cons_option (option_map (with_costs r) o) (filter_map (match_of index call) rows))
         by None rest = rest
         by (Some costs) rest = ap (λ v. match_at r.id costs ∷ v) rest
 
-length-map : {X Y : Type 0} (f : X → Y) (xs : List X) → length (map f xs) ≡ length xs
+-- the rows that are counted are those of the documents that match
+kept-rows : (id : ℕ) (slots : List (Option RowsView)) → filter_map (λ slot. slot) slots ≡ map (λ k. k.rows) (kept_from id slots)
+kept-rows id [] = refl
+kept-rows id (None ∷ slots) = kept-rows (suc id) slots
+kept-rows id (Some rows ∷ slots) = ap (λ v. rows ∷ v) (kept-rows (suc id) slots)
+
+seen-rows : (index : Index) (rows : List Row) → map (λ k. k.rows) (map (λ r. kept_at r.id (rows_in index r.document)) rows) ≡ map (λ r. rows_in index r.document) rows
+seen-rows index [] = refl
+seen-rows index (r ∷ rows) = ap (λ v. rows_in index r.document ∷ v) (seen-rows index rows)
+
+match-costs : (passing : RowsView → Bool) (graph : GraphView) (rules : List Rule) (rows : RowsView) → is_match passing graph rows ≡ is_some (costs_where passing graph rules rows)
+match-costs passing graph rules rows = by (passing rows) (cost_of rows.places graph.levels)
+  where
+    by : (b : Bool) (o : Option ℕ) → b && is_some o ≡ is_some (cond b (option_map (λ level. map (entry rows graph level) rules) o) None)
+    by false o = refl
+    by true None = refl
+    by true (Some n) = refl
+
+rows-same : (index : Index) (call : SearchView) (passing : RowsView → Bool) (graph : GraphView) (rules : List Rule) (slots : List (Option RowsView)) → AreInSlots slots index.settings index.store
+    → IsAsked index call passing graph rules → rows_matching passing graph slots ≡ rows_of_matches index call
+rows-same index call passing graph rules slots h is =
+    ap (filter (is_match passing graph)) (kept-rows 0 slots ∙ ap (map (λ (k : KeptRows). k.rows)) h.kept.same ∙ seen-rows index index.store.rows) ∙ among index.store.rows
+  where
+    among : (rows : List Row) → filter (is_match passing graph) (map (λ r. rows_in index r.document) rows) ≡ map (λ m. rows_in index m.row.document) (filter_map (match_of index call) rows)
+    among [] = refl
+    among (r ∷ rows) =
+        let rest = filter (is_match passing graph) (map (λ r. rows_in index r.document) rows) in
+        ap (λ b. cond b (rows_in index r.document ∷ rest) rest) (match-costs passing graph rules (rows_in index r.document) ∙ ap is_some (costs-same index call passing graph rules is r.document))
+        ∙ by (costs_in index call r.document) (among rows)
+      where
+        by : (o : Option (List CostKey)) → filter (is_match passing graph) (map (λ r. rows_in index r.document) rows) ≡ map (λ m. rows_in index m.row.document) (filter_map (match_of index call) rows)
+            → cond (is_some o) (rows_in index r.document ∷ filter (is_match passing graph) (map (λ r. rows_in index r.document) rows)) (filter (is_match passing graph) (map (λ r. rows_in index r.document) rows))
+            ≡ map (λ m. rows_in index m.row.document) (cons_option (option_map (with_costs r) o) (filter_map (match_of index call) rows))
+        by None more = more
+        by (Some costs) more = ap (λ v. rows_in index r.document ∷ v) more
+
+pub length-map : {X Y : Type 0} (f : X → Y) (xs : List X) → length (map f xs) ≡ length xs
 length-map f [] = refl
 length-map f (x ∷ xs) = ap suc (length-map f xs)
 
--- what was ranked is what the search finds
-pub record Finds (index : Index) (call : SearchView) (ranked : List Match) (total : ℕ) : Type 0 where
-  pub hits : filter_map (hit_at index.store.rows) ranked ≡ (found index call).hits
-  pub number : length ranked ≡ length (found index call).hits
-  pub matches : total ≡ length (matching index call)
+-- what is found, by its parts
+pub found-same : (f : Found) (hits : List FoundHit) (total : ℕ) (facets : Option (List FacetView)) → hits ≡ f.hits → total ≡ f.total → facets ≡ f.facets
+    → record { hits = hits; total = total; facets = facets } ≡ f
+found-same f hits total facets e1 e2 e3 = ap (λ v. made v total facets) e1 ∙ ap (λ v. made f.hits v facets) e2 ∙ ap (λ v. made f.hits f.total v) e3
+  where
+    made : List FoundHit → ℕ → Option (List FacetView) → Found
+    made a b c = record { hits = a; total = b; facets = c }
 
-pub finds : (index : Index) (call : SearchView) (graph : GraphView) (rules : List Rule) (slots : List (Option RowsView)) (end total : ℕ) (ranked : List Match) → AreInSlots slots index.settings index.store
-    → ((rows : RowsView) → tuple rows graph (rules_in index) ≡ tuple_under rows (query_in index call) (rules_in index)) → rules ≡ rules_in index → end ≡ window_end (most_hits index) call
-    → ranked ≡ hits_of (matches_in graph rules slots) call.offset (end - call.offset) → total ≡ length (matches_in graph rules slots) → Finds index call ranked total
-finds index call graph rules slots end total ranked h same is ends hits counted =
-    let all = matches-same index call graph rules slots h same is in
+-- a window whose offset is cut at some number at least as great as its end
+cut-window : (ms : List Match) (offset start end most : ℕ) → start ≡ min offset most → end ≤ most → hits_of ms start (end - start) ≡ hits_of ms offset (end - offset)
+cut-window ms offset start end most is le = by (near-or-far offset most)
+  where
+    near-or-far : (a b : ℕ) → (a ≤ b) ⊎ (b < a)
+    near-or-far a b = grind arith
+
+    by : (offset ≤ most) ⊎ (most < offset) → hits_of ms start (end - start) ≡ hits_of ms offset (end - offset)
+    by (inl near) = ap (λ n. hits_of ms n (end - n)) (let e : start ≡ offset = omega arith in e)
+    by (inr far) = ap (hits_of ms start) (let e : end - start ≡ 0 = omega arith in e) ∙ sym (ap (hits_of ms offset) (let e : end - offset ≡ 0 = omega arith in e))
+
+-- what was ranked and counted is what the search finds
+pub finds : (index : Index) (call : SearchView) (passing : RowsView → Bool) (graph : GraphView) (rules : List Rule) (slots : List (Option RowsView)) (start end bound total : ℕ) (ranked : List Match) (facets : Option (List FacetView))
+    → AreInSlots slots index.settings index.store → IsAsked index call passing graph rules
+    → start ≡ min (offset_of call.window) bound → end ≡ window_end (most_hits index) call → end ≤ bound
+    → ranked ≡ hits_of (matches_in passing graph rules slots) start (end - start)
+    → total ≡ min (length (matches_in passing graph rules slots)) (most_hits index)
+    → facets ≡ option_map (λ _. map (counted index.settings.max_values_per_facet (rows_matching passing graph slots)) (paths_asked index.settings index.store.paths call.facets)) call.facets
+    → Finds index call ranked total facets
+finds index call passing graph rules slots start end bound total ranked facets h is starts ends le hits counts told =
+    let all = matches-same index call passing graph rules slots h is in
+    let offset = offset_of call.window in
     let size = window_size (most_hits index) call in
     let asked = asked_of (most_hits index) call (matching index call) in
     let seen : ranked ≡ map as_match asked =
-    hits ∙ ap (λ n. hits_of (matches_in graph rules slots) call.offset (n - call.offset)) ends ∙ ap (λ ms. hits_of ms call.offset size) all
-    ∙ sym (hits-seen before costs_of id_of_match as_match (matching index call) call.offset size) in
+    hits ∙ cut-window (matches_in passing graph rules slots) offset start end bound starts le
+    ∙ ap (λ n. hits_of (matches_in passing graph rules slots) offset (n - offset)) ends ∙ ap (λ ms. hits_of ms offset size) all
+    ∙ sym (hits-seen before costs_of id_of_match as_match (matching index call) offset size) in
     record {
       hits = ap (filter_map (hit_at index.store.rows)) seen ∙ hits-read index.store.rows asked (asked-there index call h.kept.sound);
       number = ap length seen ∙ length-map as_match asked ∙ sym (length-map hit_of asked);
-      matches = counted ∙ ap length all ∙ length-map as_match (matching index call);
+      total = counts ∙ ap (λ n. min n (most_hits index)) (ap length all ∙ length-map as_match (matching index call));
+      facets = told ∙ ap (λ rows. option_map (λ _. map (counted index.settings.max_values_per_facet rows) (paths_asked index.settings index.store.paths call.facets)) call.facets) (rows-same index call passing graph rules slots h is)
+          ∙ facets-are call.facets;
     }
+  where
+    facets-are : (names : Option (List (List ℕ)))
+        → option_map (λ _. map (counted index.settings.max_values_per_facet (rows_of_matches index call)) (paths_asked index.settings index.store.paths names)) names ≡ option_map (counts_of index call) names
+    facets-are None = refl
+    facets-are (Some names) = refl
 
 -- ---- the documents of which something is kept
 

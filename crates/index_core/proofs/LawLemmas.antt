@@ -31,6 +31,7 @@ use Rattle.index_core.specs.Fetches.{use_alike, needed_under}
 use Rattle.search_base.specs.CostOrder.{before}
 use Rattle.row_search.specs.Hits.{costs_of, id_of, hits_of}
 use Rattle.index_core.specs.Matching.{matching, rules_in, with_costs}
+use Rattle.search_call.specs.Windows.{offset_of}
 use Rattle.index_core.specs.Found.{asked_of, most_hits, window_size}
 use Rattle.index_core.specs.Shown.{hit_at}
 use Rattle.index_core.proofs.HitLemmas.{hits-seen}
@@ -158,18 +159,18 @@ ids_are_spent_once index after change id takes low gone = subst (λ (i : Index).
 -- ---- no word
 
 pub no_word_finds_the_list : NoWordFindsTheList
-no_word_finds_the_list index call sound none ask =
+no_word_finds_the_list index call sound none ask unfiltered =
     let asked = asked_of (most_hits index) call (matching index call) in
     let size = window_size (most_hits index) call in
     let rows = index.store.rows in
-    let costs = no_costs (rules_in index) in
-    let all = empty-matching index call none ask rows in
-    let some = take size (drop call.offset rows) in
+    let costs = no_costs (rules_in index call) in
+    let all = empty-matching index call none ask unfiltered rows in
+    let some = take size (drop (offset_of call.window) rows) in
     let seen : map as_match asked ≡ map as_match (map (λ r. with_costs r costs) some) =
-    hits-seen before costs_of id_of as_match (matching index call) call.offset size ∙ ap (λ ms. hits_of (map as_match ms) call.offset size) all
-    ∙ listed costs rows index.store.next_id call.offset size sound.increase in
-    ap (map (λ hit. hit.document)) (sym (hits-read rows asked (asked-there index call sound)) ∙ ap (filter_map (hit_at rows)) seen ∙ hits-read rows (map (λ r. with_costs r costs) some) (some-there index call.offset size costs sound))
-    ∙ documents-of costs some ∙ sym (ap (take size) (drop-map (λ (r : Row). r.document) call.offset rows) ∙ take-map (λ (r : Row). r.document) size (drop call.offset rows))
+    hits-seen before costs_of id_of as_match (matching index call) (offset_of call.window) size ∙ ap (λ ms. hits_of (map as_match ms) (offset_of call.window) size) all
+    ∙ listed costs rows index.store.next_id (offset_of call.window) size sound.increase in
+    ap (map (λ hit. hit.document)) (sym (hits-read rows asked (asked-there index call sound)) ∙ ap (filter_map (hit_at rows)) seen ∙ hits-read rows (map (λ r. with_costs r costs) some) (some-there index (offset_of call.window) size costs sound))
+    ∙ documents-of costs some ∙ sym (ap (take size) (drop-map (λ (r : Row). r.document) (offset_of call.window) rows) ∙ take-map (λ (r : Row). r.document) size (drop (offset_of call.window) rows))
 
 -- ---- settings
 
@@ -185,7 +186,7 @@ other_patches_leave_ranking index after d plan leaves h became = by (patch_fault
     leaves_ranking : LeavesRanking index (after_plan (plan_of index.key (patch d)) index) (plan_of index.key (patch d))
     leaves_ranking = record {
       rows = λ document. ap (rows_of document index.store.paths) (uses-patched old d leaves index.store.paths);
-      rules = ap (λ texts. flat_map (λ text. entries_named index.store.paths (rule_of text)) texts) (rules-patched old d leaves);
+      rules = λ call. ap (λ texts. flat_map (λ text. entries_named index.store.paths call.sort (rule_of text)) texts) (rules-patched old d leaves);
       reads = cond-true (use_alike new old index.store.paths) _ _ (alike-patched old d leaves index.store.paths);
     }
 

@@ -3,6 +3,7 @@ pub mod HitLemmas
 pub mod Finding
 pub mod NoWord
 pub mod SynonymLemmas
+pub mod EachOnce
 pub mod Stable
 pub mod Putting
 pub mod Removing

@@ -1,5 +1,5 @@
 -- A search for no word, where no rule asks for a value of documents: all cost the same, and stand in the order of their ids.
-use Rattle.std.proofs.Common.{◌≡◌, ℕ, suc, ◌<◌, ◌≤◌, Bool, true, false, List, [], ◌∷◌, ◌++◌, map, take, drop, Some, refl, sym, ap, ◌∙◌, arith, append-nil, append_assoc}
+use Rattle.std.proofs.Common.{◌≡◌, ℕ, suc, ◌<◌, ◌≤◌, Bool, true, false, List, [], ◌∷◌, ◌++◌, map, take, drop, Some, None, refl, sym, ap, ◌∙◌, arith, append-nil, append_assoc}
 use Rattle.std.specs.Prelude.{nat_lt, ◌&&◌}
 use Rattle.std.specs.Option.{option_map}
 use Rattle.std.specs.List.{AllByRecursion, filter_map, cons_option, list_all}
@@ -14,6 +14,8 @@ use Rattle.search_base.specs.Hits.{Match}
 use Rattle.search_base.specs.Query.{Query, entry_under, sum_under, whole_under, cost_under, tuple_under}
 use Rattle.search_base.specs.RowsView.{RowsView}
 use Rattle.search_call.specs.SearchView.{SearchView}
+use Rattle.filter_tree.specs.Tree as tree
+use Rattle.row_filter.specs.Holds.{holds}
 use Rattle.row_search.specs.Hits.{hits_of, costs_are_before, stands_before}
 use Rattle.row_search.specs.Matching.{match_at}
 use Rattle.row_search.specs.Ordered.{placed, placed_all}
@@ -56,12 +58,12 @@ tuple-nothing : (rows : RowsView) (query : Query) (rules : List Rule) → query.
 tuple-nothing rows query rules none ask =
     ap (λ ls. option_map (λ level. map (entry_under rows query level) rules) (cost_under rows.places ls)) none ∙ ap Some (entries-nothing rows query rules none ask)
 
-pub empty-matching : (index : Index) (call : SearchView) → (query_in index call).levels ≡ [] → AskOfTheQuery (rules_in index) → (rows : List Row)
-    → filter_map (match_of index call) rows ≡ map (λ r. with_costs r (no_costs (rules_in index))) rows
-empty-matching index call none ask [] = refl
-empty-matching index call none ask (r ∷ rows) =
-    ap (λ o. cons_option (option_map (with_costs r) o) (filter_map (match_of index call) rows)) (tuple-nothing (rows_in index r.document) (query_in index call) (rules_in index) none ask)
-    ∙ ap (λ v. with_costs r (no_costs (rules_in index)) ∷ v) (empty-matching index call none ask rows)
+pub empty-matching : (index : Index) (call : SearchView) → (query_in index call).levels ≡ [] → AskOfTheQuery (rules_in index call) → call.filter ≡ tree.all → (rows : List Row)
+    → filter_map (match_of index call) rows ≡ map (λ r. with_costs r (no_costs (rules_in index call))) rows
+empty-matching index call none ask unfiltered [] = refl
+empty-matching index call none ask unfiltered (r ∷ rows) =
+    ap (λ o. cons_option (option_map (with_costs r) o) (filter_map (match_of index call) rows)) (cond-true (holds index.store.paths (rows_in index r.document) call.filter) _ None (ap (holds index.store.paths (rows_in index r.document)) unfiltered) ∙ tuple-nothing (rows_in index r.document) (query_in index call) (rules_in index call) none ask)
+    ∙ ap (λ v. with_costs r (no_costs (rules_in index call)) ∷ v) (empty-matching index call none ask unfiltered rows)
 
 -- ---- in the order of their internal ids
 

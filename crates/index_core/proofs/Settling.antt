@@ -19,7 +19,7 @@ use Rattle.doc_store.specs.Store.{Row, Store}
 use Rattle.row_search.specs.Slots.{KeptRows, kept_at}
 use Rattle.index_core.specs.Kept.{AreKept}
 use Rattle.index_core.specs.Fetches.{same_rank, same_use, use_alike, LeavesUses}
-use Rattle.index_core.specs.QueryWords.{only_word, words_of, rows_under, QueryWordsView, AreWordsOf, LeavesWords}
+use Rattle.index_core.specs.QueryWords.{only_word, words_of, rows_under, each_once, QueryWordsView, AreWordsOf, LeavesWords}
 use Rattle.index_core.specs.Matching.{use_of, uses_from}
 
 -- ---- the test of uses tells whether they are the same
@@ -124,5 +124,5 @@ alike-patched old d h paths = alike-uses (uses_from (patched defaults old d) 0 p
 pub words-patched : (old : SettingsView) (d : Data) (words : QueryWordsView) → LeavesWords d → AreWordsOf words old → AreWordsOf words (patched defaults old d)
 words-patched old d words h are = record {
   stop_words = are.stop_words ∙ sym (ap (filter_map (λ entry. only_word (tokens entry))) (stays old.stop_words defaults.stop_words texts_in (get (codes "stopWords") d) h.stop_words));
-  synonyms = are.synonyms ∙ sym (ap (flat_map (λ (list : SynonymView). rows_under (words_of list.key) list.texts)) (stays old.synonyms defaults.synonyms synonyms_in (get (codes "synonyms") d) h.synonyms));
+  synonyms = are.synonyms ∙ sym (ap (λ lists. each_once (flat_map (λ (list : SynonymView). rows_under (words_of list.key) list.texts) lists)) (stays old.synonyms defaults.synonyms synonyms_in (get (codes "synonyms") d) h.synonyms));
 }

@@ -1,21 +1,37 @@
--- What a search finds: the asked slice of the documents that match, by cost and then by internal id.
-use Rattle.std.specs.Prelude.{ℕ, ◌+◌, ◌-◌, min, List, length, map}
+-- What a search finds: the asked slice of the documents that match, by cost and then by internal id, and the counts of
+-- attributes over all of them.
+use Rattle.std.specs.Prelude.{ℕ, ◌+◌, ◌-◌, min, List, [], ◌∷◌, length, map, flat_map, codes, bytes_eq, Option, None, Some, Result, Ok, if◌then◌else◌}
+use Rattle.std.specs.Option.{option_map}
 use Rattle.serde_json.specs.Data.{Data}
 use Rattle.search_base.specs.declared.cost_key.CostKey.{CostKey}
 use Rattle.search_base.specs.CostOrder.{before}
 use Rattle.search_base.specs.Hits.{hits_of}
+use Rattle.search_base.specs.Trying.{◌>>◌}
 use Rattle.search_call.specs.SearchView.{SearchView}
+use Rattle.search_call.specs.Windows.{offset_of, limit_of}
+use Rattle.facet_counts.specs.declared.rows.FacetPath.{FacetPath}
+use Rattle.facet_counts.specs.FacetView.{FacetView}
+use Rattle.facet_counts.specs.Counts.{counted}
+use Rattle.facet_counts.specs.Order.{in_order}
+use Rattle.index_settings.specs.View.{SettingsView}
+use Rattle.index_core.specs.declared.refusal.SearchRefusal.{SearchRefusal}
 use Rattle.index_core.specs.Index.{Index}
-use Rattle.index_core.specs.Matching.{Matching, matching}
+use Rattle.index_core.specs.Matching.{Matching, matching, rows_matching}
+use Rattle.index_core.specs.Rules.{path_named}
+use Rattle.index_core.specs.SearchFaults.{search_fault}
 
 -- a document that is found, and the costs by which it stands where it stands
 pub record FoundHit : Type 0 where
   pub document : Data
   pub costs : List CostKey
 
+-- the hits, the number of matches, and the counts where they are asked for
 pub record Found : Type 0 where
   pub hits : List FoundHit
   pub total : ℕ
+  pub facets : Option (List FacetView)
+
+-- ---- hits
 
 -- how many matches of an index are counted or handed out at most
 abbrev pub most_hits : Index → ℕ
@@ -23,25 +39,59 @@ most_hits index = index.settings.max_total_hits
 
 -- the end of the window of hits that a search asks for, where no more than `most` are handed out
 abbrev pub window_end : ℕ → SearchView → ℕ
-window_end most call = min (call.offset + call.limit) most
+window_end most call = min (offset_of call.window + limit_of call.window) most
 
 -- how many hits the window has room for
 abbrev pub window_size : ℕ → SearchView → ℕ
-window_size most call = window_end most call - call.offset
+window_size most call = window_end most call - offset_of call.window
 
 abbrev pub hit_of : Matching → FoundHit
 hit_of m = record { document = m.row.document; costs = m.costs }
 
--- the hits from `offset` on, up to the end of the window, in their order
+-- the hits from the window's offset on, up to its end, in their order
 abbrev pub asked_of : ℕ → SearchView → List Matching → List Matching
-asked_of most call matches = hits_of before (λ m. m.costs) (λ m. m.row.id) matches call.offset (window_size most call)
+asked_of most call matches =
+    hits_of before (λ m. m.costs) (λ m. m.row.id) matches (offset_of call.window) (window_size most call)
 
--- the hits with their costs, and the number of matches, of which no more are counted than the settings say
-abbrev pub found : Index → SearchView → Found
-found index call =
+-- ---- counts
+
+-- `*` stands for each attribute by which the settings let a search filter
+abbrev pub names_for : SettingsView → List ℕ → List (List ℕ)
+names_for settings name = if bytes_eq name (codes "*") then settings.filterable_attributes else name ∷ []
+
+-- the attributes that are counted, in the order of their bytes, each once
+abbrev pub facet_names : SettingsView → List (List ℕ) → List (List ℕ)
+facet_names settings names = in_order (flat_map (names_for settings) names)
+
+abbrev pub facet_path : List (List ℕ) → List ℕ → FacetPath
+facet_path paths name = record { attribute = name; path = path_named paths name }
+
+-- the attributes that are counted, each with its path in the registry
+abbrev pub facet_paths : SettingsView → List (List ℕ) → List (List ℕ) → List FacetPath
+facet_paths settings paths names = map (facet_path paths) (facet_names settings names)
+
+abbrev pub paths_asked : SettingsView → List (List ℕ) → Option (List (List ℕ)) → List FacetPath
+paths_asked settings paths None = []
+paths_asked settings paths (Some names) = facet_paths settings paths names
+
+-- the counts of the attributes that these names name, over all documents that match
+abbrev pub counts_of : Index → SearchView → List (List ℕ) → List FacetView
+counts_of index call names =
+    map (counted index.settings.max_values_per_facet (rows_matching index call))
+    (facet_paths index.settings index.store.paths names)
+
+-- ---- what is found
+
+-- the hits with their costs, the number of matches, of which no more are counted than the settings say, and the counts
+abbrev pub found_in : Index → SearchView → Found
+found_in index call =
     let matches = matching index call in
     record {
       hits = map hit_of (asked_of (most_hits index) call matches);
-      total = min (length matches)
-          (most_hits index);
+      total = min (length matches) (most_hits index);
+      facets = option_map (counts_of index call) call.facets;
     }
+
+-- the same, unless the settings refuse the search
+abbrev pub found : Index → SearchView → Result Found SearchRefusal
+found index call = search_fault index.settings call >> Ok (found_in index call)

@@ -24,11 +24,12 @@ documents index = map (λ r. r.document) index.store.rows
 -- the document with an external id
 abbrev pub document_under : List ℕ → List Row → Option Data
 document_under external [] = None
-document_under external
-    (r ∷ rows) = if bytes_eq external r.external then Some r.document else document_under external rows
+document_under external (r ∷ rows) =
+    if bytes_eq external r.external then Some r.document else document_under external rows
 
 -- how the logic stores an index
 abbrev pub index_code : Coded Index
-index_code = code_by (Option (List ℕ) × (Store
-    × SettingsView)) (coded× (coded_option (coded_list coded_ℕ)) (coded× store_code settings_code))
+index_code =
+    code_by (Option (List ℕ) × (Store × SettingsView))
+    (coded× (coded_option (coded_list coded_ℕ)) (coded× store_code settings_code))
     (λ i. (i.key, (i.store, i.settings))) (λ p. record { key = p.0; store = p.1.0; settings = p.1.1 }) (λ _. refl)

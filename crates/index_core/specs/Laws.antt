@@ -9,7 +9,9 @@ use Rattle.search_base.specs.declared.rule.Rule.{Rule}
 use Rattle.search_base.specs.EmptyQuery.{is_query_rule}
 use Rattle.search_call.specs.SearchView.{SearchView}
 use Rattle.index_core.specs.Fetches.{needed, LeavesUses}
-use Rattle.index_core.specs.Found.{found, most_hits, window_size}
+use Rattle.search_call.specs.Windows.{offset_of}
+use Rattle.filter_tree.specs.Tree.{all}
+use Rattle.index_core.specs.Found.{found_in, most_hits, window_size}
 use Rattle.index_core.specs.Index.{Index, documents}
 use Rattle.index_core.specs.Matching.{query_in, rows_in, rules_in}
 use Rattle.index_core.specs.PlanView.{PlanView}
@@ -54,18 +56,18 @@ DocumentsStay = (index after : Index) (change : KindData) (external : List ℕ) 
 abbrev pub AskOfTheQuery : List Rule → Type 0
 AskOfTheQuery rules = list_all is_query_rule rules ≡ true
 
--- under such rules a search for no word finds the documents in the order of their internal ids
+-- under such rules a search for no word, without a filter, finds the documents in the order of their internal ids
 abbrev pub NoWordFindsTheList : Type 0
 NoWordFindsTheList = (index : Index) (call : SearchView) → IsSound index.store → (query_in index call).levels ≡ []
-    → AskOfTheQuery (rules_in index) →
-    map (λ hit. hit.document) (found index call).hits
-    ≡ take (window_size (most_hits index) call) (drop call.offset (documents index))
+    → AskOfTheQuery (rules_in index call) → call.filter ≡ all →
+    map (λ hit. hit.document) (found_in index call).hits
+    ≡ take (window_size (most_hits index) call) (drop (offset_of call.window) (documents index))
 
 -- a patch that names no member that says how paths are used leaves what a search sees of documents and the rules that
 -- rank them, and reads no document
 pub record LeavesRanking (index after : Index) (plan : PlanView) : Type 0 where
   pub rows : (document : Data) → rows_in after document ≡ rows_in index document
-  pub rules : rules_in after ≡ rules_in index
+  pub rules : (call : SearchView) → rules_in after call ≡ rules_in index call
   pub reads : needed plan.work index ≡ 0
 
 abbrev pub OtherPatchesLeaveRanking : Type 0

@@ -7,6 +7,7 @@ pub mod Plans
 pub mod QueryWords
 pub mod Rules
 pub mod Matching
+pub mod SearchFaults
 pub mod Found
 pub mod Fetches
 pub mod Laws

@@ -1,6 +1,9 @@
 -- The words that settings give to queries: those that are left out, and those that stand for others.
-use Rattle.std.specs.Prelude.{◌≡◌, ℕ, ◌&&◌, nat_lt, nat_le, List, [], ◌∷◌, length, map, flat_map, codes, Option, Some, None, if◌then◌else◌}
-use Rattle.std.specs.List.{filter_map}
+use Rattle.std.specs.Prelude.{◌≡◌, ℕ, Bool, not, ◌&&◌, nat_lt, nat_le, List, [], ◌∷◌, length, map, filter, flat_map, codes, Option, Some, None, Vec, if◌then◌else◌}
+use Rattle.std.specs.BTreeSet.{BTreeSet}
+use Rattle.std.specs.Cmp.Lexicographic.{pointwise}
+use Rattle.std.specs.List.{filter_map, list_any}
+use Rattle.std.specs.Str.{bytes_eq}
 use Rattle.serde_json.specs.Data.{Data}
 use Rattle.serde_json.specs.Find.{get}
 use Rattle.search_base.specs.declared.token.Token.{Token}
@@ -33,9 +36,23 @@ rows_under key texts =
     if nat_lt 0 (length key) && nat_le (length key) 3 then filter_map (λ text. synonym_row key (words_of text)) texts
     else []
 
--- what stands for what: a row for each text of each synonym
+-- the two rows have the same words
+abbrev pub same_words : SynonymRowView → SynonymRowView → Bool
+same_words row other = pointwise bytes_eq row.key other.key && pointwise bytes_eq row.term other.term
+
+-- each row once: the first of those with the same words
+abbrev pub each_once : List SynonymRowView → List SynonymRowView
+each_once [] = []
+each_once (row ∷ rows) = row ∷ filter (λ later. not (same_words later row)) (each_once rows)
+
+-- what stands for what: a row for each text of each synonym, each row once
 abbrev pub synonym_rows : SettingsView → List SynonymRowView
-synonym_rows settings = flat_map (λ list. rows_under (words_of list.key) list.texts) settings.synonyms
+synonym_rows settings =
+    each_once (flat_map (λ list. rows_under (words_of list.key) list.texts) settings.synonyms)
+
+-- the words of the row are among these pairs of a term and its key
+abbrev pub is_seen : {A B : Type 0} → BTreeSet (Vec (List ℕ) A × Vec (List ℕ) B) → SynonymRowView → Bool
+is_seen seen row = list_any (λ words. same_words row (record { key = words.1.items; term = words.0.items })) seen.keys
 
 -- a patch names none of the members that give words
 pub record LeavesWords (members : Data) : Type 0 where

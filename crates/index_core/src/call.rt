@@ -1,4 +1,5 @@
 use doc_values::DocumentText;
+use facet_counts::FacetReply;
 use search_base::CostKey;
 
 /// A document that a search found, and its costs: an entry for each ranking rule that is built, in the order of the
@@ -9,12 +10,14 @@ pub struct Hit<'a> {
     pub costs: Vec<CostKey>,
 }
 
-/// What a search found: the hits that were asked for, the best match first, and how many documents match. No more
-/// matches are counted or handed out than the settings say.
+/// What a search found: the hits that were asked for, the best match first, how many documents match, and the counts of
+/// attributes over all of these, where they are asked for. No more matches are counted or handed out than the settings
+/// say, and no more values of an attribute.
 #[derive(Drop)]
 pub struct SearchResult<'a> {
     pub hits: Vec<Hit<'a>>,
     pub total: u64,
+    pub facets: Option<Vec<FacetReply>>,
 }
 
 /// Some documents of an index in the order of their internal ids, and how many documents the index has.

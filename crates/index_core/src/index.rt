@@ -9,8 +9,8 @@ ghost use Rattle.index_core.specs.Refusals.{store_refusal};
 ghost use Rattle.index_core.specs.PlanView.{work_view, IsGood};
 ghost use Rattle.index_core.specs.Plans.{planned, applied, after_work, settings_after, IsPlanFor};
 ghost use Rattle.index_core.specs.Fetches.{needed};
-ghost use Rattle.index_core.specs.Found.{found, window_end as end_of_window};
-ghost use Rattle.index_core.specs.Shown.{hit_shown};
+ghost use Rattle.index_core.specs.Found.{found};
+ghost use Rattle.index_core.specs.Shown.{result_shown, Finds};
 
 use crate::call::{Listing, SearchResult};
 use crate::change::{clear_documents, remove_documents, store_documents};
@@ -20,13 +20,16 @@ use crate::plan::{
 };
 use crate::query_words::QueryWords;
 use crate::read::{read, read_hits};
-use crate::refusal::CoreFault;
+use crate::refusal::{CoreFault, SearchFault};
 use crate::rules::rules_of;
+use crate::search::{Findings, asked_paths, check_search, if_asked, window_end, window_start};
 use crate::update::update_rows;
 use doc_store::DocStore;
 use doc_values::{ChangeKind, DocumentText};
+use facet_counts::FacetCounts;
 use index_settings::Settings;
 use packed_rows::PackedSlots;
+use row_filter::RowFilter;
 use row_search::rank;
 use search_base::{NoMemory, Steps, Word};
 use search_call::SearchCall;
@@ -193,38 +196,69 @@ impl IndexCore {
         }
     }
 
-    /// The hits of a search, each a stored document with its costs: the asked slice of the documents that match, in
-    /// the order of their costs and then of their internal ids. The settings say which costs count and in which
-    /// order, which paths are searched, which words of a query are left out or stand for others, and how many matches
-    /// are counted or handed out.
+    /// What a search finds: its hits, each a stored document with its costs, the number of matches, and the counts that
+    /// it asks for, over all matches. The hits are the asked slice of the documents that match, in the order of their
+    /// costs and then of their internal ids. The settings say which costs count and in which order, which paths are
+    /// searched, which words of a query are left out or stand for others, and how many matches and values are counted
+    /// or handed out.
     ///
-    /// Reads no other document than the hits, and each of them once.
+    /// Refused is a search that sorts where the ranking rules do not (`NoSortRule`) or by an attribute that may not be
+    /// sorted by (`NotSortable`), then one that filters (`NotFilterable`), and then one that counts (`NotFacet`) by an
+    /// attribute that may not be filtered by; the first such attribute is named. Reads no other document than the hits,
+    /// and each of them once; where it is refused, or memory is wanting, none.
     pub fn search<F>(
         &self,
         alloc: Global,
         call: &SearchCall,
         fetches: &mut Steps<F>,
-    ) -> Result<SearchResult, NoMemory>
-        ensures hits { IfOk result (λ result. map hit_shown result.hits.items ≡ (found self.now call.now).hits) }
-        ensures total { IfOk result (λ result. result.total ≡ (found self.now call.now).total) }
-        ensures fetches { OnOk result (fetches.new ≡ fetches.old + length (found self.now call.now).hits) }
+    ) -> Result<SearchResult, SearchFault>
+        ensures answer { Gives result_shown result (found self.now call.now) }
+        ensures fetches { IfOk result (λ found. fetches.new ≡ fetches.old + length found.hits.items) }
         ensures starved { OnErr result (fetches.new ≡ fetches.old) }
     {
+        check_search(alloc, &self.settings, call)?;
+        let Findings {
+            ranked,
+            total,
+            facets,
+        } = self.find(alloc, call)?;
+        let hits = read_hits(alloc, &self.store, ranked, fetches)?;
+        Ok(SearchResult {
+            hits,
+            total,
+            facets,
+        })
+    }
+
+    // Ranks the documents of a search, and counts them. None is read.
+    fn find(&self, alloc: Global, call: &SearchCall) -> Result<Findings, NoMemory>
+        ensures { IfOk result (λ found. Finds self.now call.now found.ranked.items found.total
+            (option_map (λ facets. facets.items) found.facets)) }
+    {
+        let paths = self.store.paths();
         let query = self.words.query(alloc, call)?;
-        let rules = rules_of(alloc, &self.settings, self.store.paths())?;
+        let rules = rules_of(alloc, &self.settings, paths, &call.sort)?;
+        let filter = RowFilter::of(alloc, &call.filter, paths)?;
+        let asked = asked_paths(alloc, &self.settings, paths, call)?;
+        let mut counts = FacetCounts::new(alloc, asked)?;
         let most = self.settings.max_total_hits();
-        let end = window_end(most, call);
+        let start = window_start(call.window);
+        let end = window_end(most, call.window);
         let ranked = rank(
             alloc,
             &self.kept,
             &query,
+            &filter,
             rules.as_slice(),
-            call.offset,
+            start,
             end,
+            &mut counts,
         )?;
-        Ok(SearchResult {
-            hits: read_hits(alloc, &self.store, ranked.hits, fetches)?,
+        let replies = counts.finish(alloc, self.settings.max_values_per_facet())?;
+        Ok(Findings {
+            ranked: ranked.hits,
             total: ranked.total.min(most),
+            facets: if_asked(call, replies),
         })
     }
 
@@ -263,11 +297,4 @@ impl IndexCore {
             documents,
         })
     }
-}
-
-// The place of the first hit that a search does not ask for, where no more than `most` are handed out.
-fn window_end(most: u64, call: &SearchCall) -> u64
-    ensures { result ≡ end_of_window most call.now }
-{
-    call.offset.saturating_add(call.limit).min(most)
 }

@@ -24,6 +24,8 @@ mod query_words;
 mod read;
 mod refusal;
 mod rules;
+mod search;
+mod synonyms;
 mod update;
 mod uses;
 
@@ -34,4 +36,4 @@ pub use laws::{
     other_patches_leave_ranking, settings_read_once,
 };
 pub use plan::Plan;
-pub use refusal::{CoreFault, CoreRefusal};
+pub use refusal::{CoreFault, CoreRefusal, SearchFault, SearchRefusal};

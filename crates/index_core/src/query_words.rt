@@ -1,27 +1,23 @@
-ghost use Rattle.std.specs.Prelude.{◌≡◌, ◌++◌, ◌∷◌, [], List, IfOk, OnOk};
-ghost use Rattle.std.specs.List.{AllByRecursion, filter_map};
+ghost use Rattle.std.specs.Prelude.{◌≡◌, List, IfOk};
 ghost use Rattle.search_base.specs.Graphs.{IsGraph};
 ghost use Rattle.search_base.specs.Query.{tuple_under};
 ghost use Rattle.search_base.specs.Tuple.{tuple};
-ghost use Rattle.synonym_terms.specs.Synonyms.{HasTerm};
 ghost use Rattle.token_words.specs.Tokens.{tokens as tokens_of};
-ghost use Rattle.index_core.specs.QueryWords.{only_word as only_word_of, stop_words_of, words_of as words_in, rows_under as rows_of_key, synonym_rows as rows_of_settings, AreWordsOf, synonym_row};
+ghost use Rattle.index_core.specs.QueryWords.{only_word as only_word_of, stop_words_of, AreWordsOf};
 ghost use Rattle.index_core.specs.Matching.{query_with};
 ghost use Rattle.search_base.specs.RowsView.{RowsView};
 ghost use Rattle.search_base.specs.declared.rule.Rule.{Rule};
 ghost use Rattle.index_settings.specs.View.{SettingsView};
 
-use index_settings::{Settings, SynonymList};
+use crate::synonyms::synonym_rows;
+use index_settings::Settings;
 use query_graph::{build_graph, items};
 use search_base::{Graph, NoMemory, Token, Word};
 use search_call::SearchCall;
 use std::alloc::Global;
 use std::marker::Model;
-use synonym_terms::{SynonymRow, SynonymTable};
+use synonym_terms::SynonymTable;
 use token_words::tokens;
-
-// How many words a key of synonyms has at most.
-const MAX_KEY_WORDS: usize = 3;
 
 /// What the settings say about the words of queries, cut into words: which are left out, and which stand for others.
 /// Seen as the two lists.
@@ -87,74 +83,4 @@ fn only_word(tokens: &[Token]) -> Result<Option<Word>, NoMemory>
         [token] => Ok(Some(token.word.clone()?)),
         _ => Ok(None),
     }
-}
-
-// A row for each text of each synonym of the settings that may match.
-fn synonym_rows(alloc: Global, settings: &Settings) -> Result<Vec<SynonymRow>, NoMemory>
-    ensures rows { IfOk result (λ rows. rows.items ≡ rows_of_settings settings.now) }
-    ensures terms { IfOk result (λ rows. AllByRecursion HasTerm rows.items) }
-{
-    let mut rows = Vec::new(alloc);
-    for list in settings.synonyms() {
-        add_rows(alloc, list, &mut rows)?;
-    }
-    Ok(rows)
-}
-
-// Adds the rows of a synonym, if its key may match.
-fn add_rows(alloc: Global, list: &SynonymList, rows: &mut Vec<SynonymRow>) -> Result<(), NoMemory>
-    ensures { OnOk result (rows.new.items ≡ rows.old.items ++ rows_of_key (words_in list.now.key) list.now.texts) }
-{
-    let key = words_of(alloc, &list.key)?;
-    if key.is_empty() || key.len() > MAX_KEY_WORDS {
-        return Ok(());
-    }
-    add_texts(alloc, &key, list.texts.as_slice(), rows)
-}
-
-// Adds a row for each of these texts that has a word.
-fn add_texts(
-    alloc: Global,
-    key: &Vec<Word>,
-    texts: &[Word],
-    rows: &mut Vec<SynonymRow>,
-) -> Result<(), NoMemory>
-    ensures { OnOk result (rows.new.items
-        ≡ rows.old.items ++ filter_map (λ text. synonym_row key.now.items (words_in text)) texts.now) }
-{
-    for text in texts {
-        add_text(alloc, key, text, rows)?;
-    }
-    Ok(())
-}
-
-// Adds a row for a text, if it has a word.
-fn add_text(
-    alloc: Global,
-    key: &Vec<Word>,
-    text: &Word,
-    rows: &mut Vec<SynonymRow>,
-) -> Result<(), NoMemory>
-    ensures { OnOk result (rows.new.items
-        ≡ rows.old.items ++ filter_map (λ text. synonym_row key.now.items (words_in text)) (text.now ∷ [])) }
-{
-    let term = words_of(alloc, text)?;
-    if term.is_empty() {
-        return Ok(());
-    }
-    let key = key.clone()?;
-    rows.push(SynonymRow { key, term })?;
-    Ok(())
-}
-
-// The words of a text.
-fn words_of(alloc: Global, text: &Word) -> Result<Vec<Word>, NoMemory>
-    ensures { IfOk result (λ words. words.items ≡ words_in text.now) }
-{
-    let found = tokens(alloc, text.as_str())?;
-    let mut words = Vec::new(alloc);
-    for token in &found {
-        words.push(token.word.clone()?)?;
-    }
-    Ok(words)
 }

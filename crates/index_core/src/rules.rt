@@ -1,24 +1,26 @@
-ghost use Rattle.std.specs.Prelude.{◌≡◌, ◌<◌, ◌≤◌, ◌++◌, length, position, bytes_eq, IfOk, IfSome, OnOk};
+ghost use Rattle.std.specs.Prelude.{◌≡◌, ◌<◌, ◌≤◌, ◌++◌, length, map, position, bytes_eq, IfOk, IfSome, OnOk};
 ghost use Rattle.index_settings.specs.Rules.{rule_of};
-ghost use Rattle.index_core.specs.Rules.{entries_named, entries_of, path_named as path_of_name, rules_with};
+ghost use Rattle.index_core.specs.Rules.{criterion_entry, entries_named, entries_of, path_named as path_of_name, rules_with};
 
 use index_settings::{RankingRule, Settings, ranking_rule};
 use search_base::{NoMemory, PathId, Rule, Word};
+use search_call::Criterion;
 use std::alloc::Global;
 
-/// The rules by which documents are ranked in an index with these paths: those that the ranking rules of the settings
-/// name, in their order.
+/// The rules by which documents are ranked in an index with these paths, where a search sorts by these criteria: those
+/// that the ranking rules of the settings name, in their order.
 pub(crate) fn rules_of(
     alloc: Global,
     settings: &Settings,
     paths: &[Word],
+    sort: &[Criterion],
 ) -> Result<Vec<Rule>, NoMemory>
     requires { length paths.now ≤ 1000 }
-    ensures { IfOk result (λ rules. rules.items ≡ rules_with settings.now paths.now) }
+    ensures { IfOk result (λ rules. rules.items ≡ rules_with settings.now paths.now sort.now) }
 {
     let mut rules = Vec::new(alloc);
     for text in settings.ranking_rules() {
-        add_named(alloc, text, paths, &mut rules)?;
+        add_named(alloc, text, paths, sort, &mut rules)?;
     }
     Ok(rules)
 }
@@ -28,21 +30,27 @@ fn add_named(
     alloc: Global,
     text: &Word,
     paths: &[Word],
+    sort: &[Criterion],
     rules: &mut Vec<Rule>,
 ) -> Result<(), NoMemory>
     requires { length paths.now ≤ 1000 }
-    ensures { OnOk result (rules.new.items ≡ rules.old.items ++ entries_named paths.now (rule_of text.now)) }
+    ensures { OnOk result (rules.new.items ≡ rules.old.items ++ entries_named paths.now sort.now (rule_of text.now)) }
 {
     match ranking_rule(alloc, text.as_str())? {
-        Some(rule) => add_entries(&rule, paths, rules),
+        Some(rule) => add_entries(&rule, paths, sort, rules),
         None => Ok(()),
     }
 }
 
 // Adds the entries of costs that a ranking rule gives.
-fn add_entries(rule: &RankingRule, paths: &[Word], rules: &mut Vec<Rule>) -> Result<(), NoMemory>
+fn add_entries(
+    rule: &RankingRule,
+    paths: &[Word],
+    sort: &[Criterion],
+    rules: &mut Vec<Rule>,
+) -> Result<(), NoMemory>
     requires { length paths.now ≤ 1000 }
-    ensures { OnOk result (rules.new.items ≡ rules.old.items ++ entries_of paths.now rule.now) }
+    ensures { OnOk result (rules.new.items ≡ rules.old.items ++ entries_of paths.now sort.now rule.now) }
 {
     match rule {
         RankingRule::Words => rules.push(Rule::Words)?,
@@ -57,13 +65,37 @@ fn add_entries(rule: &RankingRule, paths: &[Word], rules: &mut Vec<Rule>) -> Res
         }
         RankingRule::Up { attribute } => rules.push(Rule::Up(path_named(paths, attribute)))?,
         RankingRule::Down { attribute } => rules.push(Rule::Down(path_named(paths, attribute)))?,
-        RankingRule::Typo | RankingRule::Sort => {}
+        RankingRule::Sort => add_criteria(paths, sort, rules)?,
+        RankingRule::Typo => {}
     }
     Ok(())
 }
 
-// The path of this name in a registry, where it has one.
-fn path_named(paths: &[Word], name: &Word) -> Option<PathId>
+// Adds an entry of costs for each criterion by which a search sorts.
+fn add_criteria(paths: &[Word], sort: &[Criterion], rules: &mut Vec<Rule>) -> Result<(), NoMemory>
+    requires { length paths.now ≤ 1000 }
+    ensures { OnOk result (rules.new.items ≡ rules.old.items ++ map (criterion_entry paths.now) sort.now) }
+{
+    for criterion in sort {
+        rules.push(entry_of(paths, criterion))?;
+    }
+    Ok(())
+}
+
+fn entry_of(paths: &[Word], criterion: &Criterion) -> Rule
+    requires { length paths.now ≤ 1000 }
+    ensures { result ≡ criterion_entry paths.now criterion.now }
+{
+    let path = path_named(paths, &criterion.attribute);
+    if criterion.up {
+        Rule::Up(path)
+    } else {
+        Rule::Down(path)
+    }
+}
+
+/// The path of this name in a registry, where it has one. Takes no memory.
+pub(crate) fn path_named(paths: &[Word], name: &Word) -> Option<PathId>
     requires { length paths.now ≤ 1000 }
     ensures { result ≡ path_of_name paths.now name.now }
 {

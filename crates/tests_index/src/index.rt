@@ -1,8 +1,9 @@
 use doc_values::{ChangeKind, DocumentText, documents_of};
-use index_core::{CoreFault, CoreRefusal, Hit, IndexCore};
+use filter_tree::Filter;
+use index_core::{CoreFault, CoreRefusal, Hit, IndexCore, SearchRefusal};
 use index_settings::SettingsRefusal;
 use search_base::{CostKey, Fault, SortKey, Steps, Strategy, Word};
-use search_call::SearchCall;
+use search_call::{Criterion, SearchCall, Window};
 use serde_json::Value;
 use std::alloc::Global;
 use std::process::Abort;
@@ -81,8 +82,10 @@ fn films(rt: &impl Abort, alloc: Global) -> IndexCore {
 fn call(rt: &impl Abort, alloc: Global, q: &str, offset: u64, limit: u64) -> SearchCall {
     SearchCall {
         q: word(rt, alloc, q),
-        offset,
-        limit,
+        window: Window::Slice { offset, limit },
+        filter: Filter::All,
+        facets: None,
+        sort: Vec::new(alloc),
         strategy: Strategy::Last,
         costs: false,
         retrieve: Vec::new(alloc),
@@ -190,6 +193,11 @@ const SEARCHES: &str = r#"{}~~dark knight~2 1 3 of 3
 {"stopWords":["the","of"]}~~the dark~2 4 1 3 of 4
 {"stopWords":["the","of"]}~~the~1 3 of 2
 {"stopWords":["the","of"]}~~the of ~3 1 of 2
+{"synonyms":{"batman":["?!","dark knight","Dark, KNIGHT"],"Batman":["dark knight"]}}~costs~batman~2,0,0,2,0,2,1 1,0,0,2,1,2,1 of 2
+{"synonyms":{"the dark night rises":["darkness"]}}~costs~the dark night rises~1,2,0,4,1,2,0 3,2,0,4,5,2,0 of 2
+{"synonyms":{"the dark night":["darkness"]}}~costs~the dark night~4,0,2,6,0,2,3 1,1,0,4,1,2,0 3,1,0,4,5,2,0 of 3
+{"stopWords":["the","of"],"synonyms":{"night dark":["darkness"]}}~costs~night of the dark~4,0,1,4,0,2,2 of 1
+{"stopWords":["of"],"synonyms":{"night of dark":["darkness"]}}~costs~night of dark~of 0
 {"rankingRules":["words"]}~~"dark knight"~1 2 of 2
 {"rankingRules":["words"]}~~dark ness~4 1 2 3 of 4
 {"rankingRules":["words"]}~all~dark ness~4 of 1
@@ -279,6 +287,75 @@ fn windows_of_the_films(rt: HostRuntime) {
     assert_eq!(rt; found(&rt, alloc, &index, "", 3, 2).as_str(), "4 of 4");
     let far = found(&rt, alloc, &index, "dark", u64::MAX, u64::MAX);
     assert_eq!(rt; far.as_str(), "of 4");
+}
+
+fn may_not_be_sorted_by(alloc: Global, index: &IndexCore, call: &SearchCall) -> bool {
+    let mut fetches = Steps::<Fetch>::new();
+    let refused = index.search(alloc, call, &mut fetches);
+    matches!(
+        refused,
+        Err(Fault::Refused(SearchRefusal::NotSortable { .. }))
+    )
+}
+
+// A search sorts only by the attributes that the settings name.
+#[test]
+fn pages_and_criteria(rt: HostRuntime) {
+    let alloc = rt.alloc();
+    let mut index = films(&rt, alloc);
+    let mut sorted = call(&rt, alloc, "", 0, 20);
+    let attribute = word(&rt, alloc, "year");
+    let criterion = Criterion {
+        attribute,
+        up: false,
+    };
+    sorted.sort.push(criterion).expect(&rt, "memory");
+    assert!(rt; may_not_be_sorted_by(alloc, &index, &sorted));
+    let year = "{\"sortableAttributes\":[\"year\"]}";
+    assert!(rt; patch(&rt, alloc, &mut index, year).is_ok());
+    assert_eq!(rt; told(&rt, alloc, &index, &sorted).as_str(), "2 1 4 3 of 4");
+    sorted.window = Window::Page { page: 2, per: 3 };
+    assert_eq!(rt; told(&rt, alloc, &index, &sorted).as_str(), "3 of 4");
+    sorted.window = Window::Page { page: 0, per: 3 };
+    assert_eq!(rt; told(&rt, alloc, &index, &sorted).as_str(), "of 4");
+}
+
+// By several criteria, and by paths that hold numbers and texts: numbers come first, and what is missing last.
+const SORTED: &str = r#"x:asc~"b" "d" "a" "c" "e" of 5
+x:desc~"d" "b" "a" "c" "e" of 5
+y:desc x:asc~"e" "b" "a" "c" "d" of 5
+y:asc x:desc~"c" "b" "a" "e" "d" of 5"#;
+
+const MIXED: &str =
+    r#"[{"id":"a","x":"t","y":1},{"id":"b","x":[5,"z"],"y":1},{"id":"c","y":-2},{"id":"d","x":[7,true]},
+{"id":"e","y":[1,9]}]"#;
+
+fn criteria(rt: &impl Abort, alloc: Global, texts: &str) -> Vec<Criterion> {
+    let mut criteria = Vec::new(alloc);
+    for text in texts.split(' ') {
+        let (name, way) = text.split_once(':').unwrap_or((text, ""));
+        let attribute = word(rt, alloc, name);
+        let up = way == "asc";
+        criteria
+            .push(Criterion { attribute, up })
+            .expect(rt, "memory");
+    }
+    criteria
+}
+
+#[test]
+fn several_criteria_and_values_of_two_kinds(rt: HostRuntime) {
+    let alloc = rt.alloc();
+    let mut index = IndexCore::new(alloc).expect(&rt, "memory");
+    assert!(rt; add(&rt, alloc, &mut index, None, MIXED).is_ok());
+    let paths = "{\"sortableAttributes\":[\"x\",\"y\"]}";
+    assert!(rt; patch(&rt, alloc, &mut index, paths).is_ok());
+    for row in SORTED.lines() {
+        let (texts, want) = row.split_once('~').unwrap_or((row, ""));
+        let mut sorted = call(&rt, alloc, "", 0, 20);
+        sorted.sort = criteria(&rt, alloc, texts);
+        assert_eq!(rt; told(&rt, alloc, &index, &sorted).as_str(), want, "{row}");
+    }
 }
 
 #[test]

@@ -8,7 +8,7 @@ use Rattle.index_core.proofs.rules.rules_of.Goals as goal
 
 pub loop-text-preserved : goal.loop-text-preserved
 loop-text-preserved c =
-    let f : List ℕ → List Rule = λ text. entries_named c.args.paths.now (rule_of text) in
+    let f : List ℕ → List Rule = λ text. entries_named c.args.paths.now c.args.sort.now (rule_of text) in
     let items = c.ranking_rules-text-items.result.now in
     let i = c.loop-text.text-index in
     let text = c.text-item.result in

@@ -6,4 +6,4 @@ use Rattle.index_core.proofs.rules.rules_of.Given as goal
 
 -- the entries of the texts so far
 abbrev pub invariant-loop-text : goal.invariant-loop-text
-invariant-loop-text l = l.rules.items ≡ flat_map (λ text. entries_named l.paths (rule_of text)) (take l.text-index l.text-items)
+invariant-loop-text l = l.rules.items ≡ flat_map (λ text. entries_named l.paths l.sort (rule_of text)) (take l.text-index l.text-items)

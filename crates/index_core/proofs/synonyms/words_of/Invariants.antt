@@ -1,5 +1,5 @@
 use Rattle.std.proofs.Common.{◌≡◌, map, take}
-use Rattle.index_core.proofs.query_words.words_of.Given as goal
+use Rattle.index_core.proofs.synonyms.words_of.Given as goal
 
 -- the words of the tokens so far
 abbrev pub invariant-loop-token : goal.invariant-loop-token

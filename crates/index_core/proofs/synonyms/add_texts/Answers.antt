@@ -4,7 +4,7 @@ use Rattle.std.proofs.lemmas.List.{take_more}
 use Rattle.std.proofs.lemmas.List.Elements.{filter_map-append}
 use Rattle.synonym_terms.specs.SynonymRowView.{SynonymRowView}
 use Rattle.index_core.specs.QueryWords.{synonym_row, words_of}
-use Rattle.index_core.proofs.query_words.add_texts.Goals as goal
+use Rattle.index_core.proofs.synonyms.add_texts.Goals as goal
 
 pub loop-text-preserved : goal.loop-text-preserved
 loop-text-preserved c =

@@ -1,7 +1,7 @@
 use Rattle.std.proofs.Common.{◌≡◌, take}
 use Rattle.std.specs.List.{flat_map}
 use Rattle.index_core.specs.QueryWords.{rows_under, words_of}
-use Rattle.index_core.proofs.query_words.synonym_rows.Given as goal
+use Rattle.index_core.proofs.synonyms.synonym_rows.Given as goal
 
 -- the rows of the synonyms so far
 abbrev pub invariant-loop-list : goal.invariant-loop-list

@@ -1,7 +1,7 @@
 use Rattle.std.proofs.Common.{◌≡◌, ◌++◌, take}
 use Rattle.std.specs.List.{filter_map}
 use Rattle.index_core.specs.QueryWords.{synonym_row, words_of}
-use Rattle.index_core.proofs.query_words.add_texts.Given as goal
+use Rattle.index_core.proofs.synonyms.add_texts.Given as goal
 
 -- the rows of the texts so far are added
 abbrev pub invariant-loop-text : goal.invariant-loop-text
