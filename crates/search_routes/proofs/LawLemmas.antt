@@ -5,17 +5,20 @@ use Rattle.doc_values.specs.Changes.{KindData}
 use Rattle.http_wire.specs.Stream.{Request}
 use Rattle.http_wire.specs.Reply.{Answer}
 use Rattle.index_core.specs.Index.{Index, documents as documents_in, document_under}
-use Rattle.index_core.specs.Found.{found}
+use Rattle.index_core.specs.Found.{Found, found}
+use Rattle.index_core.specs.declared.refusal.SearchRefusal.{SearchRefusal}
+use Rattle.search_call.specs.SearchView.{SearchView}
 use Rattle.request_refusals.specs.declared.refusal.Refusal.{Refusal}
-use Rattle.request_refusals.specs.declared.refusal.Refusal.TheVariants.{NoRoute, MethodNotAllowed, InvalidUid, Unknown, NotBuilt, InvalidSearch, NotJson, NotList, NotObject, NumberNotWhole, BadListedId, MissingUid, BadSettings, BadRankingRule, NoIndex, IndexExists, NoDocument, KeyDiffers, NoCandidate, SeveralCandidates, MissingId, BadId, ChangesSpent, IndexesSpent, IdsSpent, PathsSpent}
-use Rattle.request_refusals.specs.declared.refusal.SearchMember.TheVariants.{ShowCosts}
-use Rattle.request_calls.specs.Refusals.{told_of}
-use Rattle.search_base.specs.Trying.{◌>>=◌, or_refuse}
+use Rattle.request_refusals.specs.declared.refusal.Refusal.TheVariants.{NoRoute, MethodNotAllowed, InvalidUid, Unknown, NotBuilt, InvalidSearch, FilterSyntax, FilterTooDeep, FilterNotANumber, NotJson, NotList, NotObject, NumberNotWhole, BadListedId, MissingUid, BadSettings, BadRankingRule, NoIndex, IndexExists, NoDocument, KeyDiffers, NoCandidate, SeveralCandidates, MissingId, BadId, ChangesSpent, IndexesSpent, IdsSpent, PathsSpent, NoSortRule, NotSortable, NotFilterable, NotFacet}
+use Rattle.request_refusals.specs.declared.refusal.SearchMember.{SearchMember}
+use Rattle.request_refusals.specs.declared.refusal.SearchMember.TheVariants as member
+use Rattle.request_calls.specs.Refusals.{told_of, told_of_member}
+use Rattle.search_base.specs.Trying.{◌>>=◌, or_refuse, refused_as}
 use Rattle.request_calls.specs.Asked.{ReadData, health, indexes, index, documents, document, settings, search, CallData, write, read}
 use Rattle.request_calls.specs.Calls.{call_of}
 use Rattle.request_replies.specs.Replies as replies
 use Rattle.search_routes.specs.State.{State, Indexes}
-use Rattle.search_routes.specs.Machine.{Step, told, unless_refused, indexes_after, type_of, changed, index_at, slice, hits_answer, answer_to, outcome, step}
+use Rattle.search_routes.specs.Machine.{Step, told, unless_refused, indexes_after, type_of, changed, index_at, slice, hits_answer, search_refusal, answer_to, outcome, step}
 use Rattle.search_routes.specs.Laws.{IsCounted}
 
 -- the statuses of what is not refused
@@ -44,6 +47,10 @@ shown_document : (fields : List (List ℕ)) (o : Option Data) (e : Refusal) → 
 shown_document fields None e = tt
 shown_document fields (Some d) e = refl
 
+shown_found : (c : SearchView) (i : Index) (r : Result Found SearchRefusal) → IsShown (refused_as search_refusal r >>= λ f. Ok (hits_answer c i.settings f))
+shown_found c i (Ok f) = refl
+shown_found c i (Err why) = tt
+
 shown_answer : (es : Indexes) (c : ReadData) → IsShown (answer_to es c)
 shown_answer es health = refl
 shown_answer es (indexes offset limit) = refl
@@ -54,7 +61,8 @@ shown_answer es (document uid id fields) =
     shown_of (index_at uid es) _ (λ i. or_refuse (NoDocument id) (document_under id i.store.rows) >>= λ d. Ok (replies.one_document fields d))
     (λ i. shown_document fields (document_under id i.store.rows) (NoDocument id))
 shown_answer es (settings uid) = shown_of (index_at uid es) _ (λ i. Ok (replies.settings i.settings)) (λ i. refl)
-shown_answer es (search uid c) = shown_of (index_at uid es) _ (λ i. Ok (hits_answer c i.settings (found i c))) (λ i. refl)
+shown_answer es (search uid c) =
+    shown_of (index_at uid es) _ (λ i. refused_as search_refusal (found i c) >>= λ f. Ok (hits_answer c i.settings f)) (λ i. shown_found c i (found i c))
 
 good_answered : (s : State) (r : Result Answer Refusal) → IsShown r → IsGood s (r >>= λ a. Ok (told s a))
 good_answered s (Ok a) is = inr (is, refl)
@@ -71,13 +79,31 @@ good_called s (Err e) = tt
 abbrev IsRefusing : ℕ → Type 0
 IsRefusing status = (status ≢ 202) × (status ≢ 503)
 
+member_400 : (m : SearchMember) → (told_of_member m).status ≡ 400
+member_400 member.Query = refl
+member_400 member.Offset = refl
+member_400 member.Limit = refl
+member_400 member.Page = refl
+member_400 member.HitsPerPage = refl
+member_400 member.Filter = refl
+member_400 member.Facets = refl
+member_400 member.Sort = refl
+member_400 member.AttributesToRetrieve = refl
+member_400 member.MatchingStrategy = refl
+member_400 member.ShowCosts = refl
+
 refusing : (r : Refusal) → IsRefusing (told_of r).status
 refusing NoRoute = (λ e. absurd (omega (arith, e)), λ e. absurd (omega (arith, e)))
 refusing MethodNotAllowed = (λ e. absurd (omega (arith, e)), λ e. absurd (omega (arith, e)))
 refusing InvalidUid = (λ e. absurd (omega (arith, e)), λ e. absurd (omega (arith, e)))
 refusing (Unknown name) = (λ e. absurd (omega (arith, e)), λ e. absurd (omega (arith, e)))
 refusing (NotBuilt name) = (λ e. absurd (omega (arith, e)), λ e. absurd (omega (arith, e)))
-refusing (InvalidSearch ShowCosts) = (λ e. absurd (omega (arith, e)), λ e. absurd (omega (arith, e)))
+refusing (InvalidSearch m) =
+    let is : (told_of (InvalidSearch m)).status ≡ 400 = member_400 m in
+    (λ e. absurd (omega (arith, e, is)), λ e. absurd (omega (arith, e, is)))
+refusing (FilterSyntax text place) = (λ e. absurd (omega (arith, e)), λ e. absurd (omega (arith, e)))
+refusing (FilterTooDeep text place) = (λ e. absurd (omega (arith, e)), λ e. absurd (omega (arith, e)))
+refusing (FilterNotANumber value) = (λ e. absurd (omega (arith, e)), λ e. absurd (omega (arith, e)))
 refusing NotJson = (λ e. absurd (omega (arith, e)), λ e. absurd (omega (arith, e)))
 refusing NotList = (λ e. absurd (omega (arith, e)), λ e. absurd (omega (arith, e)))
 refusing (NotObject k) = (λ e. absurd (omega (arith, e)), λ e. absurd (omega (arith, e)))
@@ -98,6 +124,10 @@ refusing ChangesSpent = (λ e. absurd (omega (arith, e)), λ e. absurd (omega (a
 refusing IndexesSpent = (λ e. absurd (omega (arith, e)), λ e. absurd (omega (arith, e)))
 refusing IdsSpent = (λ e. absurd (omega (arith, e)), λ e. absurd (omega (arith, e)))
 refusing PathsSpent = (λ e. absurd (omega (arith, e)), λ e. absurd (omega (arith, e)))
+refusing NoSortRule = (λ e. absurd (omega (arith, e)), λ e. absurd (omega (arith, e)))
+refusing (NotSortable attribute) = (λ e. absurd (omega (arith, e)), λ e. absurd (omega (arith, e)))
+refusing (NotFilterable attribute) = (λ e. absurd (omega (arith, e)), λ e. absurd (omega (arith, e)))
+refusing (NotFacet attribute) = (λ e. absurd (omega (arith, e)), λ e. absurd (omega (arith, e)))
 
 counted : (s : State) (r : Result Step Refusal) → IsGood s r → IsCounted s (unless_refused s r)
 counted s (Err e) good = inr ((refusing e).0, refl)

@@ -27,13 +27,14 @@ use Rattle.index_core.specs.Plans.{planned, applied}
 use Rattle.index_core.specs.declared.call.Hit.{Hit as HeldFound}
 use Rattle.index_core.specs.Shown.{hit_shown}
 use Rattle.search_routes.specs.Done.{hit_with}
-use Rattle.index_core.specs.Found.{FoundHit, found}
+use Rattle.index_core.specs.Found.{Found, found}
+use Rattle.index_core.specs.declared.refusal.SearchRefusal.{SearchRefusal}
 use Rattle.search_call.specs.SearchView.{SearchView}
-use Rattle.request_replies.specs.Shown.{HitView, view_of}
+use Rattle.request_replies.specs.Shown.{view_of}
 use Rattle.request_replies.specs.Replies as replies
 use Rattle.request_replies.specs.Replies.{accepted}
 use Rattle.search_routes.specs.State.{State, Indexes}
-use Rattle.search_routes.specs.Machine.{Step, id_member_for, core_refusal, with_index, index_after, indexes_after, index_at, index_named, type_of, limits, created, hit_view, hits_answer, changed, filled, emptied, answer_to, outcome, told, is_full, unless_refused, step}
+use Rattle.search_routes.specs.Machine.{Step, id_member_for, core_refusal, with_index, index_after, indexes_after, index_at, index_named, type_of, limits, created, hit_view, hits_answer, search_refusal, changed, filled, emptied, answer_to, outcome, told, is_full, unless_refused, step}
 use Rattle.search_routes.specs.Needs.{needed_fetches}
 use Rattle.search_routes.specs.Done.{Grows, Steps, Sends, Answers, Makes, Performs, held_need}
 use Rattle.search_routes.proofs.MapLemmas.{set_value-insert}
@@ -122,19 +123,22 @@ hits_seen costs [] = refl
 hits_seen true (hit ∷ found) = ap (λ hits. hit_view true (hit_shown hit) ∷ hits) (hits_seen true found)
 hits_seen false (hit ∷ found) = ap (λ hits. hit_view false (hit_shown hit) ∷ hits) (hits_seen false found)
 
+-- what a search of an index that is there is answered
+answer_found : (es : Indexes) (uid : List ℕ) (call : SearchView) (i : Index) (r : Result Found SearchRefusal) → index_named uid es ≡ Ok i → found i call ≡ r
+    → answer_to es (search uid call) ≡ (refused_as search_refusal r >>= λ f. Ok (hits_answer call i.settings f))
+answer_found es uid call i r at is =
+    ap (λ r. r >>= λ i. refused_as search_refusal (found i call) >>= λ f. Ok (hits_answer call i.settings f)) at
+    ∙ ap (λ r. refused_as search_refusal r >>= λ f. Ok (hits_answer call i.settings f)) is
+
 -- the reply to a search is what it finds
-pub search_sent : (es : Indexes) (uid : List ℕ) (call : SearchView) (i : Index) (displayed : List (List ℕ)) (hits : List FoundHit) (views : List HitView) (total : ℕ) (reply : Reply)
-    → index_named uid es ≡ Ok i → displayed ≡ i.settings.displayed_attributes → hits ≡ (found i call).hits
-    → views ≡ map (hit_view call.costs) hits → total ≡ (found i call).total
-    → IsSentAs reply (replies.hits displayed call total views) → Sends (answer_to es (search uid call)) (Ok reply)
-search_sent es uid call i displayed hits views total reply at names is shows counts sent =
-    let named = subst (λ v. IsSentAs reply (replies.hits v call total views)) names sent in
-    let counted = subst (λ v. IsSentAs reply (replies.hits i.settings.displayed_attributes call v views)) counts named in (
-      hits_answer call i.settings (found i call),
-      ap (λ r. r >>= λ i. Ok (hits_answer call i.settings (found i call))) at,
-      subst (λ v. IsSentAs reply (replies.hits i.settings.displayed_attributes call (found i call).total v))
-          (shows ∙ ap (map (hit_view call.costs)) is) counted,
-    )
+pub search_sent : (es : Indexes) (uid : List ℕ) (call : SearchView) (i : Index) (f : Found) (result : Result Reply (Fault Refusal))
+    → index_named uid es ≡ Ok i → found i call ≡ Ok f → Sends (Ok (hits_answer call i.settings f)) result → Sends (answer_to es (search uid call)) result
+search_sent es uid call i f result at is sent = subst (λ a. Sends a result) (sym (answer_found es uid call i (Ok f) at is)) sent
+
+-- or why its index refuses it
+pub search_refused : (es : Indexes) (uid : List ℕ) (call : SearchView) (i : Index) (why : SearchRefusal) (refusal : Refusal) → index_named uid es ≡ Ok i
+    → found i call ≡ Err why → refusal ≡ search_refusal why → answer_to es (search uid call) ≡ Err refusal
+search_refused es uid call i why refusal at is named = answer_found es uid call i (Err why) at is ∙ ap Err (sym named)
 
 -- ---- steps
 

@@ -16,8 +16,10 @@ use Rattle.index_core.specs.Plans.{planned, applied}
 use Rattle.index_core.specs.Found.{Found, FoundHit, found}
 use Rattle.index_core.specs.declared.refusal.CoreRefusal.{CoreRefusal}
 use Rattle.index_core.specs.declared.refusal.CoreRefusal.TheVariants as core
+use Rattle.index_core.specs.declared.refusal.SearchRefusal.{SearchRefusal}
+use Rattle.index_core.specs.declared.refusal.SearchRefusal.TheVariants as asked
 use Rattle.request_refusals.specs.declared.refusal.Refusal.{Refusal}
-use Rattle.request_refusals.specs.declared.refusal.Refusal.TheVariants.{NoIndex, IndexExists, NoDocument, KeyDiffers, NoCandidate, SeveralCandidates, MissingId, BadId, ChangesSpent, IndexesSpent, IdsSpent, PathsSpent}
+use Rattle.request_refusals.specs.declared.refusal.Refusal.TheVariants.{NoIndex, IndexExists, NoDocument, KeyDiffers, NoCandidate, SeveralCandidates, MissingId, BadId, ChangesSpent, IndexesSpent, IdsSpent, PathsSpent, NoSortRule, NotSortable, NotFilterable, NotFacet}
 use Rattle.search_base.specs.Trying.{◌>>=◌, ◌>>◌, first_of, refuse_if, or_refuse, refused_as}
 use Rattle.request_calls.specs.Refusals.{refused}
 use Rattle.request_calls.specs.Asked.{ReadData, health, indexes, index, documents, document, settings, search, CallData, write, read}
@@ -197,7 +199,14 @@ hit_view costs hit = record { document = hit.document; costs = if costs then Som
 
 -- a hit shows the members that both the settings and the search name
 abbrev pub hits_answer : SearchView → SettingsView → Found → Answer
-hits_answer call s f = replies.hits s.displayed_attributes call f.total (map (hit_view call.costs) f.hits)
+hits_answer call s f = replies.hits s.displayed_attributes call f.total (map (hit_view call.costs) f.hits) f.facets
+
+-- why a search is refused by its index
+abbrev pub search_refusal : SearchRefusal → Refusal
+search_refusal asked.NoSortRule = NoSortRule
+search_refusal (asked.NotSortable attribute) = NotSortable attribute
+search_refusal (asked.NotFilterable attribute) = NotFilterable attribute
+search_refusal (asked.NotFacet attribute) = NotFacet attribute
 
 -- one equation a route
 abbrev pub answer_to : Indexes → ReadData → Result Answer Refusal
@@ -218,7 +227,8 @@ answer_to es (settings uid) = do
   Ok (replies.settings i.settings)
 answer_to es (search uid call) = do
   i ← index_named uid es
-  Ok (hits_answer call i.settings (found i call))
+  f ← refused_as search_refusal (found i call)
+  Ok (hits_answer call i.settings f)
 
 abbrev pub outcome : State → CallData → Result Step Refusal
 outcome s (write change) = changed s change.uid change.kind

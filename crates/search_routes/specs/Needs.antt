@@ -10,8 +10,9 @@ use Rattle.index_core.specs.PlanView.{Work, PlanView}
 use Rattle.index_core.specs.PlanView as work
 use Rattle.index_core.specs.Plans.{planned, is_named}
 use Rattle.index_core.specs.Fetches.{needed}
-use Rattle.index_core.specs.Found.{found}
+use Rattle.index_core.specs.Found.{Found, found}
 use Rattle.index_core.specs.declared.refusal.CoreRefusal.{CoreRefusal}
+use Rattle.index_core.specs.declared.refusal.SearchRefusal.{SearchRefusal}
 use Rattle.request_refusals.specs.declared.refusal.Refusal.{Refusal}
 use Rattle.request_calls.specs.Asked.{ReadData, health, indexes, index, documents, document, settings, search, CallData, write, read}
 use Rattle.request_calls.specs.Calls.{call_of}
@@ -79,6 +80,11 @@ abbrev pub one_if_some : Option Data → ℕ
 one_if_some None = 0
 one_if_some (Some d) = 1
 
+-- a search that its index refuses needs none
+abbrev pub found_need : Result Found SearchRefusal → ℕ
+found_need (Ok f) = length f.hits
+found_need (Err why) = 0
+
 -- the documents in the reply
 abbrev pub read_need : Indexes → ReadData → ℕ
 read_need es health = 0
@@ -88,7 +94,7 @@ read_need es (documents uid offset limit fields) =
     there_need (index_at uid es) (λ i. length (slice offset limit (documents_in i)))
 read_need es (document uid id fields) = there_need (index_at uid es) (λ i. one_if_some (document_under id i.store.rows))
 read_need es (settings uid) = 0
-read_need es (search uid call) = there_need (index_at uid es) (λ i. length (found i call).hits)
+read_need es (search uid call) = there_need (index_at uid es) (λ i. found_need (found i call))
 
 -- ---- calls and requests
 

@@ -1,14 +1,18 @@
 // The calls that change nothing, one function a route.
-ghost use Rattle.std.specs.Prelude.{◌≡◌, ◌+◌, ◌≤◌, IfOk, map};
+ghost use Rattle.std.specs.Prelude.{◌≡◌, ◌+◌, ◌≤◌, IfOk, map, Ok};
+ghost use Rattle.std.specs.Option.{option_copied, option_map};
+ghost use Rattle.index_core.specs.Shown.{result_shown};
 ghost use Rattle.request_calls.specs.Asked.{read_view};
 ghost use Rattle.request_calls.specs.Asked as asked;
 ghost use Rattle.search_routes.specs.Done.{Sends, hit_with};
-ghost use Rattle.search_routes.specs.Machine.{answer_to};
+ghost use Rattle.search_routes.specs.Machine.{answer_to, hits_answer, search_refusal as refusal_of_search};
 ghost use Rattle.search_routes.specs.Needs.{read_need};
 
 use crate::indexes::{Indexes, index_named, index_values};
+use facet_counts::FacetReply;
 use http_wire::Reply;
-use index_core::Hit as FoundHit;
+use index_core::{Hit as FoundHit, SearchRefusal, SearchResult};
+use index_settings::Settings;
 use request_calls::ReadCall;
 use request_refusals::Refusal;
 use request_replies::{
@@ -128,10 +132,54 @@ fn search<F>(
     ensures fetched { fetches.new ≤ fetches.old + read_need indexes.now.entries (asked.search uid.now call.now) }
 {
     let index = index_named(indexes, uid)?;
-    let found = index.search(alloc, call, fetches)?;
-    let hits = hits_with(alloc, found.hits, call.costs)?;
-    let displayed = index.settings().displayed_attributes();
-    Ok(hits_reply(alloc, call, displayed, found.total, &hits)?)
+    let found = match index.search(alloc, call, fetches) {
+        Ok(found) => found,
+        Err(Fault::Refused(refusal)) => return Err(Fault::Refused(search_refusal(refusal))),
+        Err(Fault::NoMemory) => return Err(Fault::NoMemory),
+    };
+    found_reply(alloc, call, index.settings(), found)
+}
+
+// The reply to what a search found.
+fn found_reply(
+    alloc: Global,
+    call: &SearchCall,
+    settings: &Settings,
+    found: SearchResult,
+) -> Result<Reply, Fault<Refusal>>
+    ensures { Sends (Ok (hits_answer call.now settings.now (result_shown found.entry))) result }
+{
+    let SearchResult {
+        hits,
+        total,
+        facets,
+    } = found;
+    let hits = hits_with(alloc, hits, call.costs)?;
+    let displayed = settings.displayed_attributes();
+    let facets = rows_of(&facets);
+    Ok(hits_reply(alloc, call, displayed, total, &hits, facets)?)
+}
+
+// The counts, where there are some.
+fn rows_of(facets: &Option<Vec<FacetReply>>) -> Option<&[FacetReply]>
+    ensures { option_copied result ≡ option_map (λ rows. rows.items) facets.now }
+{
+    match facets {
+        Some(rows) => Some(rows.as_slice()),
+        None => None,
+    }
+}
+
+// Why a search is refused, by why its index refuses it.
+fn search_refusal(refusal: SearchRefusal) -> Refusal
+    ensures { result ≡ refusal_of_search refusal }
+{
+    match refusal {
+        SearchRefusal::NoSortRule => Refusal::NoSortRule,
+        SearchRefusal::NotSortable { attribute } => Refusal::NotSortable { attribute },
+        SearchRefusal::NotFilterable { attribute } => Refusal::NotFilterable { attribute },
+        SearchRefusal::NotFacet { attribute } => Refusal::NotFacet { attribute },
+    }
 }
 
 // The hits as the reply has them, with their costs or without.

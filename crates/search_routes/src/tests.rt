@@ -157,6 +157,111 @@ DELETE~/indexes/m/settings~~202 {"indexUid":"m","status":"succeeded","taskUid":4
 POST~/indexes/m/search~{"q":"caped crusader"}~200 {"estimatedTotalHits":0,"hits":[],"limit":20,"offset":0,
 "query":"caped crusader"}"#;
 
+const FILTERS: &str =
+    r#"POST~/indexes/m/documents~[{"id":1,"title":"The Dark Knight","year":2008,"genres":["Action","Drama"]},{"id":2,
+"title":"Dark Knight Rises","year":2012,"genres":["Action"]},{"id":3,"title":"Knight of the Dark","year":1999},
+{"id":4,"title":"Darkness","year":2002,"genres":["drama"]}]~202 {"indexUid":"m","status":"succeeded",
+"taskUid":0,"type":"documentAdditionOrUpdate"}
+
+POST~/indexes/m/search~{"sort":["year:asc"]}~400 {"code":"invalid_search_sort",
+"message":"`year` is not sortable.","type":"invalid_request"}
+
+POST~/indexes/m/search~{"facets":["title"]}~400 {"code":"invalid_search_facets",
+"message":"`title` is not filterable.","type":"invalid_request"}
+
+POST~/indexes/m/search~{"filter":"NOT year > 2000"}~400 {"code":"invalid_search_filter",
+"message":"`year` is not filterable.","type":"invalid_request"}
+
+PATCH~/indexes/m/settings~{"filterableAttributes":["genres","year"],"sortableAttributes":["year"]}~
+202 {"indexUid":"m","status":"succeeded","taskUid":1,"type":"settingsUpdate"}
+
+POST~/indexes/m/search~{"filter":"year > 2000 AND NOT genres = drama","attributesToRetrieve":["id"]}~
+200 {"estimatedTotalHits":1,"hits":[{"id":2}],"limit":20,"offset":0,"query":""}
+
+POST~/indexes/m/search~{"filter":"genres != drama","attributesToRetrieve":["id"]}~200 {"estimatedTotalHits":2,
+"hits":[{"id":2},{"id":3}],"limit":20,"offset":0,"query":""}
+
+POST~/indexes/m/search~{"facets":["genres"],"limit":0}~200 {"estimatedTotalHits":4,
+"facetDistribution":{"genres":{"Action":2,"Drama":2}},"facetStats":{},"hits":[],"limit":0,"offset":0,"query":""}
+
+POST~/indexes/m/search~{"facets":["year"],"limit":0}~200 {"estimatedTotalHits":4,
+"facetDistribution":{"year":{"1999":1,"2002":1,"2008":1,"2012":1}},"facetStats":{"year":{"max":2012,
+"min":1999}},"hits":[],"limit":0,"offset":0,"query":""}
+
+POST~/indexes/m/search~{"sort":["year:desc"],"offset":3,"limit":5,"attributesToRetrieve":["id"]}~
+200 {"estimatedTotalHits":4,"hits":[{"id":3}],"limit":5,"offset":3,"query":""}
+
+POST~/indexes/m/search~{"sort":["year:desc"],"offset":4,"attributesToRetrieve":["id"]}~
+200 {"estimatedTotalHits":4,"hits":[],"limit":20,"offset":4,"query":""}
+
+POST~/indexes/m/search~{"offset":18446744073709551615,"limit":18446744073709551615}~200 {"estimatedTotalHits":4,
+"hits":[],"limit":18446744073709551615,"offset":18446744073709551615,"query":""}
+
+POST~/indexes/m/search~{"page":2,"hitsPerPage":3,"offset":1,"attributesToRetrieve":["id"]}~
+200 {"hits":[{"id":4}],"hitsPerPage":3,"page":2,"query":"","totalHits":4,"totalPages":2}
+
+POST~/indexes/m/search~{"page":0}~200 {"hits":[],"hitsPerPage":20,"page":0,"query":"","totalHits":4,
+"totalPages":1}
+
+POST~/indexes/m/search~{"hitsPerPage":0}~200 {"hits":[],"hitsPerPage":0,"page":1,"query":"","totalHits":4,
+"totalPages":0}
+
+POST~/indexes/m/search~{"page":18446744073709551615,"hitsPerPage":18446744073709551615}~200 {"hits":[],
+"hitsPerPage":18446744073709551615,"page":18446744073709551615,"query":"","totalHits":4,"totalPages":1}
+
+POST~/indexes/m/search~{"q":"dark","filter":["year 2000 TO 2012",["genres = ACTION","genres IN [x, drama]"]],
+"facets":["*","genres"],"sort":["year:asc"],"showCosts":true,"limit":1,"attributesToRetrieve":["id"]}~
+200 {"estimatedTotalHits":3,"facetDistribution":{"genres":{"Action":2,"Drama":2},"year":{"2002":1,"2008":1,
+"2012":1}},"facetStats":{"year":{"max":2012,"min":2002}},"hits":[{"_costs":[0,0,2,0,2002,2,1],"id":4}],
+"limit":1,"offset":0,"query":"dark"}
+
+POST~/indexes/m/search~{"filter":"genres NOT EXISTS OR year IS EMPTY OR genres IS NULL",
+"attributesToRetrieve":["id"]}~200 {"estimatedTotalHits":1,"hits":[{"id":3}],"limit":20,"offset":0,"query":""}
+
+POST~/indexes/m/search~{"sort":["title:asc"]}~400 {"code":"invalid_search_sort",
+"message":"`title` is not sortable.","type":"invalid_request"}
+
+POST~/indexes/m/search~{"facets":["year","title","x"]}~400 {"code":"invalid_search_facets",
+"message":"`title` is not filterable.","type":"invalid_request"}
+
+POST~/indexes/m/search~{"filter":"year > 1 AND title = x OR y = 1","facets":["title"]}~
+400 {"code":"invalid_search_filter","message":"`title` is not filterable.","type":"invalid_request"}
+
+POST~/indexes/m/search~{"filter":"year >> 3"}~400 {"code":"invalid_search_filter",
+"message":"Filter text 1: unexpected at byte 6.","type":"invalid_request"}
+
+POST~/indexes/m/search~{"filter":[" ","year > abc"]}~400 {"code":"invalid_search_filter",
+"message":"`abc` is not a whole number.","type":"invalid_request"}
+
+POST~/indexes/m/search~{"filter":5}~400 {"code":"invalid_search_filter","message":"Invalid `filter`.",
+"type":"invalid_request"}
+
+GET~/indexes/m/search?q=dark%20knight&limit=1&attributesToRetrieve=id~~200 {"estimatedTotalHits":3,
+"hits":[{"id":2}],"limit":1,"offset":0,"query":"dark knight"}
+
+GET~/indexes/m/search?filter=year+%3E%3D+2008&sort=year:desc&facets=genres&page=1&attributesToRetrieve=id,
+year&hitsPerPage=1~~200 {"facetDistribution":{"genres":{"Action":2,"Drama":1}},"facetStats":{},"hits":[{"id":2,
+"year":2012}],"hitsPerPage":1,"page":1,"query":"","totalHits":2,"totalPages":2}
+
+GET~/indexes/m/search?limit=x&foo=1&limit=3~~400 {"code":"bad_request","message":"Unknown or malformed `foo`.",
+"type":"invalid_request"}
+
+GET~/indexes/z/search?facets=~~404 {"code":"index_not_found","message":"No index `z`.","type":"invalid_request"}
+
+DELETE~/indexes/m/search~~405 {"code":"method_not_allowed","message":"Method not allowed.",
+"type":"invalid_request"}
+
+PATCH~/indexes/m/settings~{"faceting":{"maxValuesPerFacet":1},"pagination":{"maxTotalHits":2},
+"sortableAttributes":[],"rankingRules":["words","sort"]}~202 {"indexUid":"m","status":"succeeded","taskUid":2,
+"type":"settingsUpdate"}
+
+GET~/indexes/m/search?facets=genres&hitsPerPage=1&attributesToRetrieve=~~
+200 {"facetDistribution":{"genres":{"Action":2}},"facetStats":{},"hits":[{}],"hitsPerPage":1,"page":1,
+"query":"","totalHits":2,"totalPages":2}
+
+POST~/indexes/m/search~{"sort":["year:asc"]}~400 {"code":"invalid_search_sort",
+"message":"`year` is not sortable.","type":"invalid_request"}"#;
+
 const CHANGES_SPENT: &str =
     r#"POST~/indexes/m/documents~{"id":1}~202 {"indexUid":"m","status":"succeeded","taskUid":999999999,
 "type":"documentAdditionOrUpdate"}
@@ -236,6 +341,12 @@ fn indexes_and_documents_change_or_are_refused(rt: HostRuntime) -> Result<(), Fa
 fn searches_show_members_and_costs(rt: HostRuntime) -> Result<(), Fail> {
     let mut machine = Machine::new(rt.alloc())?;
     check_table(&rt, rt.alloc(), &mut machine, SEARCHES)
+}
+
+#[test]
+fn searches_filter_sort_count_and_page(rt: HostRuntime) -> Result<(), Fail> {
+    let mut machine = Machine::new(rt.alloc())?;
+    check_table(&rt, rt.alloc(), &mut machine, FILTERS)
 }
 
 #[test]
