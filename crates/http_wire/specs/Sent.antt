@@ -14,7 +14,13 @@ abbrev pub status_of : Reply → ℕ
 status_of (Made status head head_close body) = status
 status_of Memory = memory_answer.status
 
+-- its body
+abbrev pub body_of : Reply → List ℕ
+body_of (Made status head head_close body) = body.items
+body_of Memory = memory_answer.body
+
 -- the reply is this answer, and its bytes are sent
 pub record IsSentAs (reply : Reply) (answer : Answer) : Type 0 where
   pub status : status_of reply ≡ answer.status
+  pub body : body_of reply ≡ answer.body
   pub each : (closes : Bool) → sent reply closes ≡ wire answer closes

@@ -18,7 +18,7 @@ mod reply;
 pub use kept::Kept;
 pub use reading::{Wire, WireEnd, read_request, requests_are_determined};
 pub use refusal::write_refusal;
-pub use reply::{Reply, make_reply, write_reply};
+pub use reply::{Reply, make_reply, write_all, write_reply};
 
 /// Why a head is refused. The first that holds is the one, in the order in which they are written
 /// here, but `Malformed` stands twice: after `TooManyHeaders` for a head that is none, and after

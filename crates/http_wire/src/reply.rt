@@ -1,5 +1,5 @@
 // Replies, and how they are written.
-ghost use Rattle.std.specs.Prelude.{◌≡◌, ◌++◌, ◌<◌, ◌≤◌, ◌^◌, length, take, drop, IfOk, OnOk, OnErr, true, false};
+ghost use Rattle.std.specs.Prelude.{◌≡◌, ◌++◌, ◌+◌, ◌<◌, ◌≤◌, ◌^◌, length, take, drop, IfOk, OnOk, OnErr, true, false};
 ghost use Rattle.std.specs.Io.KnownBytes.{append_known};
 ghost use Rattle.outside_io.specs.Faults.{HasCause};
 ghost use Rattle.http.specs.StatusCode.{IsStatusCode};
@@ -33,8 +33,9 @@ fn rest_of(piece: &[u8], at: usize) -> &[u8]
     &piece[at..]
 }
 
-// Writes all of a piece, or a part of it.
-pub(crate) fn write_all<P: Link>(link: &mut P, piece: &[u8]) -> Result<(), Failed>
+/// Writes all of a piece, as a link takes it. `Failed`: the count of write faults rose, and a part of the piece was
+/// written, not the whole.
+pub fn write_all<P: Link>(link: &mut P, piece: &[u8]) -> Result<(), Failed>
     ensures ok { OnOk result (P.told link.new ≡ append_known (P.told link.old) piece.now) }
     ensures err { OnErr result (WrotePart (P.told link.old) (P.told link.new) piece.now) }
     ensures cause { HasCause (P.write_faults link.old) (P.write_faults link.new) result }
@@ -119,8 +120,37 @@ fn memory_bytes(closes: bool) -> &'static [u8]
     }
 }
 
+// How many bytes are written in one call where a reply has no more.
+const PACKET: usize = 8192;
+
+// Puts two pieces one behind the other, and says where they end.
+fn put_both(into: &mut [u8], front: &[u8], back: &[u8]) -> usize
+    requires room { length front.now + length back.now ≤ length into.old }
+    ensures end { result ≤ length into.new }
+    ensures both { take result into.new ≡ front.now ++ back.now }
+{
+    let end = front.len() + back.len();
+    into[..front.len()].copy_from_slice(front);
+    into[front.len()..end].copy_from_slice(back);
+    end
+}
+
+// Writes two pieces in one call where they fit, so that no peer waits for the second.
+fn write_packet<P: Link>(link: &mut P, front: &[u8], back: &[u8]) -> Result<(), Failed>
+    requires room { length front.now + length back.now ≤ 8192 }
+    ensures ok { OnOk result (P.told link.new ≡ append_known (P.told link.old) (front.now ++ back.now)) }
+    ensures err { OnErr result (WrotePart (P.told link.old) (P.told link.new) (front.now ++ back.now)) }
+    ensures cause { HasCause (P.write_faults link.old) (P.write_faults link.new) result }
+    ensures left { P.left link.new ≡ P.left link.old }
+    ensures read_faults { P.read_faults link.new ≡ P.read_faults link.old }
+{
+    let mut packet = [0; PACKET];
+    let end = put_both(&mut packet, front, back);
+    write_all(link, &packet[..end])
+}
+
 // Writes one piece and then another.
-fn write_both<P: Link>(link: &mut P, front: &[u8], back: &[u8]) -> Result<(), Failed>
+fn write_apart<P: Link>(link: &mut P, front: &[u8], back: &[u8]) -> Result<(), Failed>
     ensures ok { OnOk result (P.told link.new ≡ append_known (P.told link.old) (front.now ++ back.now)) }
     ensures err { OnErr result (WrotePart (P.told link.old) (P.told link.new) (front.now ++ back.now)) }
     ensures cause { HasCause (P.write_faults link.old) (P.write_faults link.new) result }
@@ -133,6 +163,21 @@ fn write_both<P: Link>(link: &mut P, front: &[u8], back: &[u8]) -> Result<(), Fa
             Err(Failed) => Err(Failed),
         },
         Err(Failed) => Err(Failed),
+    }
+}
+
+// Writes one piece and then another, in one call where they fit.
+fn write_both<P: Link>(link: &mut P, front: &[u8], back: &[u8]) -> Result<(), Failed>
+    ensures ok { OnOk result (P.told link.new ≡ append_known (P.told link.old) (front.now ++ back.now)) }
+    ensures err { OnErr result (WrotePart (P.told link.old) (P.told link.new) (front.now ++ back.now)) }
+    ensures cause { HasCause (P.write_faults link.old) (P.write_faults link.new) result }
+    ensures left { P.left link.new ≡ P.left link.old }
+    ensures read_faults { P.read_faults link.new ≡ P.read_faults link.old }
+{
+    if front.len() <= PACKET && back.len() <= PACKET - front.len() {
+        write_packet(link, front, back)
+    } else {
+        write_apart(link, front, back)
     }
 }
 

@@ -164,7 +164,7 @@ steps_read s c (Err f) fails = (fails_bind f (answer_to s.indexes c) _ fails, re
 pub makes : (old : State) (defined : Result Step Refusal) (done : Result Reply (Fault Refusal)) (reply : Reply) (new : State)
     → Steps old defined done new → Answers done reply → Makes (unless_refused old defined) old reply new
 makes old defined (Ok given) reply new (t, is, sent, state) same = (false, rw (is, same) sent, rw is state)
-makes old defined (Err fault.NoMemory) reply new (free, state) same = (true, rw same (record { status = refl; each = λ closes. refl }), state)
+makes old defined (Err fault.NoMemory) reply new (free, state) same = (true, rw same (record { status = refl; body = refl; each = λ closes. refl }), state)
 makes old defined (Err (fault.Refused r)) reply new (is, state) (true, sent) = (true, sent, state)
 makes old defined (Err (fault.Refused r)) reply new (is, state) (false, sent) = (false, rw is sent, rw is state)
 
