@@ -1,0 +1,3 @@
+-- What a door does, for contracts.
+pub mod Doors
+pub mod MemoryDoor
