@@ -1,0 +1,5 @@
+pub mod DrawLemmas
+pub mod DocumentLemmas
+pub mod StepLemmas
+pub mod BodyLemmas
+pub mod TableLemmas
