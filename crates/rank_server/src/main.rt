@@ -1,11 +1,12 @@
-//! The program: it hands its standard streams and the words of its command line to the server, prints nothing of its
-//! own, and ends with the number of the status.
+//! The program: it hands its standard streams, a door to the ports of this machine and the words of its command line to
+//! the server, prints nothing of its own, and ends with the number of the status.
 #![tactic(auto)]
 
 ghost use Rattle.std.specs.Prelude.{◌≡◌};
 ghost use Rattle.std.specs.Process.{exit_status};
 ghost use Rattle.search_server.specs.Statuses.{number_of};
 
+use link_doors::TcpDoor;
 use outside_io::StdLink;
 use search_base::Steps;
 use search_server::{Status, run_search_server};
@@ -34,9 +35,10 @@ fn exit_of(status: Status) -> ExitCode
 
 fn main(rt: HostRuntime) -> ExitCode {
     let mut pipe = StdLink::new(&rt);
+    let mut door = TcpDoor::new(&rt);
     let mut fetches: Steps<StoredDocument> = Steps::new();
     let status = match words(&rt) {
-        Ok(words) => run_search_server(rt.alloc(), &words, &mut pipe, &mut fetches),
+        Ok(words) => run_search_server(rt.alloc(), &words, &mut pipe, &mut door, &mut fetches),
         // A word that is no UTF-8 is none that the server knows.
         Err(e) => if e.kind() == ErrorKind::InvalidData {
             Status::BadWords

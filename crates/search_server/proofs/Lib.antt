@@ -3,4 +3,5 @@ pub mod Progress
 pub mod Turning
 pub mod Runs
 pub mod Serving
-pub mod Words
+pub mod Visits
+pub mod FewWords

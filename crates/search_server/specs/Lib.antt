@@ -1,5 +1,8 @@
 -- What serving a link is.
+pub mod Demo
 pub mod LinkState
+pub mod Lines
+pub mod Links
 pub mod Run
 pub mod Served
 pub mod Statuses

@@ -14,7 +14,7 @@ use Rattle.search_server.specs.Run.{Event, requests_of, replies, after, needs, w
 use Rattle.search_server.specs.Statuses.{IsCaused}
 use Rattle.search_server.specs.declared.status.LinkEnd.{LinkEnd}
 use Rattle.search_server.specs.declared.status.Status.{Status}
-use Rattle.search_server.specs.declared.status.Status.TheVariants.{Done, BadWords, ReadFault, WriteFault, CutShort, BadHead, RequestsSpent, NoMemory}
+use Rattle.search_server.specs.declared.status.Status.TheVariants.{Done, BadWords, ReadFault, WriteFault, DoorFault, CutShort, BadHead, RequestsSpent, NoMemory}
 
 -- pieces one after the other
 abbrev pub join : List (List ℕ) → List ℕ
@@ -81,6 +81,7 @@ pub record GivenAnswers (bytes : List ℕ) (old new : LinkState) (n : ℕ) : Typ
 abbrev pub Served : List ℕ → LinkState → LinkState → ℕ → Status → Type 0
 Served bytes old new n Done = (end : End) × IsDone end × Answers bytes old new n end
 Served bytes old new n BadWords = ⊥
+Served bytes old new n DoorFault = ⊥
 Served bytes old new n (CutShort size) = Answers bytes old new n (rest size)
 Served bytes old new n (BadHead kind number) = Answers bytes old new n (bad kind number)
 Served bytes old new n RequestsSpent = Answers bytes old new n spent

@@ -3,13 +3,14 @@ use Rattle.std.specs.Prelude.{ℕ, ◌<◌}
 use Rattle.outside_io.specs.Faults.{Rose}
 use Rattle.search_server.specs.LinkState.{LinkState}
 use Rattle.search_server.specs.declared.status.Status.{Status}
-use Rattle.search_server.specs.declared.status.Status.TheVariants.{Done, BadWords, ReadFault, WriteFault, CutShort, BadHead, RequestsSpent, NoMemory}
+use Rattle.search_server.specs.declared.status.Status.TheVariants.{Done, BadWords, ReadFault, WriteFault, DoorFault, CutShort, BadHead, RequestsSpent, NoMemory}
 
 abbrev pub number_of : Status → ℕ
 number_of Done = 0
 number_of BadWords = 2
 number_of ReadFault = 3
 number_of WriteFault = 4
+number_of DoorFault = 5
 number_of (CutShort rest) = 8
 number_of (BadHead kind number) = 9
 number_of RequestsSpent = 10
@@ -21,6 +22,7 @@ IsCaused old new Done = Unit {0}
 IsCaused old new BadWords = ⊥
 IsCaused old new ReadFault = Rose old.read_faults new.read_faults
 IsCaused old new WriteFault = Rose old.write_faults new.write_faults
+IsCaused old new DoorFault = ⊥
 IsCaused old new (CutShort rest) = 0 < rest
 IsCaused old new (BadHead kind number) = Unit {0}
 IsCaused old new RequestsSpent = Unit {0}

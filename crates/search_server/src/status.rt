@@ -6,14 +6,17 @@ use http_wire::HeadKind;
 /// How the program ended, or serving a link.
 #[derive(Clone, Copy, Debug, PartialEq, Eq)]
 pub enum Status {
-    /// The input ended between two requests, or a request asked to close.
+    /// The input ended between two requests, or a request asked to close; so many links as were asked were served, or
+    /// no more came; or the summary of the demo is written.
     Done,
     /// The words are none that the program knows. Serving a link never ends so.
     BadWords,
     /// The link's count of read faults rose.
     ReadFault,
-    /// The link's count of write faults rose.
+    /// The link's count of write faults rose, or that of the pipe on which the server tells what it did.
     WriteFault,
+    /// The door's count of faults rose. Serving a link never ends so.
+    DoorFault,
     /// The input ended inside a request, `rest` bytes, above 0, after the last whole one.
     CutShort { rest: u64 },
     /// A head was refused, and the answer to it was written whole.
@@ -24,7 +27,7 @@ pub enum Status {
 }
 
 impl Status {
-    /// The number with which the program ends: 0, 2, 3, 4, 8, 9, 10 or 11, in the order in which
+    /// The number with which the program ends: 0, 2, 3, 4, 5, 8, 9, 10 or 11, in the order in which
     /// the statuses are declared.
     pub fn number(&self) -> u8
         ensures { result ≡ number_of self.now }
@@ -34,6 +37,7 @@ impl Status {
             Status::BadWords => 2,
             Status::ReadFault => 3,
             Status::WriteFault => 4,
+            Status::DoorFault => 5,
             Status::CutShort { .. } => 8,
             Status::BadHead { .. } => 9,
             Status::RequestsSpent => 10,

@@ -4,7 +4,7 @@ use Rattle.search_routes.specs.Machine.{empty_state}
 use Rattle.search_server.specs.LinkState.{LinkState}
 use Rattle.search_server.specs.Served.{Serves}
 use Rattle.search_server.proofs.Serving.{nothing_yet}
-use Rattle.search_server.proofs.run.serve_anew.Goals as goal
+use Rattle.search_server.proofs.run.serve_pipe.Goals as goal
 
 pub returns-in-Err-clause-promise : goal.returns-in-Err-clause-promise
 returns-in-Err-clause-promise g c =

@@ -1,10 +1,10 @@
 ghost use Rattle.std.specs.Prelude.{◌<◌};
 
-use crate::{LinkEnd, Status, run_search_server, serve_link};
 use http_wire::HeadKind;
 use outside_io::MemoryLink;
 use search_base::Steps;
 use search_routes::Machine;
+use search_server::{LinkEnd, Status, serve_link};
 use std::alloc::Global;
 use std::str;
 use std::test::Fail;
@@ -92,11 +92,11 @@ fn a_read_or_a_write_that_fails_ends_the_link(rt: HostRuntime) -> Result<(), Fai
     assert_eq!(rt; end, ended(Status::WriteFault, 1));
     assert_eq!(rt; written.len(), 0);
     let (end, written) = serve(rt.alloc(), request, &[2], 4096)?;
-    assert_eq!(rt; end, ended(Status::WriteFault, 1));
-    assert_eq!(rt; written.len(), 78);
-    let (end, written) = serve(rt.alloc(), request, &[3], 4096)?;
     assert_eq!(rt; end, ended(Status::ReadFault, 1));
     assert_eq!(rt; written.as_slice(), NO_ROUTE);
+    let (end, written) = serve(rt.alloc(), request, &[2], 100)?;
+    assert_eq!(rt; end, ended(Status::WriteFault, 1));
+    assert_eq!(rt; written.len(), 100);
     Ok(())
 }
 
@@ -157,15 +157,56 @@ fn a_link_that_failed_once_is_served_afterwards(rt: HostRuntime) -> Result<(), F
 }
 
 #[test]
-fn the_word_pipe_and_no_other(rt: HostRuntime) -> Result<(), Fail> {
-    for (word, status) in [("pipe", 0), ("pipes", 2)] {
-        let words = vec![in rt.alloc(); word.to_string(rt.alloc())?]?;
-        let input = b"GET /none HTTP/1.0\n\n".to_vec(rt.alloc())?;
-        let mut link = MemoryLink::new(rt.alloc(), input, Vec::new(rt.alloc()))?;
-        let mut fetches: Steps<()> = Steps::new();
-        let end = run_search_server(rt.alloc(), &words, &mut link, &mut fetches);
-        assert_eq!(rt; end.number(), status, "{word}");
-        assert_eq!(rt; link.written().is_empty(), word != "pipe");
+fn requests_and_replies_go_one_byte_at_a_time(rt: HostRuntime) -> Result<(), Fail> {
+    let rows = [
+        (
+            "/indexes/m/search",
+            "{\"q\":\"dark knight\",\"attributesToRetrieve\":[\"id\"]}",
+            "{\"estimatedTotalHits\":3,\"hits\":[{\"id\":2},{\"id\":1},{\"id\":3}],\"limit\":20,\"offset\":0,\"query\":\"dark knight\"}",
+        ),
+        (
+            "/indexes/m/search",
+            "{\"q\":\"\\\"dark knight\\\"\",\"attributesToRetrieve\":[\"id\"]}",
+            "{\"estimatedTotalHits\":2,\"hits\":[{\"id\":2},{\"id\":1}],\"limit\":20,\"offset\":0,\"query\":\"\\\"dark knight\\\"\"}",
+        ),
+        (
+            "/indexes/m/search",
+            "{\"q\":\"dark\",\"attributesToRetrieve\":[\"id\"]}",
+            "{\"estimatedTotalHits\":4,\"hits\":[{\"id\":2},{\"id\":4},{\"id\":1},{\"id\":3}],\"limit\":20,\"offset\":0,\"query\":\"dark\"}",
+        ),
+        (
+            "/indexes/none/search",
+            "{}",
+            "{\"code\":\"index_not_found\",\"message\":\"No index `none`.\",\"type\":\"invalid_request\"}",
+        ),
+    ];
+    let mut input = String::from_str(rt.alloc(), str::from_utf8(ADD_AND_SEARCH)?)?;
+    let mut wanted = String::from_str(rt.alloc(), str::from_utf8(ADDED_AND_FOUND)?)?;
+    for (target, body, answer) in rows {
+        let size = body.len();
+        let request = format!(in rt.alloc();
+            "POST {target} HTTP/1.1\r\ncontent-length: {size}\r\n\r\n{body}"
+        )?;
+        input.push_str(&request)?;
+        let status = if answer.contains("not_found") {
+            "404 Not Found"
+        } else {
+            "200 OK"
+        };
+        let size = answer.len();
+        let reply = format!(in rt.alloc();
+            "HTTP/1.1 {status}\r\ncontent-length: {size}\r\ncontent-type: application/json\r\n\r\n{answer}"
+        )?;
+        wanted.push_str(&reply)?;
+    }
+    for most in [1, 7, 1 << 20] {
+        let (end, written) = serve(rt.alloc(), input.as_bytes(), &[], most)?;
+        assert_eq!(rt; end, ended(Status::Done, 6), "{most} at a time");
+        assert_eq!(rt;
+            str::from_utf8(&written)?,
+            wanted.as_str(),
+            "{most} at a time"
+        );
     }
     Ok(())
 }

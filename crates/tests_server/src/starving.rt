@@ -2,10 +2,10 @@ ghost use Rattle.std.specs.Prelude.{◌≡◌, Some, length, ◌<◌};
 ghost use Rattle.outside_io.specs.Bytes.{Reads, Writes};
 ghost use Rattle.outside_io.specs.Faults.{HasCause};
 
-use crate::{LinkEnd, Status, serve_link};
 use outside_io::{Failed, Link, MemoryLink};
 use search_base::Steps;
 use search_routes::Machine;
+use search_server::{LinkEnd, Status, serve_link};
 use std::str;
 use std::test::Fail;
 

@@ -1,0 +1,50 @@
+-- The demo: a machine that holds nothing is sent all requests of the demo, and what its replies say is printed.
+use Rattle.std.specs.Prelude.{◌≡◌, ◌≤◌, ℕ, ◌+◌, false, List, [], ◌∷◌, Option}
+use Rattle.std.specs.Io.KnownBytes.{append_known}
+use Rattle.outside_io.specs.Faults.{Rose}
+use Rattle.http_wire.specs.Reply.{WrotePart}
+use Rattle.demo_input.specs.Steps.{DemoStep, steps}
+use Rattle.demo_input.specs.Summary.{summary}
+use Rattle.search_routes.specs.State.{State}
+use Rattle.search_routes.specs.Machine.{empty_state}
+use Rattle.search_routes.specs.Chosen.{answer_of, state_after}
+use Rattle.search_routes.specs.Needs.{needed_fetches}
+use Rattle.search_server.specs.declared.status.Status.{Status}
+use Rattle.search_server.specs.declared.status.Status.TheVariants.{Done, BadWords, ReadFault, WriteFault, DoorFault, CutShort, BadHead, RequestsSpent, NoMemory}
+
+-- each request with the body of the reply to it, by the machine that the ones before left
+abbrev pub replied : State → List DemoStep → List (DemoStep × List ℕ)
+replied s [] = []
+replied s (d ∷ ds) = (d, (answer_of s d.request false).body) ∷ replied (state_after s d.request false) ds
+
+-- how many stored documents the requests need to read
+abbrev pub demo_needs : State → List DemoStep → ℕ
+demo_needs s [] = 0
+demo_needs s (d ∷ ds) = needed_fetches s d.request + demo_needs (state_after s d.request false) ds
+
+-- what the demo of so many documents prints
+abbrev pub demo_text : ℕ → ℕ → List ℕ
+demo_text count seed = summary count (replied empty_state (steps count seed))
+
+-- what was written to the pipe, where it tells that; how many stored documents were read; how often writing failed
+pub record PipeState : Type 0 where
+  pub told : Option (List ℕ)
+  pub fetches : ℕ
+  pub write_faults : ℕ
+
+-- what is written, by the status
+abbrev pub Printed : List ℕ → PipeState → PipeState → Status → Type 0
+Printed text old new Done = new.told ≡ append_known old.told text
+Printed text old new WriteFault = WrotePart old.told new.told text × Rose old.write_faults new.write_faults
+Printed text old new NoMemory = new.told ≡ old.told
+Printed text old new BadWords = ⊥
+Printed text old new ReadFault = ⊥
+Printed text old new DoorFault = ⊥
+Printed text old new (CutShort size) = ⊥
+Printed text old new (BadHead kind number) = ⊥
+Printed text old new RequestsSpent = ⊥
+
+-- The promise of the demo of so many documents.
+pub record ShowsDemo (count seed : ℕ) (old new : PipeState) (status : Status) : Type 0 where
+  pub printed : Printed (demo_text count seed) old new status
+  pub fetched : new.fetches ≤ old.fetches + demo_needs empty_state (steps count seed)

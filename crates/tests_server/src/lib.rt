@@ -1,0 +1,12 @@
+//! Tests of the server, through what `search_server` offers.
+//!
+//! They stand in a crate of their own, so that the crate they try is proved once and not twice. The crate has nothing
+//! but tests, and promises nothing.
+#![tactic(auto)]
+
+#[cfg(test)]
+mod links;
+#[cfg(test)]
+mod modes;
+#[cfg(test)]
+mod starving;
