@@ -1,0 +1,398 @@
+"use strict";
+
+// The page of the example shop. What is wanted stands in one object and in the address of the page; each change of it
+// asks the server anew and shows the reply. A round of requests that a newer one has overtaken is dropped.
+
+const SEARCH = "/indexes/products/search";
+const FACETS = [
+  { attribute: "categories", title: "Category" },
+  { attribute: "brand", title: "Brand" },
+  { attribute: "colour", title: "Colour" },
+];
+const ON_A_PAGE = 24;
+const PAUSE_FOR_WORDS = 120; // milliseconds without a key before a search is sent
+const PAUSE_FOR_PRICES = 400;
+const WORD = /[\p{L}\p{M}\p{N}]+(?:['’][\p{L}\p{M}\p{N}]+)*/gu;
+const EUROS = new Intl.NumberFormat("en-IE", { style: "currency", currency: "EUR" });
+
+const wanted = nothingWanted();
+const shown = Object.fromEntries(FACETS.map(({ attribute }) => [attribute, new Map()]));
+let round = 0;
+let running = new AbortController();
+let pause;
+
+const part = (id) => document.getElementById(id);
+
+function nothingWanted() {
+  const values = Object.fromEntries(FACETS.map(({ attribute }) => [attribute, new Set()]));
+  return { words: "", values, least: "", most: "", stock: false, sort: "", page: 1 };
+}
+
+// ---- What is wanted, in the address of the page
+
+function readAddress() {
+  const pairs = new URLSearchParams(location.search);
+  wanted.words = pairs.get("q") ?? "";
+  wanted.least = pairs.get("least") ?? "";
+  wanted.most = pairs.get("most") ?? "";
+  wanted.stock = pairs.has("stock");
+  wanted.sort = pairs.get("sort") ?? "";
+  wanted.page = Math.max(1, parseInt(pairs.get("page"), 10) || 1);
+  for (const { attribute } of FACETS) wanted.values[attribute] = new Set(pairs.getAll(attribute));
+}
+
+function writeAddress() {
+  const pairs = new URLSearchParams();
+  if (wanted.words) pairs.set("q", wanted.words);
+  for (const { attribute } of FACETS) for (const value of wanted.values[attribute]) pairs.append(attribute, value);
+  if (wanted.least) pairs.set("least", wanted.least);
+  if (wanted.most) pairs.set("most", wanted.most);
+  if (wanted.stock) pairs.set("stock", "yes");
+  if (wanted.sort) pairs.set("sort", wanted.sort);
+  if (wanted.page > 1) pairs.set("page", wanted.page);
+  const text = pairs.toString();
+  history.replaceState(null, "", text ? `?${text}` : location.pathname);
+}
+
+// ---- Asking
+
+function quoted(text) {
+  return `"${text.replace(/["\\]/g, "\\$&")}"`;
+}
+
+function cents(euros) {
+  const amount = Math.round(Number(euros) * 100);
+  return euros !== "" && Number.isSafeInteger(amount) ? amount : null;
+}
+
+/** The conditions of the filter: values of one attribute are joined by OR, all else by AND. */
+function conditions(except) {
+  const joined = [];
+  for (const { attribute } of FACETS) {
+    const values = [...wanted.values[attribute]];
+    if (attribute !== except && values.length) joined.push(values.map((value) => `${attribute} = ${quoted(value)}`));
+  }
+  if (except !== "price") {
+    if (cents(wanted.least) !== null) joined.push(`price >= ${cents(wanted.least)}`);
+    if (cents(wanted.most) !== null) joined.push(`price <= ${cents(wanted.most)}`);
+  }
+  if (wanted.stock) joined.push("in_stock = true");
+  return joined;
+}
+
+async function ask(members, signal) {
+  const reply = await fetch(SEARCH, { method: "POST", body: JSON.stringify(members), signal }).catch(() => null);
+  if (!reply) throw new Error("The server cannot be reached.");
+  const found = await reply.json().catch(() => null);
+  if (!reply.ok || !found) throw new Error(found?.message ?? `The server answered with status ${reply.status}.`);
+  return found;
+}
+
+/**
+ * A page of hits with all counts. The counts of an attribute are those without its own condition, so that a second
+ * value can be chosen beside the first; they need a request of their own.
+ */
+async function answers(matchingStrategy, signal) {
+  const common = { q: wanted.words, matchingStrategy };
+  const names = FACETS.map(({ attribute }) => attribute);
+  const narrowed = names.filter((name) => wanted.values[name].size);
+  if (wanted.least || wanted.most) narrowed.push("price");
+  const page = {
+    ...common, filter: conditions(), facets: [...names, "price"], sort: wanted.sort ? [wanted.sort] : [],
+    page: wanted.page, hitsPerPage: ON_A_PAGE,
+  };
+  const counts = narrowed.map((name) => ({ ...common, filter: conditions(name), facets: [name], limit: 0 }));
+  const [found, ...others] = await Promise.all([page, ...counts].map((members) => ask(members, signal)));
+  for (const other of others) {
+    Object.assign(found.facetDistribution, other.facetDistribution);
+    Object.assign(found.facetStats, other.facetStats);
+  }
+  return found;
+}
+
+/** All words are asked for; where nothing has them all, as many as can be had. */
+async function bestAnswers(signal) {
+  const found = await answers("all", signal);
+  if (found.totalHits > 0 || (wanted.words.match(WORD) ?? []).length < 2) return found;
+  return { ...await answers("last", signal), dropped: true };
+}
+
+async function search() {
+  clearTimeout(pause);
+  const mine = ++round;
+  running.abort();
+  running = new AbortController();
+  part("results").setAttribute("aria-busy", "true");
+  writeAddress();
+  try {
+    const found = await bestAnswers(running.signal);
+    if (mine === round) show(found);
+  } catch (error) {
+    if (mine === round) showFailure(error);
+  }
+  if (mine === round) part("results").setAttribute("aria-busy", "false");
+}
+
+function searchAfter(milliseconds) {
+  clearTimeout(pause);
+  pause = setTimeout(search, milliseconds);
+}
+
+// ---- Showing
+
+function make(tag, attributes = {}, ...children) {
+  const made = document.createElement(tag);
+  for (const [name, value] of Object.entries(attributes)) made.setAttribute(name, value);
+  made.append(...children);
+  return made;
+}
+
+function plain(text) {
+  return text.normalize("NFKD").replace(/\p{M}/gu, "").toLowerCase();
+}
+
+/** The words that were asked for, and the one that may go on, as the server reads them. */
+function askedWords() {
+  const words = (wanted.words.match(WORD) ?? []).map(plain);
+  const open = /[\p{L}\p{M}\p{N}]$/u.test(wanted.words) && wanted.words.split('"').length % 2 === 1;
+  return { whole: new Set(words), start: open ? words.at(-1) : null };
+}
+
+/** The text, with the words in it that were asked for as marks. */
+function marked(text, { whole, start }) {
+  const pieces = document.createDocumentFragment();
+  let end = 0;
+  for (const { 0: word, index } of text.matchAll(WORD)) {
+    const own = plain(word);
+    if (!whole.has(own) && !(start && own.startsWith(start))) continue;
+    pieces.append(text.slice(end, index), make("mark", {}, word));
+    end = index + word.length;
+  }
+  pieces.append(text.slice(end));
+  return pieces;
+}
+
+function picture(name, colour) {
+  const drawing = document.createElementNS("http://www.w3.org/2000/svg", "svg");
+  const use = document.createElementNS("http://www.w3.org/2000/svg", "use");
+  use.setAttribute("href", `#${name}`);
+  drawing.setAttribute("aria-hidden", "true");
+  drawing.append(use);
+  return make("div", { class: "picture", "data-colour": colour }, drawing);
+}
+
+function card(hit, asked) {
+  const rating = (hit.rating / 10).toFixed(1);
+  const kind = marked(`${hit.categories.join(", ")} · ${hit.colour}`, asked);
+  const facts = make("p", { class: "facts" },
+    make("span", { class: "price" }, EUROS.format(hit.price / 100)),
+    make("span", { class: "rating", role: "img", "aria-label": `rated ${rating} of 5` }, `★ ${rating}`));
+  const parts = [
+    make("p", { class: "brand" }, marked(hit.brand, asked)),
+    make("h2", {}, marked(hit.name, asked)),
+    make("p", { class: "kind" }, kind),
+    make("p", { class: "about" }, marked(hit.description, asked)),
+    facts,
+  ];
+  if (!hit.in_stock) parts.push(make("p", { class: "gone" }, "Out of stock"));
+  const text = make("div", { class: "text" }, ...parts);
+  return make("li", {}, make("article", {}, picture(hit.picture, hit.colour), text));
+}
+
+function showFacets() {
+  for (const { attribute, title } of FACETS) {
+    const list = make("div", { class: "choices", id: `facet-${attribute}` });
+    part("facets").append(make("fieldset", {}, make("legend", {}, title), list));
+  }
+}
+
+/** The line of a value, made where it is new. Lines stay where they are, so that the one in focus keeps it. */
+function choice(attribute, value) {
+  const lines = shown[attribute];
+  if (!lines.has(value)) {
+    const box = make("input", { type: "checkbox", name: attribute, value });
+    const count = make("span", { class: "number" });
+    const label = make("label", { class: "choice" }, box, make("span", { "data-colour": value }, value), count);
+    const next = [...lines.keys()].filter((other) => other.localeCompare(value) > 0).sort((a, b) => a.localeCompare(b));
+    part(`facet-${attribute}`).insertBefore(label, next.length ? lines.get(next[0]).label : null);
+    lines.set(value, { label, box, count });
+  }
+  return lines.get(value);
+}
+
+function showCounts(distribution) {
+  for (const { attribute } of FACETS) {
+    const counts = distribution[attribute] ?? {};
+    for (const value of [...Object.keys(counts), ...wanted.values[attribute]]) choice(attribute, value);
+    for (const [value, { label, box, count }] of shown[attribute]) {
+      box.checked = wanted.values[attribute].has(value);
+      count.textContent = counts[value] ?? 0;
+      label.classList.toggle("none", !counts[value]);
+    }
+  }
+}
+
+function showPrices(stats) {
+  part("least").placeholder = stats.price ? Math.floor(stats.price.min / 100) : "";
+  part("most").placeholder = stats.price ? Math.ceil(stats.price.max / 100) : "";
+}
+
+function chip(text, take) {
+  const button = make("button", { type: "button", "aria-label": `Take away: ${text}` }, text, make("span", {}, "×"));
+  button.addEventListener("click", () => {
+    take();
+    part("results").focus({ preventScroll: true });
+    changed();
+  });
+  return make("li", {}, button);
+}
+
+function showChosen() {
+  const chips = FACETS.flatMap(({ attribute }) =>
+    [...wanted.values[attribute]].map((value) => chip(value, () => wanted.values[attribute].delete(value))));
+  if (wanted.least) chips.push(chip(`from €${wanted.least}`, () => { wanted.least = ""; }));
+  if (wanted.most) chips.push(chip(`up to €${wanted.most}`, () => { wanted.most = ""; }));
+  if (wanted.stock) chips.push(chip("in stock", () => { wanted.stock = false; }));
+  if (chips.length > 1) chips.push(chip("all filters", clearFilters));
+  part("chosen").replaceChildren(...chips);
+  const count = chips.length > 1 ? chips.length - 1 : chips.length;
+  part("opener").textContent = count ? `Filters (${count})` : "Filters";
+}
+
+function pageButton(text, page, label, current) {
+  const button = make("button", { type: "button", "aria-label": label }, text);
+  if (current) button.setAttribute("aria-current", "page");
+  button.addEventListener("click", () => {
+    wanted.page = page;
+    part("results").focus({ preventScroll: true });
+    part("results").scrollIntoView();
+    search();
+  });
+  return button;
+}
+
+function showPages(page, pages) {
+  const buttons = [];
+  if (page > 1) buttons.push(pageButton("‹ Back", page - 1, "Page before", false));
+  for (let number = 1; number <= pages; number += 1) {
+    const near = Math.abs(number - page) <= 2;
+    if (near || number === 1 || number === pages) {
+      buttons.push(pageButton(String(number), number, `Page ${number}`, number === page));
+    } else if (Math.abs(number - page) === 3) {
+      buttons.push(make("span", { "aria-hidden": "true" }, "…"));
+    }
+  }
+  if (page < pages) buttons.push(pageButton("Next ›", page + 1, "Next page", false));
+  part("pages").replaceChildren(...(pages > 1 ? buttons : []));
+}
+
+function show(found) {
+  const asked = askedWords();
+  const total = found.totalHits;
+  part("failed").hidden = true;
+  part("empty").hidden = total > 0;
+  part("count").textContent = total === 1 ? "1 product" : `${total} products`;
+  part("hint").hidden = !(found.dropped && total > 0);
+  part("hint").textContent = "No product has all of these words. These have some of them.";
+  part("hits").replaceChildren(...found.hits.map((hit) => card(hit, asked)));
+  showCounts(found.facetDistribution);
+  showPrices(found.facetStats);
+  showChosen();
+  showPages(found.page, found.totalPages);
+}
+
+function showFailure(error) {
+  part("failed").hidden = false;
+  part("reason").textContent = error.message;
+  for (const id of ["empty", "hint"]) part(id).hidden = true;
+  for (const id of ["hits", "pages"]) part(id).replaceChildren();
+  part("count").textContent = "No answer";
+}
+
+// ---- What the visitor does
+
+function showWanted() {
+  part("words").value = wanted.words;
+  part("least").value = wanted.least;
+  part("most").value = wanted.most;
+  part("stock").checked = wanted.stock;
+  part("sort").value = wanted.sort;
+}
+
+/** Something else is wanted, so its first page. */
+function changed() {
+  wanted.page = 1;
+  showWanted();
+  search();
+}
+
+function clearFilters() {
+  const { words, sort } = wanted;
+  Object.assign(wanted, nothingWanted(), { words, sort });
+}
+
+function listen() {
+  part("words").addEventListener("input", (event) => {
+    wanted.words = event.target.value;
+    wanted.page = 1;
+    searchAfter(PAUSE_FOR_WORDS);
+  });
+  part("search").addEventListener("submit", (event) => {
+    event.preventDefault();
+    search();
+  });
+  part("facets").addEventListener("change", ({ target }) => {
+    const values = wanted.values[target.name];
+    if (target.checked) values.add(target.value);
+    else values.delete(target.value);
+    changed();
+  });
+  for (const id of ["least", "most"]) {
+    part(id).addEventListener("input", (event) => {
+      wanted[id] = event.target.value;
+      wanted.page = 1;
+      searchAfter(PAUSE_FOR_PRICES);
+    });
+  }
+  part("stock").addEventListener("change", (event) => {
+    wanted.stock = event.target.checked;
+    changed();
+  });
+  part("sort").addEventListener("change", (event) => {
+    wanted.sort = event.target.value;
+    changed();
+  });
+  part("filters").addEventListener("submit", (event) => event.preventDefault());
+  part("again").addEventListener("click", search);
+  part("reset").addEventListener("click", () => {
+    Object.assign(wanted, nothingWanted());
+    part("words").focus();
+    changed();
+  });
+  part("opener").addEventListener("click", () => {
+    const open = part("filters").classList.toggle("open");
+    part("opener").setAttribute("aria-expanded", String(open));
+  });
+  document.addEventListener("keydown", (event) => {
+    if (event.key !== "/" || event.target.closest("input, select")) return;
+    event.preventDefault();
+    part("words").focus();
+  });
+}
+
+/** The drawings become a part of the page, so that its style sheet colours them. Without them the page does as well. */
+async function fetchPictures() {
+  const reply = await fetch("pictures.svg").catch(() => null);
+  if (!reply?.ok) return;
+  const drawings = new DOMParser().parseFromString(await reply.text(), "image/svg+xml").documentElement;
+  drawings.setAttribute("class", "pictures");
+  drawings.setAttribute("aria-hidden", "true");
+  document.body.append(document.importNode(drawings, true));
+}
+
+readAddress();
+showFacets();
+showWanted();
+listen();
+fetchPictures();
+search();
