@@ -65,6 +65,7 @@ fn advance<R: Resolve>(
         (graph_of links.now)) remaining.old.ids remaining.new.ids cost docs.ids)) }
     ensures none { IfOk result (λ given. IfNone given ((d : ℕ) → has remaining.old.ids d ≡ true
         → cost_of (R.meets source.old) (graph_of links.now) d ≡ None)) }
+    ensures rest { IfOk result (λ given. IfNone given (remaining.new.ids ≡ remaining.old.ids)) }
 {
     'costs: while *next < NO_COST {
         if remaining.is_empty() {
@@ -113,14 +114,15 @@ impl<R: Resolve + Drop> PathCosts<R> {
     }
 
     /// The least cost that a remaining document has, with the documents that have it, which remain
-    /// no longer; or none where no remaining document meets a path. Once memory has run out it is
-    /// the answer from then on.
+    /// no longer; or none where no remaining document meets a path, and then they all remain. Once
+    /// memory has run out it is the answer from then on.
     pub fn next_cost(&mut self, alloc: Global) -> Result<Option<(u32, DocSet)>, NoMemory>
         ensures some { IfOk result (λ given.
             IfSome given (λ (cost, docs). IsBucket
             (cost_in R.meets self.old) self.old.remaining self.new.remaining cost docs.ids)) }
         ensures none { IfOk result (λ given. IfNone given ((d : ℕ) → has self.old.remaining d ≡ true
             → cost_in R.meets self.old d ≡ None)) }
+        ensures rest { IfOk result (λ given. IfNone given (self.new.remaining ≡ self.old.remaining)) }
         ensures kept { cost_in R.meets self.new ≡ cost_in R.meets self.old }
         ensures works { OnOk result (self.new.failed ≡ false) }
         ensures failed { OnErr result (self.new.failed ≡ true) }

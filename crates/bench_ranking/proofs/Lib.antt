@@ -1,0 +1,3 @@
+mod SplitLemmas
+mod RankLemmas
+mod StepLemmas

@@ -1,0 +1,3 @@
+-- The keys and the costs of the program's documents.
+pub mod Splits
+pub mod Ranks
