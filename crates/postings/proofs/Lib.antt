@@ -1,0 +1,6 @@
+pub mod WordLemmas
+pub mod ListLemmas
+pub mod RowLemmas
+pub mod FreshLemmas
+pub mod PrefixLemmas
+pub mod TightLemmas

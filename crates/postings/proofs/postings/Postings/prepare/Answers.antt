@@ -1,0 +1,28 @@
+use Rattle.std.proofs.Common.{not, ◌&&◌, ap₂, subst, sym, ◌∙◌}
+use Rattle.postings.specs.Changes.{IsChangeOf}
+use Rattle.postings.specs.Dictionary.{IsTight, none}
+use Rattle.postings.proofs.TightLemmas.{tight_but}
+use Rattle.postings.proofs.postings.Postings.prepare.Goals as goal
+
+pub returns-in-Ok-clause-made : goal.returns-in-Ok-clause-made
+returns-in-Ok-clause-made c = λ gone come change.
+    let same = c.in_ok-words.ensures.same in
+    let named = subst (λ v. IsChangeOf v gone come) (sym c.change.view_is) change in
+    record {
+      goes = λ word entry. same.goes word entry ∙ ap₂ (λ a b. a && not b) (named.goes word entry) (named.comes word entry);
+      comes = λ word entry. same.comes word entry ∙ named.comes word entry;
+      narrow = named.narrow;
+    }
+
+pub returns-in-Ok-clause-tight : goal.returns-in-Ok-clause-tight
+returns-in-Ok-clause-tight c = λ tight.
+    let lists = subst (λ v. IsTight none v.lists) (sym c.self.view_is) tight in
+    subst (λ v. IsTight v c.reserve_words.new.lists.entries) c.as_slice.ensures.value
+    (tight_but c.as_slice.result.now c.self.inside.lists.entries c.reserve_words.new.lists.entries c.in-Ok.ensures.others lists)
+
+pub returns-in-Err-clause-tight : goal.returns-in-Err-clause-tight
+returns-in-Err-clause-tight c = λ tight.
+    let lists = subst (λ v. IsTight none v.lists) (sym c.self.view_is) tight in
+    let same = c.as_slice.ensures.value ∙ sym c.as_slice-in-Err.ensures.value in
+    c.drop_all_spent.ensures.tight (subst (λ v. IsTight v c.reserve_words.new.lists.entries) same
+    (tight_but c.as_slice.result.now c.self.inside.lists.entries c.reserve_words.new.lists.entries c.in-Err.ensures.others lists))

@@ -1,0 +1,152 @@
+ghost use Rattle.std.specs.Prelude.{◌≡◌, ℕ, List, [], ◌∷◌, ◌==◌, ◌&&◌, ◌||◌, IfOk, OnOk};
+ghost use Rattle.std.specs.Str.{bytes_eq};
+ghost use Rattle.sorted_pages.specs.Entries.{has};
+ghost use Rattle.search_base.specs.declared.document.Place.{Place as PlaceData};
+ghost use Rattle.postings.specs.Documents.{Document, AreNarrow, is_place, stands_in};
+ghost use Rattle.postings.specs.declared.change.Side.{Side as SideData};
+ghost use Rattle.postings.specs.Changes.{is_side, side_of, named, IsChangeOf};
+
+use crate::entry::entry_of;
+use search_base::{DocId, NoMemory, Place, Word};
+use std::alloc::Global;
+use std::collections::BTreeMap;
+use std::marker::Model;
+
+// Whether an entry goes or comes.
+#[derive(Clone, Copy)]
+pub(crate) enum Side {
+    Goes,
+    Comes,
+}
+
+// What the list of a word loses, and what it gains.
+#[derive(Drop)]
+pub(crate) struct WordChange {
+    pub(crate) gone: Vec<u64>,
+    pub(crate) come: Vec<u64>,
+}
+
+// What each word loses and gains.
+pub(crate) type WordChanges = BTreeMap<Word, WordChange>;
+
+/// Whole documents that go, and others that come. One that is replaced goes and comes.
+#[derive(Drop)]
+pub struct Change {
+    pub(crate) words: WordChanges,
+}
+
+impl Model for Change {
+    ghost use Rattle.postings.specs.Changes.{ChangeView};
+
+    ghost Value = { ChangeView };
+
+    ghost view = { λ change. record { words = change.words.entries } };
+}
+
+/// A change whose memory was taken.
+#[derive(Drop)]
+pub struct Prepared {
+    pub(crate) words: Vec<(Word, WordChange)>,
+}
+
+impl Model for Prepared {
+    ghost use Rattle.postings.specs.Changes.{ChangeView, AreSettled};
+
+    ghost Value = { ChangeView };
+
+    ghost view = { λ prepared. record { words = prepared.words.items } };
+
+    ghost invariant = { λ prepared. AreSettled prepared.words.items };
+}
+
+impl Change {
+    /// A change of no document. Takes no memory.
+    pub fn new(alloc: Global) -> Change
+        ensures { IsChangeOf result [] [] }
+    {
+        Change {
+            words: BTreeMap::new(alloc),
+        }
+    }
+
+    /// A document goes, with all the places that it has. After a refusal the change is of no use.
+    pub fn take_out(&mut self, alloc: Global, id: DocId, places: &[Place]) -> Result<(), NoMemory>
+        ensures { OnOk result ((gone come : List Document) → IsChangeOf self.old gone come
+            → IsChangeOf self.new (record { id = id.0; places = places.now } ∷ gone) come) }
+    {
+        name_places(alloc, &mut self.words, Side::Goes, id, places)
+    }
+
+    /// A document comes, with these places. After a refusal the change is of no use.
+    pub fn put_in(&mut self, alloc: Global, id: DocId, places: &[Place]) -> Result<(), NoMemory>
+        ensures { OnOk result ((gone come : List Document) → IsChangeOf self.old gone come
+            → IsChangeOf self.new gone (record { id = id.0; places = places.now } ∷ come)) }
+    {
+        name_places(alloc, &mut self.words, Side::Comes, id, places)
+    }
+}
+
+// Names the places of a document.
+fn name_places(
+    alloc: Global,
+    words: &mut WordChanges,
+    side: Side,
+    id: DocId,
+    places: &[Place],
+) -> Result<(), NoMemory>
+    ensures named { OnOk result ((s : SideData) (word : List ℕ) (entry : ℕ) → named s word entry words.new.entries
+        ≡ ((is_side side s && stands_in word entry id.0 places.now) || named s word entry words.old.entries)) }
+    ensures narrow { OnOk result (AreNarrow places.now) }
+{
+    for place in places {
+        let entry = entry_of(id, place);
+        name_entry(alloc, words, side, &place.word, entry)?;
+    }
+    Ok(())
+}
+
+// Names an entry of a word.
+fn name_entry(
+    alloc: Global,
+    words: &mut WordChanges,
+    side: Side,
+    word: &Word,
+    entry: u64,
+) -> Result<(), NoMemory>
+    ensures { OnOk result ((s : SideData) (w : List ℕ) (e : ℕ) → named s w e words.new.entries
+        ≡ ((is_side side s && (bytes_eq word.now w && (entry == e))) || named s w e words.old.entries)) }
+{
+    match words.get_mut(word) {
+        Some(change) => {
+            add_entry(change, side, entry)?;
+            return Ok(());
+        }
+        None => {}
+    }
+    let mut change = WordChange {
+        gone: Vec::new(alloc),
+        come: Vec::new(alloc),
+    };
+    add_entry(&mut change, side, entry)?;
+    words.insert(copy_word(word)?, change)?;
+    Ok(())
+}
+
+// The same word, which shares its text.
+pub(crate) fn copy_word(word: &Word) -> Result<Word, NoMemory>
+    ensures { IfOk result (λ copy. copy ≡ word.now) }
+{
+    Ok(word.clone()?)
+}
+
+// Adds an entry to one side of a word's change.
+fn add_entry(change: &mut WordChange, side: Side, entry: u64) -> Result<(), NoMemory>
+    ensures { OnOk result ((s : SideData) (e : ℕ) → has (side_of s change.new) e
+        ≡ ((is_side side s && (entry == e)) || has (side_of s change.old) e)) }
+{
+    match side {
+        Side::Goes => change.gone.push(entry)?,
+        Side::Comes => change.come.push(entry)?,
+    }
+    Ok(())
+}

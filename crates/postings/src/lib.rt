@@ -1,0 +1,20 @@
+//! Posting lists: for each word the places where it stands in the documents, changed in place.
+//!
+//! A place is one number, of its document, path and position, and the list of a word is strictly
+//! increasing. After any changes the list of each word is exactly its places in the documents as
+//! they stand, each once, and a word without a place has no list. Whole documents go and come: a
+//! `Change` gathers them, `prepare` takes all memory and leaves every answer, and `commit` and
+//! `release` take none and cannot be refused. Contracts see postings as lists by word, a change as
+//! what each word loses and gains. The crate stands on `search_base` and `sorted_pages`.
+#![tactic(auto)]
+
+mod change;
+mod dictionary;
+mod entry;
+mod postings;
+mod prefix;
+mod settled;
+
+pub use change::{Change, Prepared};
+pub use postings::Postings;
+pub use prefix::PrefixLists;

@@ -1,0 +1,122 @@
+ghost use Rattle.std.specs.Prelude.{◌≡◌, ℕ, List, [], not, ◌&&◌, ◌||◌, IfOk, MatchResult, None, nat_eq, if◌then◌else◌};
+ghost use Rattle.std.specs.List.{starts_with};
+ghost use Rattle.std.specs.List.Sorted.{IsStrictlySortedBy};
+ghost use Rattle.std.specs.Map.{keys_of};
+ghost use Rattle.std.specs.Option.{option_map};
+ghost use Rattle.sorted_pages.specs.Entries.{has};
+ghost use Rattle.postings.specs.Documents.{Document, IsBatch, after};
+ghost use Rattle.postings.specs.Dictionary.{word_cmp, value_at, list_at, some_list, HasRooms, IsTight, none};
+ghost use Rattle.postings.specs.Changes.{named, IsChangeOf, IsPreparedOf};
+ghost use Rattle.postings.specs.declared.change.Side.TheVariants.{Goes, Comes};
+ghost use Rattle.postings.specs.Fresh.{StandsFor};
+ghost use Rattle.postings.specs.Prefixes.{rows_left};
+
+use crate::change::{Change, Prepared};
+use crate::dictionary::{Lists, change_words, drop_all_spent, reserve_words};
+use crate::prefix::PrefixLists;
+use crate::settled::settle;
+use search_base::{NoMemory, Word};
+use sorted_pages::SortedPages;
+use std::alloc::Global;
+use std::collections::BTreeMap;
+use std::marker::Model;
+use std::ops::Bound;
+
+/// For each word the list of its places.
+#[derive(Drop)]
+pub struct Postings {
+    lists: Lists,
+}
+
+impl Model for Postings {
+    ghost use Rattle.postings.specs.Dictionary.{PostingsView};
+
+    ghost Value = { PostingsView };
+
+    ghost view = { λ postings. record { lists = postings.lists.entries } };
+}
+
+impl Postings {
+    /// The postings of no document. Takes no memory.
+    pub fn new(alloc: Global) -> Postings
+        ensures fresh { StandsFor result [] }
+        ensures tight { IsTight none result.lists }
+    {
+        Postings {
+            lists: BTreeMap::new(alloc),
+        }
+    }
+
+    /// The places of the word, in increasing order, or none where it stands nowhere. Takes no memory.
+    pub fn list(&self, word: &Word) -> Option<&SortedPages>
+        ensures { option_map (λ pages. pages.now.entries) result ≡ some_list (list_at word.now self.now) }
+    {
+        match self.lists.get(word) {
+            Some(list) => { if list.is_empty() { None } else { Some(list) } }
+            None => None,
+        }
+    }
+
+    /// The words that begin so, in order, each with the list of its places. Takes no memory, and
+    /// looks at no other word.
+    pub fn with_prefix<'a>(&'a self, prefix: &'a Word) -> PrefixLists<'a>
+        ensures lists { (word : List ℕ) → value_at word (rows_left result)
+            ≡ (if starts_with nat_eq word prefix.now then some_list (list_at word self.now) else None) }
+        ensures order { IsStrictlySortedBy word_cmp (keys_of (rows_left result)) }
+    {
+        let _words = self.lists.len();
+        PrefixLists {
+            prefix,
+            lists: self
+                .lists
+                .range((Bound::Included(prefix), Bound::Unbounded)),
+            done: false,
+        }
+    }
+
+    /// Takes all memory that the change needs, in proportion to the change. Each list stays as it
+    /// was, whatever the result, and after a refusal no room is left at a word without a place.
+    pub fn prepare(&mut self, alloc: Global, change: Change) -> Result<Prepared, NoMemory>
+        ensures lists { (word : List ℕ) → list_at word self.new ≡ list_at word self.old }
+        ensures made { IfOk result (λ prepared. (gone come : List Document) → IsChangeOf change gone come
+            → IsPreparedOf prepared gone come) }
+        ensures room { IfOk result (λ prepared. HasRooms self.new.lists prepared.words) }
+        ensures tight { IsTight none self.old.lists
+            → MatchResult result (λ prepared. IsTight prepared.words self.new.lists)
+            (λ _. IsTight none self.new.lists) }
+    {
+        let words = settle(alloc, change.words)?;
+        match reserve_words(alloc, &mut self.lists, words.as_slice()) {
+            Ok(()) => Ok(Prepared { words }),
+            Err(refused) => {
+                drop_all_spent(&mut self.lists, words.as_slice());
+                Err(refused)
+            }
+        }
+    }
+
+    /// Makes a change that was prepared on these postings as they are. Takes no memory. Where they
+    /// were those of some documents, they are those of the documents after the change, and no word
+    /// without a place is kept.
+    pub fn commit(&mut self, prepared: Prepared)
+        requires { HasRooms self.old.lists prepared.words }
+        ensures lists { (word : List ℕ) (entry : ℕ) → has (list_at word self.new) entry
+            ≡ ((named Comes word entry prepared.words || has (list_at word self.old) entry)
+            && not (named Goes word entry prepared.words)) }
+        ensures fresh { (gone come documents : List Document) → IsPreparedOf prepared gone come
+            → IsBatch gone come documents → StandsFor self.old documents
+            → StandsFor self.new (after gone come documents) }
+        ensures tight { IsTight prepared.words self.old.lists → IsTight none self.new.lists }
+    {
+        change_words(&mut self.lists, prepared.words.as_slice());
+    }
+
+    /// Gives back the room of a prepared change that is not to be made. Each list stays as it was.
+    /// Takes no memory.
+    pub fn release(&mut self, prepared: Prepared)
+        ensures lists { (word : List ℕ) → list_at word self.new ≡ list_at word self.old }
+        ensures tight { IsTight prepared.words self.old.lists → IsTight none self.new.lists }
+    {
+        drop_all_spent(&mut self.lists, prepared.words.as_slice());
+    }
+}

@@ -1,0 +1,62 @@
+ghost use Rattle.std.specs.Prelude.{◌≡◌, ℕ, IfOk};
+ghost use Rattle.sorted_pages.specs.Entries.{has, IsIncreasing, difference};
+ghost use Rattle.postings.specs.Changes.{IsRowOf, AreSettled, AreSettledOf};
+
+use crate::change::{WordChange, WordChanges};
+use search_base::{NoMemory, Word};
+use sorted_pages::changes_are_on_members;
+use std::alloc::Global;
+
+// The changes of the words, with the entries of each in order, and none that comes among those that go.
+pub(crate) fn settle(alloc: Global, words: WordChanges) -> Result<Vec<(Word, WordChange)>, NoMemory>
+    ensures settled { IfOk result (λ rows. AreSettled rows.items) }
+    ensures same { IfOk result (λ rows. AreSettledOf words.entries rows.items) }
+{
+    let mut rows = Vec::new(alloc);
+    let _words = words.len();
+    let mut left = words;
+    while let Some((word, change)) = left.pop_first() {
+        let settled = settle_word(change);
+        rows.push((word, settled))?;
+    }
+    Ok(rows)
+}
+
+// The same change, with its entries in order, and none that comes among those that go.
+fn settle_word(change: WordChange) -> WordChange
+    ensures { IsRowOf change result }
+{
+    changes_are_on_members();
+    let come = in_order(change.come);
+    let gone = without(in_order(change.gone), come.as_slice());
+    WordChange { gone, come }
+}
+
+// The same entries in order, each once.
+fn in_order(entries: Vec<u64>) -> Vec<u64>
+    ensures increasing { IsIncreasing result.items }
+    ensures same { (entry : ℕ) → has result.items entry ≡ has entries.items entry }
+{
+    let mut entries = entries;
+    entries.sort_unstable();
+    entries.dedup();
+    entries
+}
+
+// The entries that are not among the others.
+fn without(entries: Vec<u64>, others: &[u64]) -> Vec<u64>
+    requires { IsIncreasing others.now }
+    ensures { result.items ≡ difference entries.items others.now }
+{
+    let mut entries = entries;
+    entries.retain(|entry| !holds(others, *entry));
+    entries
+}
+
+// Whether the entry is among these, found by halving.
+fn holds(entries: &[u64], entry: u64) -> bool
+    requires { IsIncreasing entries.now }
+    ensures { result ≡ has entries.now entry }
+{
+    entries.binary_search(&entry).is_ok()
+}
