@@ -1,0 +1,3 @@
+-- Documents under keys, and what contracts see of their buckets.
+pub mod Rows
+pub mod Buckets

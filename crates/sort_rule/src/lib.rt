@@ -1,0 +1,13 @@
+//! Documents in the order of a sort key, one bucket after the other.
+//!
+//! `SortBuckets::next_bucket` promises the least key that a remaining document has, with exactly the documents that
+//! have it; those that stand under no key come last, under a key of their own. It is a `BucketStream` over any rows
+//! that know their keys in order, and looks at no key after the one that it gives. The crate stands on `search_base`,
+//! `doc_sets` and `bucket_sort`.
+#![tactic(auto)]
+
+mod rows;
+mod stream;
+
+pub use rows::OrderedRows;
+pub use stream::SortBuckets;
