@@ -8,6 +8,8 @@
 
 mod rows;
 mod stream;
+#[cfg(test)]
+mod tests;
 
 pub use rows::OrderedRows;
 pub use stream::SortBuckets;

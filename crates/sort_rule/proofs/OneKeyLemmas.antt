@@ -1,0 +1,80 @@
+-- Rows of one key, as tests have them.
+use Rattle.std.proofs.Common.{◌≡◌, ℕ, ℤ, pos, Bool, true, false, not, ◌&&◌, ◌||◌, cond, List, [], ◌∷◌, filter, Option, Some, None, refl, sym, ap, ap₂, ◌∙◌, subst}
+use Rattle.std.specs.List.{list_any}
+use Rattle.search_base.specs.declared.cost_key.CostKey.{CostKey}
+use Rattle.search_base.specs.declared.cost_key.CostKey.TheVariants as cost
+use Rattle.search_base.specs.declared.cost_key.SortKey.TheVariants as sort
+use Rattle.search_base.specs.CostOrder.{before}
+use Rattle.search_base.specs.SortKeys.{first_by}
+use Rattle.search_base.proofs.CostOrderLemmas.{before-alike, before-strict}
+use Rattle.doc_sets.specs.Sets.{has, intersection}
+use Rattle.bucket_sort.specs.Classes.{same}
+use Rattle.sort_rule.specs.Rows.{next_of, is_under, AreRows}
+
+abbrev pub the_key : CostKey
+the_key = cost.Up (sort.Number (pos 2))
+
+abbrev pub key_in : List ℕ → ℕ → Option CostKey
+key_in docs d = cond (has docs d) (Some the_key) None
+
+pub key-after : (last : CostKey) → before last the_key ≡ true → Some the_key ≡ next_of (the_key ∷ []) (Some last)
+key-after last e = sym (ap (λ c. first_by before (cond c (the_key ∷ []) [])) e)
+
+pub none-after : (last : CostKey) → before last the_key ≡ false → None ≡ next_of (the_key ∷ []) (Some last)
+none-after last e = sym (ap (λ c. first_by before (cond c (the_key ∷ []) [])) e)
+
+filter-same : (p q : ℕ → Bool) (xs : List ℕ) → ((d : ℕ) → p d ≡ q d) → filter p xs ≡ filter q xs
+filter-same p q [] e = refl
+filter-same p q (x ∷ xs) e = ap₂ (λ b rest. cond b (x ∷ rest) rest) (e x) (filter-same p q xs e)
+
+filter-none : (xs : List ℕ) → filter (λ d. false) xs ≡ []
+filter-none [] = refl
+filter-none (x ∷ xs) = filter-none xs
+
+under-is : (docs : List ℕ) (at : CostKey) (d : ℕ) → is_under at (key_in docs d) ≡ (has docs d && same before the_key at)
+under-is docs at d = cases (has docs d)
+  where
+    cases : (b : Bool) → is_under at (cond b (Some the_key) None) ≡ (b && same before the_key at)
+    cases true = refl
+    cases false = refl
+
+pub docs-under : (docs universe : List ℕ) (at : CostKey) → before the_key at ≡ false → before at the_key ≡ false → intersection universe docs ≡ filter (λ d. is_under at (key_in docs d)) universe
+docs-under docs universe at e f = filter-same (has docs) (λ d. is_under at (key_in docs d)) universe
+    (λ d. sym (under-is docs at d ∙ ap (λ b. has docs d && b) (ap₂ (λ a b. not a && not b) e f) ∙ and-true (has docs d)))
+  where
+    and-true : (b : Bool) → (b && true) ≡ b
+    and-true true = refl
+    and-true false = refl
+
+pub none-under : (docs universe : List ℕ) (at : CostKey) → (before the_key at || before at the_key) ≡ true → [] ≡ filter (λ d. is_under at (key_in docs d)) universe
+none-under docs universe at e = sym (filter-same (λ d. is_under at (key_in docs d)) (λ d. false) universe (λ d. under-is docs at d ∙ ap (λ b. has docs d && b) (differs (before the_key at) (before at the_key) e) ∙ and-false (has docs d)) ∙ filter-none universe)
+  where
+    and-false : (b : Bool) → (b && false) ≡ false
+    and-false true = refl
+    and-false false = refl
+
+    differs : (a b : Bool) → (a || b) ≡ true → (not a && not b) ≡ false
+    differs true b e = refl
+    differs false true e = refl
+    differs false false e = absurd (cc)
+
+pub are-rows : (docs : List ℕ) → AreRows (the_key ∷ []) (key_in docs) (cost.Up sort.Missing)
+are-rows docs = record {
+  known = λ d k e. known d k (has docs d) refl e;
+  sooner = λ k h. subst (λ x. before x (cost.Up sort.Missing) ≡ true) (is k h) refl;
+}
+  where
+    known : (d : ℕ) (k : CostKey) (b : Bool) → has docs d ≡ b → key_in docs d ≡ Some k → list_any (same before k) (the_key ∷ []) ≡ true
+    known d k true f e =
+        let both : Some the_key ≡ Some k = ap (λ b. cond b (Some the_key) None) (sym f) ∙ e in
+        let it : the_key ≡ k = cc in
+        subst (λ x. list_any (same before x) (the_key ∷ []) ≡ true) it refl
+    known d k false f e = absurd (let none : None ≡ Some k = ap (λ b. cond b (Some the_key) None) (sym f) ∙ e in cc)
+
+    is : (k : CostKey) → (same before k the_key || false) ≡ true → the_key ≡ k
+    is k h = sym (parts (before k the_key) (before the_key k) refl refl h)
+      where
+        parts : (a b : Bool) → before k the_key ≡ a → before the_key k ≡ b → (same before k the_key || false) ≡ true → k ≡ the_key
+        parts false false e f h = before-alike k the_key e f
+        parts true b e f h = absurd (let no = ap₂ (λ x y. (not x && not y) || false) e f in cc)
+        parts false true e f h = absurd (let no = ap₂ (λ x y. (not x && not y) || false) e f in cc)
