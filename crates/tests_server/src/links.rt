@@ -160,6 +160,16 @@ fn a_link_that_failed_once_is_served_afterwards(rt: HostRuntime) -> Result<(), F
 fn requests_and_replies_go_one_byte_at_a_time(rt: HostRuntime) -> Result<(), Fail> {
     let rows = [
         (
+            "/indexes",
+            "{\"uid\":\"e\"}",
+            "{\"indexUid\":\"e\",\"status\":\"succeeded\",\"taskUid\":1,\"type\":\"indexCreation\"}",
+        ),
+        (
+            "/indexes/e/search",
+            "{}",
+            "{\"estimatedTotalHits\":0,\"hits\":[],\"limit\":20,\"offset\":0,\"query\":\"\"}",
+        ),
+        (
             "/indexes/m/search",
             "{\"q\":\"dark knight\",\"attributesToRetrieve\":[\"id\"]}",
             "{\"estimatedTotalHits\":3,\"hits\":[{\"id\":2},{\"id\":1},{\"id\":3}],\"limit\":20,\"offset\":0,\"query\":\"dark knight\"}",
@@ -190,6 +200,8 @@ fn requests_and_replies_go_one_byte_at_a_time(rt: HostRuntime) -> Result<(), Fai
         input.push_str(&request)?;
         let status = if answer.contains("not_found") {
             "404 Not Found"
+        } else if answer.contains("taskUid") {
+            "202 Accepted"
         } else {
             "200 OK"
         };
@@ -201,7 +213,7 @@ fn requests_and_replies_go_one_byte_at_a_time(rt: HostRuntime) -> Result<(), Fai
     }
     for most in [1, 7, 1 << 20] {
         let (end, written) = serve(rt.alloc(), input.as_bytes(), &[], most)?;
-        assert_eq!(rt; end, ended(Status::Done, 6), "{most} at a time");
+        assert_eq!(rt; end, ended(Status::Done, 8), "{most} at a time");
         assert_eq!(rt;
             str::from_utf8(&written)?,
             wanted.as_str(),
