@@ -45,7 +45,7 @@ def kinds(count):
 
 class Server:
     def __init__(self, binary):
-        self.process = subprocess.Popen([binary, "pipe"], stdin=subprocess.PIPE, stdout=subprocess.PIPE)
+        self.process = load.started(binary, "pipe", stdin=subprocess.PIPE, stdout=subprocess.PIPE)
 
     def seconds(self, requests):
         """How long it takes until the last of the replies has come."""

@@ -32,7 +32,7 @@ def synonyms():
 
 
 def seconds(binary, requests):
-    server = subprocess.Popen([binary, "pipe"], stdin=subprocess.PIPE, stdout=subprocess.PIPE)
+    server = load.started(binary, "pipe", stdin=subprocess.PIPE, stdout=subprocess.PIPE)
     begun = time.monotonic()
     writer = threading.Thread(target=load.send, args=(server.stdin, b"".join(requests)))
     writer.start()

@@ -120,7 +120,7 @@ def figures(process, ask, count, seed, repeats):
 
 
 def measure(binary, count, seed, repeats):
-    server = subprocess.Popen([binary, "pipe"], stdin=subprocess.PIPE, stdout=subprocess.PIPE)
+    server = load.started(binary, "pipe", stdin=subprocess.PIPE, stdout=subprocess.PIPE)
 
     def ask(sent):
         server.stdin.write(sent)

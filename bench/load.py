@@ -12,11 +12,13 @@ so that it keeps the documents alone. The shortest time of the rounds counts, an
 these numbers.
 """
 import argparse
+import atexit
 import os
 import random
 import statistics
 import subprocess
 import sys
+import tempfile
 import threading
 import time
 
@@ -24,7 +26,15 @@ WORDS = ("amber bridge cloud delta ember forest garden harbor island jungle kett
          "pebble quartz river saddle timber umber valley willow yonder zephyr").split()
 TAGS = "red green blue white".split()
 MOST_BODY = 16 * 1024 * 1024
+IN_MEMORY = "/dev/shm" if os.access("/dev/shm", os.W_OK) else None
 BINARY = os.path.join(os.path.dirname(os.path.abspath(__file__)), "..", "crates", "rank_server", "out", "rank_server")
+
+
+def started(binary, *words, place=IN_MEMORY, **streams):
+    """A process of the program in a new folder, which goes when the script ends; in memory, where a sync costs nothing."""
+    folder = tempfile.TemporaryDirectory(prefix="rank-", dir=place)
+    atexit.register(folder.cleanup)
+    return subprocess.Popen([os.path.abspath(binary), *words], cwd=folder.name, **streams)
 
 
 def words(draw, count):
@@ -83,7 +93,7 @@ def entry(file, name):
 
 def run(binary, requests):
     """(seconds, peak bytes, those without pages of files) until the last of the replies has come."""
-    server = subprocess.Popen([binary, "pipe"], stdin=subprocess.PIPE, stdout=subprocess.PIPE)
+    server = started(binary, "pipe", stdin=subprocess.PIPE, stdout=subprocess.PIPE)
     begun = time.monotonic()
     writer = threading.Thread(target=send, args=(server.stdin, b"".join(requests)))
     writer.start()

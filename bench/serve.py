@@ -12,6 +12,7 @@ import sys
 import time
 
 import demo
+import load
 
 
 def free_port():
@@ -45,7 +46,7 @@ def ask_anew(port, sent):
 def measure(binary, count, seed, repeats):
     port = free_port()
     connections = 1 + len(demo.SEARCHES) * repeats
-    server = subprocess.Popen([binary, "serve", str(port), str(connections)], stdout=subprocess.DEVNULL)
+    server = load.started(binary, "serve", str(port), str(connections), stdout=subprocess.DEVNULL)
     with connected(port) as link:
         found = demo.figures(server, lambda sent: ask_over(link, sent), count, seed, repeats)
     for number, search in enumerate(demo.searches(), 1):

@@ -8,11 +8,12 @@
 # with another status than 0, and says "skipped" where there is no curl.
 
 session=$(dirname "$0")/session.txt
-program=${1:?the program is missing}
+program=$(realpath "${1:?the program is missing}")
+folder=$(mktemp -d)
 server= request= expected=
 
 rank_server() {
-    "$program" "$@" > /dev/null &
+    (cd "$folder" && exec "$program" "$@" > /dev/null) &
     server=$!
 }
 
@@ -36,7 +37,7 @@ if ! command -v curl > /dev/null; then
     echo "skipped: curl is not installed"
     exit 0
 fi
-trap '[ -z "$server" ] || kill "$server" 2> /dev/null' EXIT
+trap '[ -z "$server" ] || kill "$server" 2> /dev/null; rm -r "$folder"' EXIT
 while IFS= read -r line; do
     case $line in
         '$ '*) answer; request=${line#??} expected= ;;

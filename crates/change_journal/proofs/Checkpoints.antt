@@ -8,8 +8,8 @@ use Rattle.std.proofs.lemmas.Bool.Decides.{nat_tests}
 use Rattle.std.proofs.lemmas.Slice.Eq.{bytes_eq-Decides}
 use Rattle.outside_io.specs.Disks.{Contents, fresh, Told}
 use Rattle.change_journal.specs.Format.{Look, closed, bad, opened, look, generation_in, length_in, Walk, shut, walk, end_of, payloads, by_looks, stored, pair_in, stored_pair}
-use Rattle.change_journal.specs.Image.{image_count}
-use Rattle.change_journal.specs.Fits.{Holds, IsOlder, IsSettled, alone, image_pair, IsOldOrImage, StandsFor}
+use Rattle.index_image.specs.Image.{state_at}
+use Rattle.change_journal.specs.Fits.{HasCount, Holds, IsOlder, IsSettled, alone, image_pair, IsOldOrImage, StandsFor}
 use Rattle.change_journal.specs.Shut.{image_disk, is_told, Remade}
 use Rattle.change_journal.specs.declared.journal.Journal.{Journal}
 use Rattle.change_journal.proofs.Walks.{walk_shut}
@@ -82,22 +82,22 @@ module _ (g : ℕ) (image : List ℕ) (b : ℕ) (positive : 0 < g) (small : g < 
       (sym (drop-drop (length image) 24 file) ∙ ap (λ (l : List ℕ). drop (length image) l) at_24 ∙ drop_at image (0 ∷ []) (length image) refl)
       ∙ walk_shut (24 + length image) n []
 
-  pub image_holds : (i : Journal) → i.generation ≡ g → i.gate ≡ 24 + length image → image_count image ≡ Ok i.count → i.size ≡ 1 → Holds i file
-  image_holds i same gate count size = record {
+  pub image_holds : (i : Journal) → i.generation ≡ g → i.gate ≡ 24 + length image → HasCount image i.count → i.size ≡ 1 → Holds i file
+  image_holds i same gate (s, state, count) size = record {
     size = length image;
-    before = i.count;
+    state = s;
     looks = image_looks ∙ ap (λ (k : ℕ). opened k (length image)) (sym same);
-    image = ap image_count image_is ∙ count;
-    ends = ap end_of (walk_is i.count) ∙ ap Ok (sym gate);
-    counts = omega (arith, ap (λ (w : Walk). length (payloads w)) (walk_is i.count));
+    image = ap state_at image_is ∙ state;
+    ends = ap end_of (walk_is s.changes) ∙ ap Ok (sym gate);
+    counts = omega (arith, count, ap (λ (w : Walk). length (payloads w)) (walk_is s.changes));
     long = omega arith;
   }
 
-  pub image_stands : (d n : ℕ) → image_count image ≡ Ok n → pair_in (alone d file) ≡ Ok (image_pair image)
-  image_stands d n count =
-      ap pair_in (alone_is d g (length image) file image_looks ∙ opened_as d g (length image) file n (24 + length image) (ap image_count image_is ∙ count) (ap end_of (walk_is n)))
-      ∙ ap (λ (im : List ℕ). Ok (record { image = Some im; changes = payloads (walk 0 (24 + length image) n (drop (24 + length image) file)) })) image_is
-      ∙ ap (λ (w : Walk). Ok (record { image = Some image; changes = payloads w })) (walk_is n)
+  pub image_stands : (d n : ℕ) → HasCount image n → pair_in (alone d file) ≡ Ok (image_pair image)
+  image_stands d n (s, state, count) =
+      ap pair_in (alone_is d g (length image) file image_looks ∙ opened_as d g (length image) file s (24 + length image) (ap state_at image_is ∙ state) (ap end_of (walk_is s.changes)))
+      ∙ ap (λ (im : List ℕ). Ok (record { image = Some im; changes = payloads (walk 0 (24 + length image) s.changes (drop (24 + length image) file)) })) image_is
+      ∙ ap (λ (w : Walk). Ok (record { image = Some image; changes = payloads w })) (walk_is s.changes)
 
 -- both disks
 
@@ -118,7 +118,7 @@ none_stored : (a b : List ℕ) → look a ≡ closed → look b ≡ closed → s
 unfolding stored by_looks
 none_stored a b ea eb = ap (λ (v : Look). by_looks a b v (look b)) ea ∙ ap (λ (v : Look). by_looks a b closed v) eb
 
-module _ (last n : ℕ) (image : List ℕ) (small : last + 1 < 2 ^ 64) (short : length image < 2 ^ 64) (count : image_count image ≡ Ok n) where
+module _ (last n : ℕ) (image : List ℕ) (small : last + 1 < 2 ^ 64) (short : length image < 2 ^ 64) (count : HasCount image n) where
   new_second : (a x : List ℕ) (b : ℕ) → IsOlder (last + 1) (look a) → x ≡ suc b ∷ image_disk (last + 1) image → stored_pair a x ≡ Ok (image_pair image)
   new_second a x b older is =
       let wins = second_active a x (last + 1) (length image) (ap look is ∙ image_looks (last + 1) image b (omega arith) small short) older in

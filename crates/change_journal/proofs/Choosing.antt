@@ -78,6 +78,6 @@ fits_as_read j a b oa ob ta tb f = record { room = f.room; within = f.within; di
     told (Some s) xs P e p = subst P e p
 
     at : (s : Option Side) → FitsAt s j (Some (fresh a)) (Some (fresh b)) → FitsAt s j oa ob
-    at None d = (told oa a (λ xs. IsOlder 0 (look xs)) ta d.0, told ob b (λ xs. IsOlder 0 (look xs)) tb d.1, d.2, d.3)
+    at None d = (told oa a (λ xs. IsOlder 0 (look xs)) ta d.0, told ob b (λ xs. IsOlder 0 (look xs)) tb d.1, d.2, d.3, d.4)
     at (Some A) d = (told oa a (Holds j) ta d.0, told ob b (λ ys. IsOlder j.generation (look ys)) tb d.1)
     at (Some B) d = (told ob b (Holds j) tb d.0, told oa a (λ ys. IsOlder j.generation (look ys)) ta d.1)

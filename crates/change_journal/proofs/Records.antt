@@ -3,8 +3,9 @@ use Rattle.std.proofs.Common.{◌≡◌, ◌≢◌, ℕ, suc, ◌+◌, ◌<◌, 
 use Rattle.std.proofs.lemmas.List.{drop_more, drop_all, drop-drop}
 use Rattle.std.specs.Prelude.{Some, Ok, Err}
 use Rattle.std.specs.Option.{option_map}
-use Rattle.change_journal.specs.Format.{Field, payload, bad_field, field_in, Walk, shut, broken, entry, walk_field, walk, payloads, end_of, look, opened, found_at, active_of, by_count, by_walk, by_end}
-use Rattle.change_journal.specs.Image.{image_count}
+use Rattle.change_journal.specs.Format.{Field, payload, bad_field, field_in, Walk, shut, broken, entry, walk_field, walk, payloads, end_of, look, opened, found_at, active_of, by_state, by_walk, by_end}
+use Rattle.index_image.specs.Image.{state_at}
+use Rattle.index_image.specs.Rows.{ImageData, image_view}
 use Rattle.change_journal.specs.Fits.{Holds}
 use Rattle.change_journal.specs.declared.opening.Opened.{Opened}
 use Rattle.change_journal.proofs.Grow.{opened_as}
@@ -63,37 +64,32 @@ pub count_behind : (changes : List StoredChange) (gate : ℕ) → length (payloa
 count_behind [] gate = refl
 count_behind (c ∷ changes) gate = ap suc (count_behind changes gate)
 
-pub fault_image : (d g l place : ℕ) (xs : List ℕ) → image_count (take l (drop 24 xs)) ≡ Err place
-    → active_of d g l xs ≡ Err (record { disk = d; place = 24 + place; found = found_at (take l (drop 24 xs)) place })
-unfolding active_of by_count
-fault_image d g l place xs e = ap (λ r. by_count d g l xs (take l (drop 24 xs)) r) e
-
-pub fault_walk : (d g l n place : ℕ) (xs : List ℕ) (w : Walk) → image_count (take l (drop 24 xs)) ≡ Ok n → walk 0 (24 + l) n (drop (24 + l) xs) ≡ w → end_of w ≡ Err place
+pub fault_walk : (d g l : ℕ) (s : ImageData) (place : ℕ) (xs : List ℕ) (w : Walk) → state_at (take l (drop 24 xs)) ≡ Ok s → walk 0 (24 + l) s.changes (drop (24 + l) xs) ≡ w → end_of w ≡ Err place
     → active_of d g l xs ≡ Err (record { disk = d; place = place; found = found_at xs place })
-unfolding active_of by_count by_walk by_end
-fault_walk d g l n place xs w image e end =
+unfolding active_of by_state by_walk by_end
+fault_walk d g l s place xs w image e end =
     let im = take l (drop 24 xs) in
-    ap (λ r. by_count d g l xs im r) image ∙ ap (λ (v : Walk). by_walk d g xs im n v) e ∙ ap (λ r. by_end d g xs im n w r) end
+    ap (λ r. by_state d g l xs im r) image ∙ ap (λ (v : Walk). by_walk d g xs im s v) e ∙ ap (λ r. by_end d g xs im s w r) end
 
-module _ (o : Opened) (d g l n : ℕ) (xs : List ℕ) (e : look xs ≡ opened g l) (image : image_count (take l (drop 24 xs)) ≡ Ok n)
-    (w : walk 0 (24 + l) n (drop (24 + l) xs) ≡ behind o.changes.items (shut o.journal.gate)) where
-  ends : end_of (walk 0 (24 + l) n (drop (24 + l) xs)) ≡ Ok o.journal.gate
+module _ (o : Opened) (d g l : ℕ) (s : ImageData) (xs : List ℕ) (e : look xs ≡ opened g l) (image : state_at (take l (drop 24 xs)) ≡ Ok s)
+    (w : walk 0 (24 + l) s.changes (drop (24 + l) xs) ≡ behind o.changes.items (shut o.journal.gate)) where
+  ends : end_of (walk 0 (24 + l) s.changes (drop (24 + l) xs)) ≡ Ok o.journal.gate
   ends = ap end_of w ∙ end_behind o.changes.items (shut o.journal.gate)
 
-  pub opens : o.active ≡ d → option_map (λ v. v.items) o.image ≡ Some (take l (drop 24 xs)) → o.image_at ≡ 24 → Stands o (active_of d g l xs)
-  opens active bytes at = subst (λ r. Stands o r) (sym (opened_as d g l xs n o.journal.gate image ends)) (record {
-    stored = record { active = d; generation = g; image = take l (drop 24 xs); before = n; records = walk 0 (24 + l) n (drop (24 + l) xs); gate = o.journal.gate };
+  pub opens : o.active ≡ d → option_map image_view o.image ≡ Some s → o.image_at ≡ 24 → Stands o (active_of d g l xs)
+  opens active rows at = subst (λ r. Stands o r) (sym (opened_as d g l xs s o.journal.gate image ends)) (record {
+    stored = record { active = d; generation = g; image = take l (drop 24 xs); state = s; records = walk 0 (24 + l) s.changes (drop (24 + l) xs); gate = o.journal.gate };
     is = refl;
     active = active;
-    image = bytes;
+    image = rows;
     image_at = at;
     changes = sym w;
   })
 
-  pub opens_holds : o.journal.generation ≡ g → o.journal.count ≡ n + length o.changes.items → o.journal.gate + 1 ≡ 24 + l + o.journal.size → Holds o.journal xs
+  pub opens_holds : o.journal.generation ≡ g → o.journal.count ≡ s.changes + length o.changes.items → o.journal.gate + 1 ≡ 24 + l + o.journal.size → Holds o.journal xs
   opens_holds same count long = record {
     size = l;
-    before = n;
+    state = s;
     looks = e ∙ ap (λ (k : ℕ). opened k l) (sym same);
     image = image;
     ends = ends;

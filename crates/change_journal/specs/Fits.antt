@@ -1,9 +1,10 @@
 -- A journal as `open` and the calls after it left it on two disks, and what a call may leave there.
-use Rattle.std.specs.Prelude.{◌≡◌, ◌⊎◌, ℕ, ◌+◌, ◌<◌, ◌≤◌, ◌^◌, List, [], length, take, drop, Option, Some, None, Result, Ok, Err}
+use Rattle.std.specs.Prelude.{◌≡◌, ◌⊎◌, ℕ, ◌+◌, ◌-◌, ◌<◌, ◌≤◌, ◌^◌, List, [], length, take, drop, Option, Some, None, Result, Ok, Err}
 use Rattle.std.specs.Option.{option_map}
 use Rattle.outside_io.specs.Disks.{Contents, Told, settled, fresh}
 use Rattle.change_journal.specs.Format.{Look, closed, bad, opened, look, walk, payloads, end_of, Spot, Stored, active_of, Pair, pair_in, stored_pair, with_change}
-use Rattle.change_journal.specs.Image.{image_count}
+use Rattle.index_image.specs.Image.{state_at}
+use Rattle.index_image.specs.Rows.{ImageData}
 use Rattle.change_journal.specs.declared.journal.Journal.{Journal}
 use Rattle.change_journal.specs.declared.journal.Side.TheVariants.{A, B}
 use Rattle.change_journal.specs.declared.journal.Side.{Side}
@@ -15,11 +16,11 @@ IsSettled o = o ≡ option_map settled o
 -- the active disk alone
 pub record Holds (j : Journal) (xs : List ℕ) : Type 0 where
   pub size : ℕ
-  pub before : ℕ
+  pub state : ImageData
   pub looks : look xs ≡ opened j.generation size
-  pub image : image_count (take size (drop 24 xs)) ≡ Ok before
-  pub ends : end_of (walk 0 (24 + size) before (drop (24 + size) xs)) ≡ Ok j.gate
-  pub counts : j.count ≡ before + length (payloads (walk 0 (24 + size) before (drop (24 + size) xs)))
+  pub image : state_at (take size (drop 24 xs)) ≡ Ok state
+  pub ends : end_of (walk 0 (24 + size) state.changes (drop (24 + size) xs)) ≡ Ok j.gate
+  pub counts : j.count ≡ state.changes + length (payloads (walk 0 (24 + size) state.changes (drop (24 + size) xs)))
   pub long : j.gate + 1 ≡ 24 + size + j.size
 
 -- the other disk alone
@@ -29,7 +30,7 @@ IsOlder g (bad place) = ⊥
 IsOlder g (opened h size) = h < g
 
 abbrev pub FitsAt : Option Side → Journal → Option Contents → Option Contents → Type 0
-FitsAt None j a b = Told a (λ xs. IsOlder 0 (look xs)) × Told b (λ ys. IsOlder 0 (look ys)) × (j.generation ≡ 0) × (j.count ≡ 0)
+FitsAt None j a b = Told a (λ xs. IsOlder 0 (look xs)) × Told b (λ ys. IsOlder 0 (look ys)) × (j.generation ≡ 0) × (j.count ≡ 0) × (j.size ≡ 0)
 FitsAt (Some A) j a b = Told a (Holds j) × Told b (λ ys. IsOlder j.generation (look ys))
 FitsAt (Some B) j a b = Told b (Holds j) × Told a (λ ys. IsOlder j.generation (look ys))
 
@@ -37,6 +38,25 @@ pub record Fits (j : Journal) (a b : Option Contents) : Type 0 where
   pub room : j.gate + 1 < 2 ^ 64
   pub within : j.size ≤ j.gate + 1
   pub disks : FitsAt j.active j a b
+
+-- a checkpoint is due: the journal is long, and there is a generation left
+abbrev pub IsDue : Journal → Type 0
+IsDue j = (16777216 < j.size) × (j.generation < 2 ^ 64 - 1)
+
+-- the side that a checkpoint makes
+abbrev pub next_side : Option Side → Side
+next_side None = A
+next_side (Some A) = B
+next_side (Some B) = A
+
+-- of two disks, the one on this side
+abbrev pub disk_on : {K : Type 0} → Side → K → K → K
+disk_on A a b = a
+disk_on B a b = b
+
+-- the bytes are an image that counts n changes
+abbrev pub HasCount : List ℕ → ℕ → Type 0
+HasCount image n = (s : ImageData) × (state_at image ≡ Ok s) × (s.changes ≡ n)
 
 -- what one open disk stands for, where it is the active one
 unfoldable pub alone_at : ℕ → List ℕ → Look → Result (Option Stored) Spot

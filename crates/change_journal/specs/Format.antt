@@ -4,7 +4,9 @@
 -- its payload (4 bytes), the payload, and the next gate. The disk with the greater generation is the active one.
 use Rattle.std.specs.Prelude.{ℕ, suc, zero, ◌+◌, ◌==◌, ◌&&◌, nat_le, nat_lt, List, [], ◌∷◌, ◌++◌, length, take, drop, slice_index, Option, Some, None, Result, Ok, Err, if◌then◌else◌, bytes_eq, codes}
 use Rattle.std.specs.Int.{w32, w64, from_le_bytes, to_le_bytes}
-use Rattle.change_journal.specs.Image.{image_count}
+use Rattle.change_payloads.specs.Change.{Spot as ImageSpot}
+use Rattle.index_image.specs.Image.{state_at}
+use Rattle.index_image.specs.Rows.{ImageData}
 
 -- the header of a disk. It is closed where the disk is shorter than 24 bytes or its gate is 0
 pub data Look : Type 0 where
@@ -89,23 +91,24 @@ pub record Stored : Type 0 where
   pub active : ℕ
   pub generation : ℕ
   pub image : List ℕ
-  pub before : ℕ  -- the changes before the journal's
+  pub state : ImageData  -- the state that the image spells, which counts the changes before the journal's
   pub records : Walk
   pub gate : ℕ
 
-unfoldable pub by_end : ℕ → ℕ → List ℕ → List ℕ → ℕ → Walk → Result ℕ ℕ → Result (Option Stored) Spot
-by_end d g xs image n w (Ok gate) = Ok (Some (record { active = d; generation = g; image = image; before = n; records = w; gate = gate }))
-by_end d g xs image n w (Err place) = Err (record { disk = d; place = place; found = found_at xs place })
+unfoldable pub by_end : ℕ → ℕ → List ℕ → List ℕ → ImageData → Walk → Result ℕ ℕ → Result (Option Stored) Spot
+by_end d g xs image s w (Ok gate) = Ok (Some (record { active = d; generation = g; image = image; state = s; records = w; gate = gate }))
+by_end d g xs image s w (Err place) = Err (record { disk = d; place = place; found = found_at xs place })
 
-unfoldable pub by_walk : ℕ → ℕ → List ℕ → List ℕ → ℕ → Walk → Result (Option Stored) Spot
-by_walk d g xs image n w = by_end d g xs image n w (end_of w)
+unfoldable pub by_walk : ℕ → ℕ → List ℕ → List ℕ → ImageData → Walk → Result (Option Stored) Spot
+by_walk d g xs image s w = by_end d g xs image s w (end_of w)
 
-unfoldable pub by_count : ℕ → ℕ → ℕ → List ℕ → List ℕ → Result ℕ ℕ → Result (Option Stored) Spot
-by_count d g l xs image (Ok n) = by_walk d g xs image n (walk 0 (24 + l) n (drop (24 + l) xs))
-by_count d g l xs image (Err place) = Err (record { disk = d; place = 24 + place; found = found_at image place })
+-- the image is read whole before the journal
+unfoldable pub by_state : ℕ → ℕ → ℕ → List ℕ → List ℕ → Result ImageData ImageSpot → Result (Option Stored) Spot
+by_state d g l xs image (Ok s) = by_walk d g xs image s (walk 0 (24 + l) s.changes (drop (24 + l) xs))
+by_state d g l xs image (Err spot) = Err (record { disk = d; place = 24 + spot.place; found = spot.found })
 
 unfoldable pub active_of : ℕ → ℕ → ℕ → List ℕ → Result (Option Stored) Spot
-active_of d g l xs = by_count d g l xs (take l (drop 24 xs)) (image_count (take l (drop 24 xs)))
+active_of d g l xs = by_state d g l xs (take l (drop 24 xs)) (state_at (take l (drop 24 xs)))
 
 unfoldable pub by_looks : List ℕ → List ℕ → Look → Look → Result (Option Stored) Spot
 by_looks a b (bad k) other = Err (record { disk = 0; place = k; found = found_at a k })

@@ -13,7 +13,8 @@ use Rattle.change_journal.specs.declared.opening.Opened.{Opened}
 use Rattle.change_journal.specs.declared.opening.JournalFault.{JournalFault}
 use Rattle.std.specs.Option.{option_map}
 use Rattle.outside_io.specs.Disks.{Contents}
-use Rattle.change_journal.specs.Image.{image_count}
+use Rattle.index_image.specs.Rows.{image_view}
+use Rattle.index_image.specs.State.{IsState}
 use Rattle.change_journal.specs.Fits.{Holds, Fits}
 use Rattle.outside_io.specs.Faults.{Rose}
 use Rattle.change_journal.specs.declared.opening.JournalFault.TheVariants.{DiskFault, Damaged, NoMemory}
@@ -57,7 +58,7 @@ pub record Opens (o : Opened) (r : Result (Option Stored) Spot) : Type 0 where
   pub stored : Stored
   pub is : r ≡ Ok (Some stored)
   pub active : o.active ≡ stored.active
-  pub image : option_map (λ v. v.items) o.image ≡ Some stored.image
+  pub image : option_map image_view o.image ≡ Some stored.state
   pub image_at : o.image_at ≡ 24
   pub changes : behind o.changes.items (shut o.journal.gate) ≡ stored.records
 
@@ -73,10 +74,11 @@ Stands o (Err spot) = ⊥
 Stands o (Ok None) = OpensNone o
 Stands o (Ok (Some s)) = Opens o (Ok (Some s))
 
--- the journal of what was opened has an image exactly where one is given, and the image's count and the changes are its count
+-- the journal of what was opened has an image exactly where one is given, which is a state, and the image's count and the
+-- changes are its count
 abbrev pub IsReady : Opened → Type 0
 IsReady o = MatchOption o.image ((o.journal.active ≡ None) × (o.journal.count ≡ 0))
-    (λ image. (o.journal.active ≢ None) × ((n : ℕ) × (image_count image.items ≡ Ok n) × (o.journal.count ≡ n + length o.changes.items)))
+    (λ rows. (o.journal.active ≢ None) × IsState (image_view rows) × (o.journal.count ≡ rows.changes + length o.changes.items))
 
 -- the active disk alone
 abbrev pub AnswersOne : Result Opened JournalFault → Result (Option Stored) Spot → Side → ℕ → List ℕ → Type 0

@@ -2,9 +2,8 @@ ghost use Rattle.std.specs.Prelude.{◌≡◌, ◌≢◌, ◌⊎◌, ◌+◌, �
 ghost use Rattle.outside_io.specs.Faults.{HasCause, Rose};
 ghost use Rattle.outside_io.specs.Disks.{Contents, Told, fresh, LeavesOnly};
 ghost use Rattle.change_journal.specs.Format.{stored_pair, pair_in, look};
-ghost use Rattle.change_journal.specs.Image.{image_count};
-ghost use Rattle.change_journal.specs.Fits.{IsSettled, Holds, Fits, alone, Grows, grown, IsBeforeOrAfter, PairsOnly, IsOlder, IsOldOrImage, image_pair, StandsFor};
-ghost use Rattle.change_journal.specs.Shut.{Remade, image_disk};
+ghost use Rattle.change_journal.specs.Fits.{IsSettled, Holds, Fits, IsDue, next_side, disk_on, HasCount, alone, Grows, grown, IsBeforeOrAfter, PairsOnly, IsOlder, IsOldOrImage, image_pair, StandsFor};
+ghost use Rattle.change_journal.specs.Shut.{Remade, image_disk, is_told};
 
 use crate::Record;
 use crate::add::add;
@@ -39,7 +38,8 @@ impl Journal {
     ///
     /// A crash at any moment since the start of the call leaves the stored pair from before, or
     /// that one with the new payload last; after `Ok` every crash leaves the latter, and nothing is
-    /// pending. `Failed`: a disk's count of faults rose.
+    /// pending. `Failed`: a disk's count of faults rose, and the journal stays as it was. A disk tells
+    /// its contents after the call exactly where it told them before.
     pub fn append<K: Disk>(
         &mut self,
         disk_a: &mut K,
@@ -60,6 +60,11 @@ impl Journal {
         ensures size { OnOk result (self.new.size ≡ self.old.size + length entry.payload + 13) }
         ensures active { self.new.active ≡ self.old.active }
         ensures generation { self.new.generation ≡ self.old.generation }
+        ensures told_a { is_told (K.contents disk_a.new) ≡ is_told (K.contents disk_a.old) }
+        ensures told_b { is_told (K.contents disk_b.new) ≡ is_told (K.contents disk_b.old) }
+        ensures settled_a { OnOk result (IsSettled (K.contents disk_a.old) → IsSettled (K.contents disk_a.new)) }
+        ensures settled_b { OnOk result (IsSettled (K.contents disk_b.old) → IsSettled (K.contents disk_b.new)) }
+        ensures stays { OnErr result (self.new ≡ self.old) }
         ensures cause { OnErr result (Rose (K.disk_faults disk_a.old) (K.disk_faults disk_a.new) ⊎ Rose (K.disk_faults disk_b.old) (K.disk_faults disk_b.new)) }
         ensures later_a { K.disk_faults disk_a.old ≤ K.disk_faults disk_a.new }
         ensures later_b { K.disk_faults disk_b.old ≤ K.disk_faults disk_b.new }
@@ -71,13 +76,14 @@ impl Journal {
         }
     }
 
-    /// Makes the disk that is not active anew, with an image and no change behind it, and takes it
-    /// as the active one; it takes no memory. The image counts the changes held. At generation
-    /// 2^64 - 1 nothing is done, and the answer is `Ok`.
+    /// Makes the disk that is not active anew, `A` where none is, with an image and no change behind
+    /// it, and takes it as the active one, one generation up; it takes no memory. The image is that
+    /// of a state which counts the changes held. At generation 2^64 - 1 nothing is done, and the
+    /// answer is `Ok`.
     ///
     /// A crash at any moment since the start of the call leaves the stored pair from before, or the
     /// image without changes; after `Ok` every crash leaves the latter, and nothing is pending.
-    /// `Failed`: a disk's count of faults rose.
+    /// `Failed`: a disk's count of faults rose, and the journal stays as it was.
     pub fn checkpoint<K: Disk>(
         &mut self,
         disk_a: &mut K,
@@ -85,7 +91,7 @@ impl Journal {
         image: &[u8],
     ) -> Result<(), Failed>
         requires fits { Fits self.old (K.contents disk_a.old) (K.contents disk_b.old) }
-        requires image { image_count image.now ≡ Ok self.old.count }
+        requires image { HasCount image.now self.old.count }
         ensures any_moment { (a b : List ℕ) → K.contents disk_a.old ≡ Some (fresh a) → K.contents disk_b.old ≡ Some (fresh b)
             → PairsOnly K.moment K.left_since disk_a.old disk_b.old disk_a.new disk_b.new
             (λ c d. IsOldOrImage image.now (stored_pair a b) (stored_pair c d)) }
@@ -94,9 +100,18 @@ impl Journal {
             → StandsFor (K.contents disk_a.new) (K.contents disk_b.new) (Ok (image_pair image.now))) }
         ensures last { 2 ^ 64 - 1 ≤ self.old.generation → (result ≡ Ok tt) × (self.new ≡ self.old) × (disk_a.new ≡ disk_a.old) × (disk_b.new ≡ disk_b.old) }
         ensures fits { OnOk result (Fits self.new (K.contents disk_a.new) (K.contents disk_b.new)) }
-        ensures active { OnOk result (self.old.generation < 2 ^ 64 - 1 → self.new.active ≢ None) }
+        ensures active { OnOk result (self.old.generation < 2 ^ 64 - 1 → self.new.active ≡ Some (next_side self.old.active)) }
+        ensures generation { OnOk result (self.old.generation < 2 ^ 64 - 1 → self.new.generation ≡ self.old.generation + 1) }
+        ensures made { OnOk result (self.old.generation < 2 ^ 64 - 1
+            → (ys : List ℕ) → K.contents (disk_on (next_side self.old.active) disk_a.old disk_b.old) ≡ Some (fresh ys)
+            → K.contents (disk_on (next_side self.old.active) disk_a.new disk_b.new) ≡ Some (fresh (1 ∷ image_disk (self.old.generation + 1) image.now))) }
         ensures count { self.new.count ≡ self.old.count }
         ensures size { OnOk result (self.old.generation < 2 ^ 64 - 1 → self.new.size ≡ 1) }
+        ensures told_a { is_told (K.contents disk_a.new) ≡ is_told (K.contents disk_a.old) }
+        ensures told_b { is_told (K.contents disk_b.new) ≡ is_told (K.contents disk_b.old) }
+        ensures settled_a { OnOk result (IsSettled (K.contents disk_a.old) → IsSettled (K.contents disk_a.new)) }
+        ensures settled_b { OnOk result (IsSettled (K.contents disk_b.old) → IsSettled (K.contents disk_b.new)) }
+        ensures stays { OnErr result (self.new ≡ self.old) }
         ensures cause { OnErr result (Rose (K.disk_faults disk_a.old) (K.disk_faults disk_a.new) ⊎ Rose (K.disk_faults disk_b.old) (K.disk_faults disk_b.new)) }
         ensures later_a { K.disk_faults disk_a.old ≤ K.disk_faults disk_a.new }
         ensures later_b { K.disk_faults disk_b.old ≤ K.disk_faults disk_b.new }
@@ -121,7 +136,7 @@ impl Journal {
     /// Whether a checkpoint is due: the journal is longer than 16,777,216 bytes, and the generation
     /// is not the last.
     pub fn due(&self) -> bool
-        ensures { IsTrue result ↔ (16777216 < self.now.size) × (self.now.generation < 2 ^ 64 - 1) }
+        ensures { IsTrue result ↔ IsDue self.now }
     {
         self.size > LONG && self.generation < u64::MAX
     }
@@ -135,7 +150,7 @@ impl Journal {
     ) -> Result<(), Failed>
         requires few { self.old.generation < 2 ^ 64 - 1 }
         requires older { Told (K.contents disk.old) (λ ys. IsOlder self.old.generation (look ys)) }
-        requires image { image_count image.now ≡ Ok self.old.count }
+        requires image { HasCount image.now self.old.count }
         ensures any_moment { (ys : List ℕ) → K.contents disk.old ≡ Some (fresh ys)
             → LeavesOnly K.moment K.left_since disk.old disk.new (Remade self.old.generation (self.old.generation + 1) image.now) }
         ensures now { OnOk result ((ys : List ℕ) → K.contents disk.old ≡ Some (fresh ys) → K.contents disk.new ≡ Some (fresh (1 ∷ image_disk (self.old.generation + 1) image.now))) }
@@ -146,6 +161,9 @@ impl Journal {
         ensures count { self.new.count ≡ self.old.count }
         ensures active { OnOk result (self.new.active ≡ Some side) }
         ensures generation { OnOk result (self.new.generation ≡ self.old.generation + 1) }
+        ensures told { is_told (K.contents disk.new) ≡ is_told (K.contents disk.old) }
+        ensures settled { OnOk result (IsSettled (K.contents disk.old) → IsSettled (K.contents disk.new)) }
+        ensures stays { OnErr result (self.new ≡ self.old) }
         ensures cause { HasCause (K.disk_faults disk.old) (K.disk_faults disk.new) result }
     {
         let next = self.generation + 1;
@@ -175,6 +193,9 @@ impl Journal {
         ensures size { OnOk result (self.new.size ≡ self.old.size + length entry.now.payload + 13) }
         ensures active { self.new.active ≡ self.old.active }
         ensures generation { self.new.generation ≡ self.old.generation }
+        ensures told { is_told (K.contents disk.new) ≡ is_told (K.contents disk.old) }
+        ensures settled { OnOk result (IsSettled (K.contents disk.old) → IsSettled (K.contents disk.new)) }
+        ensures stays { OnErr result (self.new ≡ self.old) }
         ensures cause { HasCause (K.disk_faults disk.old) (K.disk_faults disk.new) result }
     {
         let piece = entry.bytes();

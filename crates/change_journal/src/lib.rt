@@ -4,12 +4,12 @@
 //! of an addition or of a checkpoint leaves what stood before or what was to be, and once the call
 //! has answered `Ok` every crash leaves the new; opening gives what is stored, or the first byte
 //! that is damaged. Contracts see the bytes of two disks as their `stored_pair`, and a `Record` as
-//! an `Entry`. Stands on `search_base` and `outside_io`.
+//! an `Entry`. Stands on `search_base`, on `outside_io` for disks, and on `index_image` and
+//! `change_payloads` for images.
 #![tactic(auto)]
 
 mod add;
 mod entry;
-mod image;
 mod journal;
 mod making;
 mod opening;

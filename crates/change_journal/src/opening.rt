@@ -4,11 +4,15 @@ ghost use Rattle.outside_io.specs.Faults.{HasCause, Rose};
 ghost use Rattle.outside_io.specs.Disks.{Contents, Told, fresh, LeavesOnly};
 ghost use Rattle.change_journal.specs.Format.{look, opened, field_in, walk, found_at, active_of, stored};
 ghost use Rattle.change_journal.specs.Fits.{Fits, BothTold};
+ghost use Rattle.index_image.specs.Image.{state_at};
+ghost use Rattle.index_image.specs.Rows.{image_view};
+ghost use Rattle.index_image.specs.State.{IsState};
 ghost use Rattle.change_journal.specs.Opens.{look_of, IsPiece, tail_of, behind, IsFault, IsWithin, TailWithin, AnswersOne, Answers, AnswersAll, IsReadFault, IsReady};
 ghost use Rattle.change_journal.specs.declared.opening.JournalFault.TheVariants.{NoMemory, DiskFault};
 
-use crate::image::count_of;
 use crate::{Journal, Side};
+use change_payloads::ImageFault;
+use index_image::{ImageRows, decode};
 use outside_io::{Disk, Failed};
 use std::alloc::{AllocError, AllocFailed, Global};
 
@@ -41,8 +45,8 @@ pub struct Opened {
     pub journal: Journal,
     /// The number of the active disk, 0 where none is open.
     pub active: u8,
-    /// The image of the active disk, where one is open.
-    pub image: Option<Vec<u8>>,
+    /// The state that the image of the active disk spells, where one is open.
+    pub image: Option<ImageRows>,
     /// The place of the image on the active disk, 0 where none is open.
     pub image_at: u64,
     /// The changes since, in order.
@@ -80,7 +84,7 @@ impl From<AllocError> for JournalFault {
     }
 }
 
-pub(crate) fn u64_at(bytes: &[u8], at: usize) -> u64
+fn u64_at(bytes: &[u8], at: usize) -> u64
     requires { at + 8 ≤ length bytes.now }
     ensures { result ≡ from_le_bytes w64 (take 8 (drop at bytes.now)) }
 {
@@ -204,6 +208,25 @@ fn read_records(
     }
 }
 
+// The state that the image of the active disk spells.
+#[tactic(auto, unfolding(crate::specs::Format::active_of, crate::specs::Format::by_state))]
+fn read_image(alloc: Global, disk: u8, size: u64, bytes: &[u8]) -> Result<ImageRows, JournalFault>
+    requires { 24 + size ≤ length bytes.now }
+    ensures rows { IfOk result (λ rows. state_at (take size (drop 24 bytes.now)) ≡ Ok (image_view rows)) }
+    ensures state { IfOk result (λ rows. IsState (image_view rows)) }
+    ensures fault { IfErr result (λ fault. (generation : ℕ) → IsFault fault (active_of disk generation size bytes.now)) }
+{
+    match decode(alloc, part_of(bytes, 24, size as usize)) {
+        Ok(rows) => Ok(rows),
+        Err(ImageFault::NoMemory) => Err(JournalFault::NoMemory),
+        Err(ImageFault::Damaged { place, found }) => Err(JournalFault::Damaged {
+            disk,
+            place: 24 + place,
+            found,
+        }),
+    }
+}
+
 // What the active disk holds.
 fn open_active(
     alloc: Global,
@@ -217,19 +240,9 @@ fn open_active(
     requires within { 25 + size ≤ length bytes.now }
     ensures { AnswersOne result (active_of disk generation size bytes.now) side generation bytes.now }
 {
-    let image = part_of(bytes, 24, size as usize);
-    let before = match count_of(image) {
-        Ok(before) => before,
-        Err(place) => {
-            return Err(JournalFault::Damaged {
-                disk,
-                place: 24 + place,
-                found: found(image, place),
-            });
-        }
-    };
+    let image = read_image(alloc, disk, size, bytes)?;
     let start = 24 + size as usize;
-    let (changes, tail) = match read_records(alloc, bytes, start, before) {
+    let (changes, tail) = match read_records(alloc, bytes, start, image.changes) {
         Ok(read) => read,
         Err(_) => return Err(JournalFault::NoMemory),
     };
@@ -241,15 +254,11 @@ fn open_active(
         }),
         Tail::Shut(gate) => gate,
     };
-    let image = match image.to_vec(alloc) {
-        Ok(image) => image,
-        Err(_) => return Err(JournalFault::NoMemory),
-    };
     let journal = Journal {
         active: Some(side),
         generation,
         gate,
-        count: before + changes.len() as u64,
+        count: image.changes + changes.len() as u64,
         size: gate + 1 - start as u64,
     };
     Ok(Opened {
@@ -344,11 +353,12 @@ fn read_all<K: Disk>(alloc: Global, disk: &mut K) -> Result<Vec<u8>, JournalFaul
     }
 }
 
-/// Reads what two disks hold where nothing is pending: the image of the active disk and the changes
-/// behind it. With no open disk that is no image and no change. It changes nothing on the disks.
+/// Reads what two disks hold where nothing is pending: the state that the image of the active disk
+/// spells, and the changes behind it. With no open disk that is no image and no change. It changes
+/// nothing on the disks.
 ///
 /// `Damaged` comes exactly where a byte stands outside the format, with the first one in the order
-/// in which the headers, the version and count of the active image, and the gates, numbers and
+/// in which the headers, the generations, the whole active image, and the gates, numbers and
 /// lengths of its journal are read; `DiskFault` only where a disk's count of faults rose.
 pub fn open<K: Disk>(alloc: Global, disk_a: &mut K, disk_b: &mut K) -> Result<Opened, JournalFault>
     ensures stored { BothTold (K.contents disk_a.old) (K.contents disk_b.old) (λ a b. AnswersAll result (stored a b)) }

@@ -1,19 +1,17 @@
 ghost use Rattle.std.specs.Prelude.{◌≡◌, Some, IfOk};
 ghost use Rattle.outside_io.specs.MemoryDisk.{contents_of};
-ghost use Rattle.change_journal.specs.Fits.{Fits};
+ghost use Rattle.change_journal.specs.Fits.{Fits, HasCount};
 
-mod contents_1;
-mod contents_2;
-mod contents_3;
+mod contents;
 
-use crate::image::count_of;
 use crate::{Journal, JournalFault, Opened, Record, open, record};
+use index_image::decode;
 use outside_io::{Disk, Failed, MemoryDisk};
 use std::alloc::{AllocError, Global};
 use std::process::Abort;
 use std::test::Fail;
 
-// The image of an empty machine, and one that counts two changes.
+// The image of the empty state, and of one that counts two changes.
 const EMPTY: &[u8] = b"\x01\0\0\0\0\0\0\0\0\0\0\0\0";
 
 const AFTER_TWO: &[u8] = b"\x01\x02\0\0\0\0\0\0\0\0\0\0\0";
@@ -43,8 +41,8 @@ const DAMAGED: &str =
 0152414e4b49445801000000000000000d00000000000000010000000000000000000000000100000000000000000700,,damaged 0 46 7
 0152414e4b49445801000000000000000d0000000000000001000000000000000000000000010000,,damaged 0 38 0
 0152414e4b49445801000000000000000d0000000000000001000000000000000000000000,,damaged 0 16 13
-2552414e4b49445801000000000000000d0000000000000001000000000000000000000000010000000000000000070000000101000000650000,,disk 0 image 13 count 1 50+7
-0152414e4b49445801000000000000000d0000000000000001000000000000000000000000000000000000000000070000000101000000650000,,disk 0 image 13 count 0
+2552414e4b49445801000000000000000d0000000000000001000000000000000000000000010000000000000000070000000101000000650000,,disk 0 indexes 0 count 1 50+7
+0152414e4b49445801000000000000000d0000000000000001000000000000000000000000000000000000000000070000000101000000650000,,disk 0 indexes 0 count 0
 0052414e4b49445801000000000000000d0000000000000001000000000000000000000000010000000000000000070000000101000000650000,,empty
 0152414e4b49445801000000000000000d000000000000,,empty";
 
@@ -72,15 +70,15 @@ fn disk_of(alloc: Global, hex: &str) -> Result<MemoryDisk, Fail> {
     Ok(MemoryDisk::new(alloc, bytes_of(alloc, hex)?, Vec::new(alloc))?)
 }
 
-// The active disk, the sizes of the image and of each payload with its place, and the count.
+// The active disk, how many indexes its image has, the count, and the size of each payload with its place.
 fn line_of(alloc: Global, opened: &Opened) -> Result<String, AllocError> {
-    let image = match &opened.image {
+    let indexes = match &opened.image {
         None => return "empty".to_string(alloc),
-        Some(image) => image.len(),
+        Some(image) => image.indexes.len(),
     };
     let active = opened.active;
     let count = opened.journal.count();
-    let mut line = format!(in alloc; "disk {active} image {image} count {count}")?;
+    let mut line = format!(in alloc; "disk {active} indexes {indexes} count {count}")?;
     for change in &opened.changes {
         let place = change.place;
         let size = change.payload.len();
@@ -125,6 +123,13 @@ fn check_table(rt: &impl Abort, alloc: Global, table: &str, lines: usize) -> Res
     Ok(())
 }
 
+// How many changes an image counts.
+fn count_of(alloc: Global, image: &[u8]) -> Result<u64, Fail>
+    ensures { IfOk result (λ count. HasCount image.now count) }
+{
+    Ok(decode(alloc, image)?.changes)
+}
+
 // The journal of two disks that are whole.
 fn opened_journal(alloc: Global, a: &mut MemoryDisk, b: &mut MemoryDisk) -> Result<Journal, Fail>
     ensures { IfOk result (λ journal. Fits journal (Some (contents_of a.new)) (Some (contents_of b.new))) }
@@ -134,23 +139,12 @@ fn opened_journal(alloc: Global, a: &mut MemoryDisk, b: &mut MemoryDisk) -> Resu
 
 #[test]
 fn contents_open_as_the_other_machine_says(rt: HostRuntime) -> Result<(), Fail> {
-    check_table(&rt, rt.alloc(), contents_1::TABLE, 100)?;
-    check_table(&rt, rt.alloc(), contents_2::TABLE, 100)?;
-    check_table(&rt, rt.alloc(), contents_3::TABLE, 100)
+    check_table(&rt, rt.alloc(), contents::TABLE, 30)
 }
 
 #[test]
 fn damage_at_each_field_in_turn(rt: HostRuntime) -> Result<(), Fail> {
     check_table(&rt, rt.alloc(), DAMAGED, 18)
-}
-
-#[test]
-fn one_generation_on_both_disks(rt: HostRuntime) -> Result<(), Fail> {
-    let alloc = rt.alloc();
-    let mut a = disk_of(alloc, FIRST)?;
-    let mut b = disk_of(alloc, FIRST)?;
-    assert_eq!(rt; answer(alloc, &mut a, &mut b)?.as_str(), "damaged 1 8 1");
-    Ok(())
 }
 
 // The worked example of the format, byte for byte.
@@ -160,7 +154,7 @@ fn two_empty_disks_and_one_change(rt: HostRuntime) -> Result<(), Fail> {
     let mut a = disk_of(alloc, "")?;
     let mut b = disk_of(alloc, "")?;
     let mut journal = opened_journal(alloc, &mut a, &mut b)?;
-    assert_eq!(rt; count_of(EMPTY), Ok(0));
+    assert_eq!(rt; count_of(alloc, EMPTY)?, 0);
     assert_eq!(rt; journal.count, 0);
     assert_eq!(rt; journal.generation, 0);
     assert_eq!(rt; journal.checkpoint(&mut a, &mut b, EMPTY), Ok(()));
@@ -172,7 +166,7 @@ fn two_empty_disks_and_one_change(rt: HostRuntime) -> Result<(), Fail> {
     assert_eq!(rt; journal.due(), false);
     assert_eq!(rt;
         answer(alloc, &mut a, &mut b)?.as_str(),
-        "disk 0 image 13 count 1 50+7"
+        "disk 0 indexes 0 count 1 50+7"
     );
     Ok(())
 }
@@ -192,11 +186,11 @@ fn a_first_read_that_fails(rt: HostRuntime) -> Result<(), Fail> {
 
 // What the two disks stand for before and after each step of `three_changes`.
 const STATES: [&str; 5] = [
-    "disk 0 image 13 count 0",
-    "disk 0 image 13 count 1 50+3",
-    "disk 0 image 13 count 2 50+3 66+0",
-    "disk 1 image 13 count 2",
-    "disk 1 image 13 count 3 50+5",
+    "disk 0 indexes 0 count 0",
+    "disk 0 indexes 0 count 1 50+3",
+    "disk 0 indexes 0 count 2 50+3 66+0",
+    "disk 1 indexes 0 count 2",
+    "disk 1 indexes 0 count 3 50+5",
 ];
 
 // Three changes, with a checkpoint after the second, and the number of steps that were done.
@@ -206,23 +200,24 @@ fn three_changes(
     b: &mut MemoryDisk,
     journal: &mut Journal,
     entries: (Record, Record, Record),
+    image: &[u8],
     done: &mut usize,
 ) -> Result<(), Failed>
     requires fits { Fits journal.old (Some (contents_of a.old)) (Some (contents_of b.old)) }
     requires first { entries.0.number ≡ 0 }
     requires second { entries.1.number ≡ 1 }
     requires third { entries.2.number ≡ 2 }
+    requires image { HasCount image.now 2 }
 {
     assert!(rt; journal.active.is_some());
     assert_eq!(rt; journal.count, 0);
     assert_eq!(rt; journal.generation, 1);
-    assert_eq!(rt; count_of(AFTER_TWO), Ok(2));
     let (first, second, third) = entries;
     journal.append(a, b, first)?;
     *done = 1;
     journal.append(a, b, second)?;
     *done = 2;
-    journal.checkpoint(a, b, AFTER_TWO)?;
+    journal.checkpoint(a, b, image)?;
     *done = 3;
     journal.append(a, b, third)?;
     *done = 4;
@@ -271,10 +266,19 @@ fn stopped_run(rt: &impl Abort, alloc: Global, from_a: u64, from_b: u64) -> Resu
         record(alloc, 1, b"")?,
         record(alloc, 2, b"three")?,
     );
+    assert_eq!(rt; count_of(alloc, AFTER_TWO)?, 2);
     let mut done = 0;
     if let Ok(opened) = open(alloc, &mut a, &mut b) {
         let mut journal = opened.journal;
-        let _stopped = three_changes(rt, &mut a, &mut b, &mut journal, entries, &mut done);
+        let _stopped = three_changes(
+            rt,
+            &mut a,
+            &mut b,
+            &mut journal,
+            entries,
+            AFTER_TWO,
+            &mut done,
+        );
     }
     check_crashes(rt, alloc, &a, &b, done)?;
     Ok(done)

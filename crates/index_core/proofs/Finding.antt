@@ -60,7 +60,7 @@ read-none f h documents more ids i d less so_far same none =
 abbrev document_at : ℕ → List Row → Option Data
 document_at id rows = option_map (λ r. r.document) (row_at id rows)
 
-above-absent : (id low : ℕ) (rows : List Row) (high : ℕ) → id < low → Increase low rows high → row_at id rows ≡ None
+pub above-absent : (id low : ℕ) (rows : List Row) (high : ℕ) → id < low → Increase low rows high → row_at id rows ≡ None
 above-absent id low [] high less h = refl
 above-absent id low (r ∷ rows) high less h = cond-false (id == r.id) _ _ (ne_eqb id r.id (λ e. absurd (let l = h.0 in omega arith))) ∙ above-absent id (suc r.id) rows high (let l = h.0 in omega arith) h.1
 

@@ -1,5 +1,5 @@
 -- Rows that are kept in a slot for each internal id.
-use Rattle.std.proofs.Common.{◌≡◌, ◌≢◌, inl, inr, ℕ, zero, suc, ◌+◌, ◌<◌, ◌≤◌, ◌==◌, Bool, true, false, cond, List, [], ◌∷◌, ◌++◌, length, map, Option, None, Some, take, drop, get_or, refl, sym, ap, subst, ◌∙◌, arith, append_assoc}
+use Rattle.std.proofs.Common.{◌≡◌, ◌≢◌, inl, inr, ℕ, zero, suc, ◌+◌, ◌-◌, ◌<◌, ◌≤◌, ◌==◌, Bool, true, false, cond, List, [], ◌∷◌, ◌++◌, length, map, Option, None, Some, take, drop, get_or, refl, sym, ap, subst, ◌∙◌, arith, append_assoc}
 use Rattle.std.proofs.Math.ListN.{set}
 use Rattle.std.proofs.lemmas.Bool.{cond-true, cond-false, eq-eqb, ne_eqb, eqb-true, eqb-false}
 use Rattle.std.specs.Prelude.{bytes_eq, max}
@@ -11,16 +11,16 @@ use Rattle.index_settings.specs.View.{SettingsView}
 use Rattle.doc_rows.specs.declared.path_use.PathUse.{PathUse}
 use Rattle.doc_rows.specs.Rows.{rows_of}
 use Rattle.doc_store.specs.declared.rows.StoreRow.{StoreRow}
-use Rattle.doc_store.specs.Store.{Row, Store, id_of, id_given, ids_given, stored, all_stored, without, removed}
-use Rattle.doc_store.specs.Sound.{Increase}
+use Rattle.doc_store.specs.Store.{Row, Store, id_of, id_given, ids_given, row_at, stored, all_stored, without, removed}
+use Rattle.doc_store.specs.Sound.{Increase, IsSound}
 use Rattle.doc_store.proofs.SoundLemmas.{IsWhole, whole-stored, sound-removed, increase-low}
 use Rattle.doc_store.proofs.StoreLemmas.{store_same}
 use Rattle.row_search.specs.Slots.{KeptRows, kept_at, kept_from}
-use Rattle.index_core.specs.Slots.{AreInSlots, HaveSlots, slots_after, rows_at, anew}
+use Rattle.index_core.specs.Slots.{AreInSlots, HaveSlots, slots_after, rows_at}
 use Rattle.index_core.specs.Matching.{rows_with}
 use Rattle.index_core.specs.Plans.{cleared}
 use Rattle.index_core.specs.Putting.{put_kept, HasPlace}
-use Rattle.index_core.proofs.Finding.{IsThere}
+use Rattle.index_core.proofs.Finding.{above-absent}
 use Rattle.index_core.proofs.Putting.{kept_in, rows_come}
 
 -- the internal ids rise
@@ -171,47 +171,77 @@ clearing-one s now next id more goes less is h = subst (Clearing s next) (sym is
 pub clearing-end : (s now : Store) (id : ℕ) → now.next_id ≤ id → Clearing s now id → now ≡ cleared s
 clearing-end s now id past h = store_same now (cleared s) h.paths h.next_id (none-left id now.rows now.next_id past h.rest)
 
--- ---- slots from a place on
-
-pub slots-next : (at : ℕ) (slots : List (Option RowsView)) (slot : Option RowsView) → at < length slots → slot ≡ get_or slots at slot → drop at slots ≡ slot ∷ drop (at + 1) slots
-slots-next at slots slot less is = drop_more slots at slot less ∙ ap (λ v. v ∷ drop (at + 1) slots) (sym is)
+-- ---- all slots anew
 
 pub length-slots : (at : ℕ) (slot : Option RowsView) (slots : List (Option RowsView)) → length (kept_from at (slot ∷ slots)) ≡ length (kept_from at (slot ∷ [])) + length (kept_from (at + 1) slots)
 length-slots at None slots = ap (λ n. length (kept_from n slots)) (let e : suc at ≡ at + 1 = omega arith in e) ∙ (let e : length (kept_from (at + 1) slots) ≡ 0 + length (kept_from (at + 1) slots) = omega arith in e)
 length-slots at (Some rows) slots = ap (λ n. suc (length (kept_from n slots))) (let e : suc at ≡ at + 1 = omega arith in e) ∙ (let e : suc (length (kept_from (at + 1) slots)) ≡ 1 + length (kept_from (at + 1) slots) = omega arith in e)
 
--- ---- rows anew
+-- the slots of so many internal ids, from one on
+abbrev pub slots_from : ℕ → ℕ → List PathUse → Store → List (Option RowsView)
+slots_from zero id uses s = []
+slots_from (suc more) id uses s = rows_at id uses s ∷ slots_from more (id + 1) uses s
 
-abbrev pub anew_from : ℕ → List PathUse → Store → List (Option RowsView) → List (Option RowsView)
-anew_from at uses s [] = []
-anew_from at uses s (slot ∷ slots) = anew at uses s slot ∷ anew_from (at + 1) uses s slots
+pub slots-many : (more id : ℕ) (uses : List PathUse) (s : Store) → length (slots_from more id uses s) ≡ more
+slots-many zero id uses s = refl
+slots-many (suc more) id uses s = ap suc (slots-many more (id + 1) uses s)
 
-pub anew-more : (at : ℕ) (uses : List PathUse) (s : Store) (slots : List (Option RowsView)) (slot : Option RowsView) (all more whole : List (Option RowsView)) → at < length slots → slot ≡ get_or slots at slot
-    → more ≡ all ++ anew at uses s slot ∷ [] → all ++ anew_from at uses s (drop at slots) ≡ whole → more ++ anew_from (at + 1) uses s (drop (at + 1) slots) ≡ whole
-anew-more at uses s slots slot all more whole less is pushed told =
-    ap (λ v. v ++ anew_from (at + 1) uses s (drop (at + 1) slots)) pushed ∙ append_assoc all (anew at uses s slot ∷ []) (anew_from (at + 1) uses s (drop (at + 1) slots))
-    ∙ ap (λ v. all ++ anew_from at uses s v) (sym (slots-next at slots slot less is)) ∙ told
+pub slots-next : (end id : ℕ) (uses : List PathUse) (s : Store) → id < end → slots_from (end - id) id uses s ≡ rows_at id uses s ∷ slots_from (end - (id + 1)) (id + 1) uses s
+slots-next end id uses s less = ap (λ more. slots_from more id uses s) (let e : end - id ≡ suc (end - (id + 1)) = omega arith in e)
 
-pub anew-length : (at : ℕ) (uses : List PathUse) (s : Store) (slots : List (Option RowsView)) → length (anew_from at uses s slots) ≡ length slots
-anew-length at uses s [] = refl
-anew-length at uses s (slot ∷ slots) = ap suc (anew-length (at + 1) uses s slots)
+-- what is kept in the slot of an internal id: the rows of its document, where there is one
+pub slot-read : (id : ℕ) (uses : List PathUse) (s : Store) → length (kept_from id (rows_at id uses s ∷ [])) ≡ cond (is_some (row_at id s.rows)) 1 0
+slot-read id uses s = by (row_at id s.rows)
+  where
+    by : (o : Option Row) → length (kept_from id (option_map (λ (r : Row). rows_of r.document s.paths uses) o ∷ [])) ≡ cond (is_some o) 1 0
+    by None = refl
+    by (Some r) = refl
 
-pub anew-kept : (at : ℕ) (uses : List PathUse) (s : Store) (slots : List (Option RowsView)) (rows : List Row) → map (λ k. k.id.0) (kept_from at slots) ≡ map (λ r. r.id) rows → AllByRecursion (IsThere s.rows) rows
-    → kept_from at (anew_from at uses s slots) ≡ map (λ r. kept_at r.id (rows_of r.document s.paths uses)) rows
-anew-kept at uses s [] [] e h = refl
-anew-kept at uses s [] (r ∷ rows) e h = absurd (cc)
-anew-kept at uses s (None ∷ slots) rows e h =
-    let next : suc at ≡ at + 1 = omega arith in
-    ap (λ n. kept_from n (anew_from (at + 1) uses s slots)) next ∙ anew-kept (at + 1) uses s slots rows (ap (λ n. map (λ (k : KeptRows). k.id.0) (kept_from n slots)) (sym next) ∙ e) h
-anew-kept at uses s (Some x ∷ slots) [] e h = absurd (cc)
-anew-kept at uses s (Some x ∷ slots) (r ∷ rows) e h =
-    let next : suc at ≡ at + 1 = omega arith in
-    let first : at ≡ r.id = cc in
-    let left : map (λ k. k.id.0) (kept_from (suc at) slots) ≡ map (λ r. r.id) rows = cc in
-    let here : rows_at at uses s ≡ Some (rows_of r.document s.paths uses) = ap (λ n. rows_at n uses s) first ∙ ap (option_map (λ (r : Row). rows_of r.document s.paths uses)) h.0 in
-    ap (λ o. kept_from at (o ∷ anew_from (at + 1) uses s slots)) here ∙ ap (λ n. kept_at n (rows_of r.document s.paths uses) ∷ kept_from (suc at) (anew_from (at + 1) uses s slots)) first
-    ∙ ap (λ n. kept_at r.id (rows_of r.document s.paths uses) ∷ kept_from n (anew_from (at + 1) uses s slots)) next
-    ∙ ap (λ v. kept_at r.id (rows_of r.document s.paths uses) ∷ v) (anew-kept (at + 1) uses s slots rows (ap (λ n. map (λ (k : KeptRows). k.id.0) (kept_from n slots)) (sym next) ∙ left) h.1)
+within-same : (rows : List Row) (low high from to : ℕ) → low ≡ from → high ≡ to → Increase low rows high → Increase from rows to
+within-same rows low high from to e f h = subst (λ n. Increase from rows n) f (subst (λ n. Increase n rows high) e h)
+
+-- the slots keep the rows of the documents that are left
+pub slots-kept : (more id : ℕ) (uses : List PathUse) (s : Store) (rows : List Row) → Increase id rows (id + more) → ((n : ℕ) → id ≤ n → row_at n s.rows ≡ row_at n rows)
+    → kept_from id (slots_from more id uses s) ≡ map (λ r. kept_at r.id (rows_of r.document s.paths uses)) rows
+slots-kept zero id uses s rows inside same = ap (map (λ (r : Row). kept_at r.id (rows_of r.document s.paths uses))) (sym (none-left id rows (id + 0) (omega arith) inside))
+slots-kept (suc more) id uses s [] inside same =
+    let left = slots_from more (id + 1) uses s in
+    ap (λ o. kept_from id (option_map (λ (r : Row). rows_of r.document s.paths uses) o ∷ left)) (same id (omega arith)) ∙ ap (λ n. kept_from n left) (let e : suc id ≡ id + 1 = omega arith in e)
+    ∙ slots-kept more (id + 1) uses s [] (omega arith) (λ n le. same n (omega arith))
+slots-kept (suc more) id uses s (r ∷ rows) inside same = by (id == r.id) refl (slots-kept more (id + 1) uses s rows) (slots-kept more (id + 1) uses s (r ∷ rows))
+  where
+    left : List (Option RowsView)
+    left = slots_from more (id + 1) uses s
+
+    all : List KeptRows
+    all = map (λ (r : Row). kept_at r.id (rows_of r.document s.paths uses)) rows
+
+    next : suc id ≡ id + 1
+    next = omega arith
+
+    apart : (a b : ℕ) → (a ≡ b → ⊥) → a ≤ b → suc a ≤ b
+    apart a b other le = let ne : a ≢ b = other in omega arith
+
+    seen : (o : Option Row) → row_at id s.rows ≡ o → kept_from id (rows_at id uses s ∷ left) ≡ kept_from id (option_map (λ (r : Row). rows_of r.document s.paths uses) o ∷ left)
+    seen o e = ap (λ o. kept_from id (option_map (λ (r : Row). rows_of r.document s.paths uses) o ∷ left)) e
+
+    Again : List Row → Type 0
+    Again rs = Increase (id + 1) rs ((id + 1) + more) → ((n : ℕ) → id + 1 ≤ n → row_at n s.rows ≡ row_at n rs) → kept_from (id + 1) left ≡ map (λ (r : Row). kept_at r.id (rows_of r.document s.paths uses)) rs
+
+    by : (b : Bool) → (id == r.id) ≡ b → Again rows → Again (r ∷ rows) → kept_from id (rows_at id uses s ∷ left) ≡ kept_at r.id (rows_of r.document s.paths uses) ∷ all
+    by true e again whole =
+        let here = eqb-true id r.id e in
+        seen (Some r) (same id (omega arith) ∙ cond-true (id == r.id) (Some r) (row_at id rows) e) ∙ ap (λ n. kept_at n (rows_of r.document s.paths uses) ∷ kept_from (suc id) left) here
+        ∙ ap (λ n. kept_at r.id (rows_of r.document s.paths uses) ∷ kept_from n left) next
+        ∙ ap (λ v. kept_at r.id (rows_of r.document s.paths uses) ∷ v) (again (within-same rows (suc r.id) (id + suc more) (id + 1) ((id + 1) + more) (omega arith) (omega arith) inside.1)
+        (λ n le. same n (omega arith) ∙ cond-false (n == r.id) (Some r) (row_at n rows) (ne_eqb n r.id (λ k. absurd (omega arith)))))
+    by false e again whole =
+        let above : suc id ≤ r.id = apart id r.id (eqb-false id r.id e) inside.0 in
+        seen None (same id (omega arith) ∙ above-absent id (suc id) (r ∷ rows) (id + suc more) (omega arith) (above, inside.1)) ∙ ap (λ n. kept_from n left) next
+        ∙ whole ((let e : id + 1 ≤ r.id = omega arith in e), within-same rows (suc r.id) (id + suc more) (suc r.id) ((id + 1) + more) refl (omega arith) inside.1) (λ n le. same n (omega arith))
+
+pub slots-all : (uses : List PathUse) (s : Store) → IsSound s → kept_from 0 (slots_from s.next_id 0 uses s) ≡ map (λ r. kept_at r.id (rows_of r.document s.paths uses)) s.rows
+slots-all uses s sound = slots-kept s.next_id 0 uses s s.rows (within-same s.rows 0 s.next_id 0 (0 + s.next_id) refl (omega arith) sound.increase) (λ n le. refl)
 
 -- ---- lists of internal ids
 

@@ -13,3 +13,6 @@ pub mod LawLemmas
 pub mod KeptSlots
 pub mod StayLemmas
 pub mod Staging
+pub mod Rising
+pub mod Keeping
+pub mod Imaging

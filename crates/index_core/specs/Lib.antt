@@ -18,3 +18,5 @@ pub mod Shown
 pub mod Putting
 pub mod Removing
 pub mod Updating
+pub mod Keyed
+pub mod Images

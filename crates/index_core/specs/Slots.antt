@@ -27,8 +27,3 @@ slots_after (one ∷ more) many = slots_after more (max many (suc one.id.0))
 -- what a search sees of the document with an internal id, where there is one, by the uses of the paths
 abbrev pub rows_at : ℕ → List PathUse → Store → Option RowsView
 rows_at id uses s = option_map (λ r. rows_of r.document s.paths uses) (row_at id s.rows)
-
--- the same for the document in a slot, and none in an empty slot
-abbrev pub anew : ℕ → List PathUse → Store → Option RowsView → Option RowsView
-anew id uses s None = None
-anew id uses s (Some rows) = rows_at id uses s

@@ -55,8 +55,8 @@ pub(crate) fn store_documents(
     }
 }
 
-// The registry with the paths that it gains.
-fn joined(alloc: Global, paths: &[Word], added: &[Word]) -> Result<Vec<Word>, NoMemory>
+/// Paths, and behind them those that a registry gains.
+pub(crate) fn joined(alloc: Global, paths: &[Word], added: &[Word]) -> Result<Vec<Word>, NoMemory>
     ensures { IfOk result (λ all. all.items ≡ paths.now ++ added.now) }
 {
     let mut all = Vec::with_capacity(alloc, paths.len())?;

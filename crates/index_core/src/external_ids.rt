@@ -46,8 +46,13 @@ fn rows_under(
     Ok(rows)
 }
 
-// The external id of the document at a place, which is read back from its text and let go at once.
-fn id_at(alloc: Global, text: &DocumentText, key: &str, place: u32) -> Result<Word, CoreFault>
+/// The external id of the document at a place, which is read back from its text and let go at once.
+pub(crate) fn id_at(
+    alloc: Global,
+    text: &DocumentText,
+    key: &str,
+    place: u32,
+) -> Result<Word, CoreFault>
     ensures { Gives (λ id. id) result (refused_as (id_refusal place) (external_id_of key.now text.now)) }
 {
     let document = text.document(alloc)?;

@@ -1,9 +1,14 @@
-ghost use Rattle.std.specs.Prelude.{◌≡◌, ◌+◌, ◌≤◌, length, map, take, drop, IfOk, OnOk, OnErr, IsTrue, ◌↔◌, if◌then◌else◌};
+ghost use Rattle.std.specs.Prelude.{◌≡◌, ◌+◌, ◌≤◌, List, true, length, map, take, drop, IfOk, OnOk, OnErr, IsTrue, ◌↔◌, if◌then◌else◌};
 ghost use Rattle.std.specs.Option.{option_copied, option_map, is_some};
 ghost use Rattle.search_base.specs.Gives.{Gives, Checks};
 ghost use Rattle.doc_values.specs.Changes.{kind_view};
+ghost use Rattle.doc_values.specs.Ids.{is_uid};
 ghost use Rattle.doc_store.specs.Sound.{IsSound};
 ghost use Rattle.doc_store.specs.Store.{spent};
+ghost use Rattle.index_image.specs.Rows.{IndexData, index_view};
+ghost use Rattle.index_image.specs.State.{IsIndex, is_above};
+ghost use Rattle.index_core.specs.Images.{index_of};
+ghost use Rattle.index_core.specs.Keyed.{HasKey, IsKeyedWork};
 ghost use Rattle.index_core.specs.Index.{empty_index, documents as documents_in, document_under};
 ghost use Rattle.index_core.specs.Refusals.{store_refusal};
 ghost use Rattle.index_core.specs.PlanView.{work_view, IsGood};
@@ -13,8 +18,10 @@ ghost use Rattle.index_core.specs.Found.{found};
 ghost use Rattle.index_core.specs.Shown.{result_shown, Finds};
 
 use crate::call::{Listing, SearchResult};
-use crate::change::{clear_documents, remove_documents, store_documents};
-use crate::new_settings::{patch_settings, reset_settings};
+use crate::change::{clear_documents, joined, remove_documents, store_documents};
+use crate::image::{copy_of_settings, image_documents, stored_rows};
+use crate::key::{copy_of, text_of};
+use crate::new_settings::{patch_settings, reset_settings, rows_of_all};
 use crate::plan::{
     Plan, Work, keeping_key, no_work, planned_patch, planned_replace, planned_update,
 };
@@ -27,6 +34,7 @@ use crate::update::update_rows;
 use doc_store::DocStore;
 use doc_values::{ChangeKind, DocumentText};
 use facet_counts::FacetCounts;
+use index_image::ImageIndex;
 use index_settings::Settings;
 use packed_rows::PackedSlots;
 use row_filter::RowFilter;
@@ -35,6 +43,7 @@ use search_base::{NoMemory, Steps, Word};
 use search_call::SearchCall;
 use std::alloc::Global;
 use std::marker::Model;
+use std::mem;
 
 /// One index, seen as its primary key, its store and its settings. What it keeps so that a search reads no document and
 /// cuts no words of the settings is not seen. Nothing is staged in it between two calls.
@@ -57,7 +66,7 @@ impl Model for IndexCore {
 
     ghost view = { λ index. record { key = index.key; store = index.store.content; settings = index.settings } };
 
-    ghost invariant = { λ index. IsWhole index.store index.settings index.words index.kept };
+    ghost invariant = { λ index. IsWhole index.key index.store index.settings index.words index.kept };
 }
 
 impl IndexCore {
@@ -105,11 +114,12 @@ impl IndexCore {
     }
 
     /// Tries the key of a change and then the id of each document, in order, or the members of a patch, and changes
-    /// nothing.
+    /// nothing. A key that the change gives is not empty.
     ///
     /// A change that makes an index or drops it is planned as one of no documents. A change of 2^32 documents or more
     /// counts as one for which there is no memory.
     pub fn plan(&self, alloc: Global, change: ChangeKind) -> Result<Plan, CoreFault>
+        requires key { HasKey (kind_view change) }
         ensures plan { Gives (λ plan. plan) result (planned self.now (kind_view change)) }
         ensures fits { IfOk result (λ plan. IsPlanFor plan self.now) }
     {
@@ -145,8 +155,11 @@ impl IndexCore {
         ensures at_most { fetches.new ≤ fetches.old + needed plan.work self.old }
     {
         let Plan { key, work } = plan;
-        self.work(alloc, work, fetches)?;
-        self.key = key;
+        let before = mem::replace(&mut self.key, key);
+        if let Err(fault) = self.work(alloc, work, fetches) {
+            self.key = before;
+            return Err(fault);
+        }
         Ok(())
     }
 
@@ -156,7 +169,8 @@ impl IndexCore {
         work: Work,
         fetches: &mut Steps<F>,
     ) -> Result<(), CoreFault>
-        requires { IsGood (work_view work) }
+        requires good { IsGood (work_view work) }
+        requires keyed { IsKeyedWork self.old.key (work_view work) }
         ensures key { self.new.key ≡ self.old.key }
         ensures done { OnOk result (self.new.store ≡ after_work (work_view work) self.old.store) }
         ensures within { Checks result (option_map store_refusal (spent (after_work (work_view work) self.old.store))) }
@@ -295,6 +309,55 @@ impl IndexCore {
         Ok(Listing {
             total: self.store.len(),
             documents,
+        })
+    }
+
+    /// The index as the rows of an image, under a uid. Each document is read back and printed again, so that its text
+    /// is copied.
+    pub fn to_image(&self, alloc: Global, uid: Word) -> Result<ImageIndex, NoMemory>
+        ensures uid { IfOk result (λ image. image.uid ≡ uid) }
+        ensures index { IfOk result (λ image. index_of (index_view image) ≡ self.now) }
+        ensures state { IfOk result (λ image. is_uid uid ≡ true → (before : List IndexData) → is_above before uid ≡ true
+            → IsIndex before (index_view image)) }
+    {
+        Ok(ImageIndex {
+            uid,
+            key: copy_of(self.key.as_ref())?,
+            next_id: self.store.next_id(),
+            paths: joined(alloc, self.store.paths(), &[])?,
+            settings: copy_of_settings(alloc, &self.settings)?,
+            documents: image_documents(alloc, &self.store)?,
+        })
+    }
+
+    /// The index that stands in these rows, which an image may hold. Reads each document once.
+    pub fn from_image<F>(
+        alloc: Global,
+        image: ImageIndex,
+        fetches: &mut Steps<F>,
+    ) -> Result<IndexCore, NoMemory>
+        requires state { (before : List IndexData) × IsIndex before (index_view image) }
+        ensures index { IfOk result (λ index. index ≡ index_of (index_view image)) }
+        ensures fetches { OnOk result (fetches.new ≡ fetches.old + length image.documents.items) }
+        ensures at_most { fetches.new ≤ fetches.old + length image.documents.items }
+    {
+        let ImageIndex {
+            uid: _,
+            key,
+            next_id,
+            paths,
+            settings,
+            documents,
+        } = image;
+        let rows = stored_rows(alloc, text_of(&key), documents)?;
+        let store = DocStore::restore(alloc, paths, next_id, rows)?;
+        let kept = rows_of_all(alloc, &store, &settings, fetches)?;
+        Ok(IndexCore {
+            key,
+            store,
+            words: QueryWords::of(alloc, &settings)?,
+            settings,
+            kept,
         })
     }
 }

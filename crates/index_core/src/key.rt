@@ -1,4 +1,4 @@
-ghost use Rattle.std.specs.Prelude.{◌≡◌, Ok, Some};
+ghost use Rattle.std.specs.Prelude.{◌≡◌, [], Ok, Some, IfOk, unwrap_or};
 ghost use Rattle.std.specs.Option.{option_copied};
 ghost use Rattle.search_base.specs.Gives.{Gives};
 ghost use Rattle.search_base.specs.Trying.{refused_as};
@@ -8,7 +8,7 @@ ghost use Rattle.index_core.specs.Plans.{key_for as key_of_change};
 
 use crate::refusal::{CoreFault, CoreRefusal};
 use doc_values::{DocumentText, KeyRefusal, infer_key};
-use search_base::{Fault, Word};
+use search_base::{Fault, NoMemory, Word};
 use std::alloc::Global;
 
 /// The primary key after a change: that of the index, the given one, or else that of the first document.
@@ -49,5 +49,25 @@ fn inferred(alloc: Global, text: &DocumentText) -> Result<Word, CoreFault>
             Err(Fault::Refused(CoreRefusal::SeveralCandidates))
         }
         Err(Fault::NoMemory) => Err(Fault::NoMemory),
+    }
+}
+
+/// A key that shares the text of another.
+pub(crate) fn copy_of(key: Option<&Word>) -> Result<Option<Word>, NoMemory>
+    ensures { IfOk result (λ copy. copy ≡ option_copied key.entry) }
+{
+    match key {
+        Some(key) => Ok(Some(key.clone()?)),
+        None => Ok(None),
+    }
+}
+
+/// The text of a key, and that of no bytes where there is none.
+pub(crate) fn text_of(key: &Option<Word>) -> &str
+    ensures { result.now ≡ unwrap_or key.now [] }
+{
+    match key {
+        Some(key) => key.as_str(),
+        None => "",
     }
 }

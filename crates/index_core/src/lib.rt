@@ -3,17 +3,19 @@
 //!
 //! Promises that a change is first planned, which tries the key and each id, or the members of a patch, and changes
 //! nothing, and then applied as one step that is done whole or not at all; and that a search gives the asked slice of
-//! the documents that match, by their costs and then by internal id, and reads no other document. Contracts see an
-//! `IndexCore` as an `Index`: its key, its store of paths and rows, and its settings. The costs of a document are
-//! those under the readings of the query, of which definitions know no graph. Stands on `doc_store`, which keeps the
-//! documents, on `doc_values`, which reads keys and ids off them, on `index_settings`, which patches settings, on
-//! `query_graph` and `synonym_terms`, which read queries, and on `doc_rows`, `packed_rows` and `row_search`, which
-//! keep what a search sees of documents and rank it.
+//! the documents that match, by their costs and then by internal id, and reads no other document. The rows of an image
+//! that an index gives are a state that may stand in an image, and give the index back. Contracts see an `IndexCore` as
+//! an `Index`: its key, its store of paths and rows, and its settings. The costs of a document are those under the
+//! readings of the query, of which definitions know no graph. Stands on `doc_store`, which keeps the documents, on
+//! `doc_values`, which reads keys and ids off them, on `index_settings`, which patches settings, on `query_graph` and
+//! `synonym_terms`, which read queries, on `doc_rows`, `packed_rows` and `row_search`, which keep what a search sees of
+//! documents and rank it, and on `index_image`, which has the rows of images.
 #![tactic(auto)]
 
 mod call;
 mod change;
 mod external_ids;
+mod image;
 mod index;
 mod kept;
 mod key;

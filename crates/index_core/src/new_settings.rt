@@ -1,14 +1,13 @@
-ghost use Rattle.std.specs.Prelude.{◌≡◌, ◌+◌, ◌≤◌, ◌++◌, ◌∷◌, [], length, true, false, None, slice_index_or, IfOk, IfSome, IfNone, OnOk, OnErr, if◌then◌else◌};
+ghost use Rattle.std.specs.Prelude.{◌≡◌, ◌+◌, ◌≤◌, ◌++◌, ◌∷◌, [], length, true, false, None, IfOk, IfSome, IfNone, OnOk, OnErr, if◌then◌else◌};
 ghost use Rattle.serde_json.specs.View.{view as data_of};
+ghost use Rattle.std.specs.Option.{is_some};
 ghost use Rattle.doc_store.specs.Sound.{IsSound};
+ghost use Rattle.doc_store.specs.Store.{row_at};
 ghost use Rattle.index_settings.specs.Patch.{patched};
 ghost use Rattle.index_settings.specs.Table.{defaults, patch_fault};
 ghost use Rattle.index_core.specs.Fetches.{use_alike as are_alike, LeavesUses};
-ghost use Rattle.index_core.specs.Kept.{AreOf, kept_of};
-ghost use Rattle.index_core.specs.Matching.{uses_from};
 ghost use Rattle.index_core.specs.QueryWords.{AreWordsOf, LeavesWords};
-ghost use Rattle.row_search.specs.Slots.{kept_from};
-ghost use Rattle.index_core.specs.Slots.{AreInSlots, rows_at, anew};
+ghost use Rattle.index_core.specs.Slots.{AreInSlots, rows_at};
 
 use crate::kept::stage_document;
 use crate::query_words::QueryWords;
@@ -141,7 +140,7 @@ fn settle<F>(
         *settings = others;
         return Ok(());
     }
-    *kept = rows_of_all(alloc, store, &others, kept, fetches)?;
+    *kept = rows_of_all(alloc, store, &others, fetches)?;
     *settings = others;
     Ok(())
 }
@@ -159,19 +158,15 @@ fn stay_alike(settings: &Settings, others: &Settings, paths: &[Word], may_differ
     }
 }
 
-// The rows of each stored document under these settings, in a table of their own. Each document is read once.
-fn rows_of_all<F>(
+/// The rows of each stored document under these settings, in a table of their own. Each document is read once.
+pub(crate) fn rows_of_all<F>(
     alloc: Global,
     store: &DocStore,
     settings: &Settings,
-    kept: &PackedSlots,
     fetches: &mut Steps<F>,
 ) -> Result<PackedSlots, NoMemory>
     requires sound { IsSound store.now.content }
-    requires kept { AreOf (kept_from 0 kept.now.slots) store.now.content }
-    requires few { length kept.now.slots ≤ 1000000 }
-    ensures rows { IfOk result (λ all. kept_from 0 all.slots ≡ kept_of settings.now store.now.content) }
-    ensures slots { IfOk result (λ all. length all.slots ≡ length kept.now.slots) }
+    ensures rows { IfOk result (λ all. AreInSlots all.slots settings.now store.now.content) }
     ensures staged { IfOk result (λ all. all.staged ≡ []) }
     ensures fetches { OnOk result (fetches.new ≡ fetches.old + length store.now.content.rows) }
     ensures at_most { fetches.new ≤ fetches.old + length store.now.content.rows }
@@ -179,44 +174,15 @@ fn rows_of_all<F>(
     let uses = uses_of(alloc, settings, store.paths())?;
     let uses = uses.as_slice();
     let mut all = PackedSlots::new(alloc);
-    all.reserve(kept.len())?;
-    for at in 0..kept.len() {
-        let id = DocId(at as u32);
-        add_slot(alloc, store, uses, id, kept, &mut all, fetches)?;
+    all.reserve(store.next_id() as usize)?;
+    for id in 0..store.next_id() {
+        add_slot(alloc, store, uses, DocId(id), &mut all, fetches)?;
     }
     Ok(all)
 }
 
-// The rows of the document in a slot anew, and an empty slot in place of an empty one.
+// The slot of an internal id: the rows of its document, or an empty one.
 fn add_slot<F>(
-    alloc: Global,
-    store: &DocStore,
-    uses: &[PathUse],
-    id: DocId,
-    kept: &PackedSlots,
-    all: &mut PackedSlots,
-    fetches: &mut Steps<F>,
-) -> Result<(), NoMemory>
-    requires few { length store.now.content.paths ≤ 1000 }
-    requires uses { length uses.now ≡ length store.now.content.paths }
-    requires staged { all.old.staged ≡ [] }
-    requires place { length all.old.slots ≡ id.0 }
-    ensures rows { OnOk result (all.new.slots
-        ≡ all.old.slots ++ anew id.0 uses.now store.now.content (slice_index_or kept.now.slots id.0 None) ∷ []) }
-    ensures staged { OnOk result (all.new.staged ≡ []) }
-    ensures fetches { OnOk result (fetches.new
-        ≡ fetches.old + length (kept_from id.0 (slice_index_or kept.now.slots id.0 None ∷ []))) }
-    ensures at_most { fetches.new
-        ≤ fetches.old + length (kept_from id.0 (slice_index_or kept.now.slots id.0 None ∷ [])) }
-{
-    if kept.has(id) {
-        return add_rows(alloc, store, uses, id, all, fetches);
-    }
-    all.push_empty()
-}
-
-// The rows of the document with an internal id, where there is one.
-fn add_rows<F>(
     alloc: Global,
     store: &DocStore,
     uses: &[PathUse],
@@ -230,8 +196,14 @@ fn add_rows<F>(
     requires place { length all.old.slots ≡ id.0 }
     ensures rows { OnOk result (all.new.slots ≡ all.old.slots ++ rows_at id.0 uses.now store.now.content ∷ []) }
     ensures staged { OnOk result (all.new.staged ≡ []) }
-    ensures fetches { fetches.new ≡ fetches.old + 1 }
+    ensures fetches { OnOk result (fetches.new
+        ≡ fetches.old + (if is_some (row_at id.0 store.now.content.rows) then 1 else 0)) }
+    ensures at_most { fetches.new
+        ≤ fetches.old + (if is_some (row_at id.0 store.now.content.rows) then 1 else 0) }
 {
+    if !store.holds(id) {
+        return all.push_empty();
+    }
     let text = store.fetch(id, fetches);
     let (Some(text), Some(external)) = (text, store.external(id)) else {
         return all.push_empty();

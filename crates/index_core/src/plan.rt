@@ -1,14 +1,16 @@
-ghost use Rattle.std.specs.Prelude.{◌≡◌, [], IfOk, IfErr};
+ghost use Rattle.std.specs.Prelude.{◌≡◌, ◌<◌, [], length, IfOk, IfErr, IfSome};
 ghost use Rattle.std.specs.Option.{option_copied};
 ghost use Rattle.serde_json.specs.View.{view as data_of};
 ghost use Rattle.search_base.specs.Gives.{Gives};
 ghost use Rattle.search_base.specs.declared.fault.Fault.TheVariants.{NoMemory as Memory};
+ghost use Rattle.index_image.specs.State.{IsPrimaryKey};
 ghost use Rattle.index_settings.specs.Table.{patch_fault};
-ghost use Rattle.index_core.specs.PlanView.{replace as replace_rows, update as update_rows, work_view, IsGood};
+ghost use Rattle.index_core.specs.Keyed.{IsReady};
+ghost use Rattle.index_core.specs.PlanView.{replace as replace_rows, update as update_rows, work_view};
 ghost use Rattle.index_core.specs.Plans.{documents_planned, patch_planned, plan_of};
 
 use crate::external_ids::rows_for;
-use crate::key::key_for;
+use crate::key::{copy_of, key_for};
 use crate::refusal::{CoreFault, CoreRefusal};
 use doc_store::StoreRow;
 use doc_values::DocumentText;
@@ -43,7 +45,8 @@ pub(crate) enum Work {
 }
 
 impl Model for Plan {
-    ghost use Rattle.index_core.specs.PlanView.{PlanView, plan_code, work_view, IsGood};
+    ghost use Rattle.index_core.specs.Keyed.{IsReady};
+    ghost use Rattle.index_core.specs.PlanView.{PlanView, plan_code, work_view};
 
     ghost Value = { PlanView };
 
@@ -51,7 +54,7 @@ impl Model for Plan {
 
     ghost view = { λ plan. record { key = plan.key; work = work_view plan.work } };
 
-    ghost invariant = { λ plan. IsGood (work_view plan.work) };
+    ghost invariant = { λ plan. IsReady plan.key (work_view plan.work) };
 }
 
 /// The documents of a change that stores them whole.
@@ -61,6 +64,8 @@ pub(crate) fn planned_replace(
     given: Option<Word>,
     documents: Vec<DocumentText>,
 ) -> Result<Plan, CoreFault>
+    requires own { IsPrimaryKey (option_copied own) }
+    requires given { IfSome given (λ text. 0 < length text) }
     ensures { Gives (λ plan. plan) result (documents_planned
         (option_copied own.entry) given documents.items replace_rows) }
 {
@@ -79,6 +84,8 @@ pub(crate) fn planned_update(
     given: Option<Word>,
     documents: Vec<DocumentText>,
 ) -> Result<Plan, CoreFault>
+    requires own { IsPrimaryKey (option_copied own) }
+    requires given { IfSome given (λ text. 0 < length text) }
     ensures { Gives (λ plan. plan) result (documents_planned
         (option_copied own.entry) given documents.items update_rows) }
 {
@@ -96,6 +103,7 @@ pub(crate) fn planned_patch(
     own: Option<&Word>,
     members: Value,
 ) -> Result<Plan, CoreFault>
+    requires own { IsPrimaryKey (option_copied own) }
     ensures { Gives (λ plan. plan) result (patch_planned (option_copied own.entry) (data_of members) (patch_fault
         (data_of members))) }
 {
@@ -108,14 +116,13 @@ pub(crate) fn planned_patch(
 
 /// The plan of work under the key that the index has.
 pub(crate) fn keeping_key(own: Option<&Word>, work: Work) -> Result<Plan, NoMemory>
-    requires { IsGood (work_view work) }
+    requires { IsReady (option_copied own) (work_view work) }
     ensures { IfOk result (λ plan. plan ≡ plan_of (option_copied own.entry) (work_view work)) }
 {
-    let key = match own {
-        Some(key) => Some(key.clone()?),
-        None => None,
-    };
-    Ok(Plan { key, work })
+    Ok(Plan {
+        key: copy_of(own)?,
+        work,
+    })
 }
 
 /// No document to store.

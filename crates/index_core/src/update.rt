@@ -3,6 +3,7 @@ ghost use Rattle.std.specs.Option.{option_copied, option_map};
 ghost use Rattle.doc_store.specs.Sound.{IsSound};
 ghost use Rattle.doc_store.specs.Store.{externals, id_of};
 ghost use Rattle.index_core.specs.Index.{document_under};
+ghost use Rattle.index_core.specs.Keyed.{AreReadBack};
 ghost use Rattle.index_core.specs.Plans.{is_named, over};
 ghost use Rattle.index_core.specs.Updating.{updated_rows, ArePlaces, last_of, or_else, reads};
 
@@ -25,6 +26,7 @@ pub(crate) fn update_rows<F>(
 ) -> Result<Vec<StoreRow>, NoMemory>
     requires { IsSound store.now.content }
     ensures rows { IfOk result (λ rows. rows.items ≡ updated_rows documents.items store.now.content) }
+    ensures back { OnOk result (AreReadBack documents.items) }
     ensures fetches { OnOk result (fetches.new ≡ fetches.old
         + length (filter (is_named (externals documents.items)) store.now.content.rows)) }
     ensures at_most { fetches.new ≤ fetches.old
@@ -34,6 +36,8 @@ pub(crate) fn update_rows<F>(
     let mut rows = Vec::with_capacity(alloc, documents.len())?;
     for row in documents {
         let StoreRow { external, document } = row;
+        // A document is read back from its text, so that each name stands in it once.
+        let _text = document.text();
         let before = rows.as_slice();
         let place = before.len();
         let document = updated(alloc, store, before, &places, &external, document, fetches)?;

@@ -280,9 +280,9 @@ impl Disk for MemoryDisk {
         ensures named { Contains self.old.failing self.old.number → IsErr result }
         ensures listed { OnErr result (Contains self.old.failing self.old.number ⊎ Rose self.old.starved self.new.starved) }
         ensures fed { OnOk result (self.new.starved ≡ self.old.starved) }
-        // It is kept, a write that fails too where there is memory for it.
+        // It is kept, also where it fails, unless that is for want of memory.
         ensures kept { OnOk result (self.new.calls ≡ self.old.calls ++ wrote at piece.now true ∷ []) }
-        ensures kept_failed { OnErr result ((self.new.calls ≡ self.old.calls) ⊎ (self.new.calls ≡ self.old.calls ++ wrote at piece.now false ∷ [])) }
+        ensures kept_failed { OnErr result ((Rose self.old.starved self.new.starved × (self.new.calls ≡ self.old.calls)) ⊎ (self.new.calls ≡ self.old.calls ++ wrote at piece.now false ∷ [])) }
         ensures rest { self.new ≡ record self.old {
           calls = self.new.calls;
           number = min (self.old.number + 1) (2 ^ 64 - 1);
@@ -313,9 +313,9 @@ impl Disk for MemoryDisk {
         ensures named { Contains self.old.failing self.old.number → IsErr result }
         ensures listed { OnErr result (Contains self.old.failing self.old.number ⊎ Rose self.old.starved self.new.starved) }
         ensures fed { OnOk result (self.new.starved ≡ self.old.starved) }
-        // It is kept, a cut that fails too where there is memory for it.
+        // It is kept, also where it fails, unless that is for want of memory.
         ensures kept { OnOk result (self.new.calls ≡ self.old.calls ++ shortened_to len true ∷ []) }
-        ensures kept_failed { OnErr result ((self.new.calls ≡ self.old.calls) ⊎ (self.new.calls ≡ self.old.calls ++ shortened_to len false ∷ [])) }
+        ensures kept_failed { OnErr result ((Rose self.old.starved self.new.starved × (self.new.calls ≡ self.old.calls)) ⊎ (self.new.calls ≡ self.old.calls ++ shortened_to len false ∷ [])) }
         ensures rest { self.new ≡ record self.old {
           calls = self.new.calls;
           number = min (self.old.number + 1) (2 ^ 64 - 1);

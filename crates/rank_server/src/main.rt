@@ -1,5 +1,6 @@
-//! The program: it hands its standard streams, a door to the ports of this machine and the words of its command line to
-//! the server, prints nothing of its own, and ends with the number of the status.
+//! The program: it hands its standard streams, a door to the ports of this machine, the files `search-a.dat` and
+//! `search-b.dat` of its working folder as the two disks, and the words of its command line to the server, prints
+//! nothing of its own, and ends with the number of the status.
 #![tactic(auto)]
 
 ghost use Rattle.std.specs.Prelude.{◌≡◌};
@@ -7,7 +8,7 @@ ghost use Rattle.std.specs.Process.{exit_status};
 ghost use Rattle.search_server.specs.Statuses.{number_of};
 
 use link_doors::TcpDoor;
-use outside_io::StdLink;
+use outside_io::{FileDisk, StdLink};
 use search_base::Steps;
 use search_server::{Status, run_search_server};
 use std::env;
@@ -33,12 +34,33 @@ fn exit_of(status: Status) -> ExitCode
     ExitCode::from(status.number())
 }
 
-fn main(rt: HostRuntime) -> ExitCode {
-    let mut pipe = StdLink::new(&rt);
-    let mut door = TcpDoor::new(&rt);
+// The disk over the file of this name. Its error is want of memory.
+fn disk(rt: &HostRuntime, name: &str) -> io::Result<FileDisk> {
+    Ok(FileDisk::new(rt, String::from_str(rt.alloc(), name)?))
+}
+
+// Does what the words ask for. Its error is that of the words, or want of memory, and then nothing was done.
+fn run(rt: &HostRuntime) -> io::Result<Status> {
+    let words = words(rt)?;
+    let mut pipe = StdLink::new(rt);
+    let mut door = TcpDoor::new(rt);
+    let mut disk_a = disk(rt, "search-a.dat")?;
+    let mut disk_b = disk(rt, "search-b.dat")?;
     let mut fetches: Steps<StoredDocument> = Steps::new();
-    let status = match words(&rt) {
-        Ok(words) => run_search_server(rt.alloc(), &words, &mut pipe, &mut door, &mut fetches),
+    Ok(run_search_server(
+        rt.alloc(),
+        &words,
+        &mut pipe,
+        &mut door,
+        &mut disk_a,
+        &mut disk_b,
+        &mut fetches,
+    ))
+}
+
+fn main(rt: HostRuntime) -> ExitCode {
+    let status = match run(&rt) {
+        Ok(status) => status,
         // A word that is no UTF-8 is none that the server knows.
         Err(e) => if e.kind() == ErrorKind::InvalidData {
             Status::BadWords

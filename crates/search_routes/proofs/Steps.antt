@@ -21,7 +21,6 @@ use Rattle.request_calls.specs.Calls.{call_of, IsCall}
 use Rattle.search_base.specs.Gives.{Fails, Checks}
 use Rattle.request_refusals.specs.declared.refusal.Refusal.TheVariants.{IndexExists}
 use Rattle.search_base.specs.Trying.{◌>>=◌, ◌>>◌, refuse_if, refused_as}
-use Rattle.http_wire.specs.Sent.{IsSentAs}
 use Rattle.index_core.specs.PlanView.{PlanView}
 use Rattle.index_core.specs.Plans.{planned, applied}
 use Rattle.index_core.specs.declared.call.Hit.{Hit as HeldFound}
@@ -31,7 +30,6 @@ use Rattle.index_core.specs.Found.{Found, found}
 use Rattle.index_core.specs.declared.refusal.SearchRefusal.{SearchRefusal}
 use Rattle.search_call.specs.SearchView.{SearchView}
 use Rattle.request_replies.specs.Shown.{view_of}
-use Rattle.request_replies.specs.Replies as replies
 use Rattle.request_replies.specs.Replies.{accepted}
 use Rattle.search_routes.specs.State.{State, Indexes}
 use Rattle.search_routes.specs.Machine.{Step, id_member_for, core_refusal, with_index, index_after, indexes_after, index_at, index_named, type_of, limits, created, hit_view, hits_answer, search_refusal, changed, filled, emptied, answer_to, outcome, told, is_full, unless_refused, step}

@@ -2,6 +2,7 @@
 use Rattle.std.specs.Prelude.{◌≡◌, ℕ, Bool, Some, None, Result, Ok, Err, if◌then◌else◌}
 use Rattle.doc_values.specs.Changes.{change_view}
 use Rattle.http_wire.specs.Reply.{Answer}
+use Rattle.http_wire.specs.Stream.{Request}
 use Rattle.http_wire.specs.Sent.{IsSentAs}
 use Rattle.http_wire.specs.declared.reply.Reply.{Reply}
 use Rattle.http_wire.specs.declared.reply.Reply.TheVariants.{Memory}
@@ -18,11 +19,16 @@ use Rattle.request_calls.specs.Refusals.{refused}
 use Rattle.search_routes.specs.State.{State}
 use Rattle.search_routes.specs.Machine.{Step, performed}
 use Rattle.search_routes.specs.Needs.{call_need}
-use Rattle.search_routes.specs.Chosen.{or_memory, answer_in, state_in}
+use Rattle.search_routes.specs.Chosen.{or_memory, answer_in, state_in, answer_of, state_after}
 
 -- the step was made, or there was no memory
 abbrev pub Makes : Step → State → Reply → State → Type 0
 Makes t old reply new = (starved : Bool) × IsSentAs reply (answer_in t starved) × (new ≡ state_in old t starved)
+
+-- the request had the reply of its step, and the state follows; or there was no memory
+abbrev pub Answered : State → Request → Reply → State → Type 0
+Answered old q reply new =
+    (starved : Bool) × IsSentAs reply (answer_of old q starved) × (new ≡ state_after old q starved)
 
 -- the call was performed, or there was no memory; a refused one has its reply
 abbrev pub Performs : State → Call → Reply → State → Type 0

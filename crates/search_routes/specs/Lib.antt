@@ -1,6 +1,9 @@
 pub mod State
 pub mod Machine
+pub mod Good
 pub mod Needs
 pub mod Chosen
 pub mod Done
+pub mod Images
+pub mod Redo
 pub mod Laws

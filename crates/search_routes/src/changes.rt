@@ -5,6 +5,7 @@ ghost use Rattle.std.specs.Result.{result_unwrap_or};
 ghost use Rattle.doc_values.specs.Changes.{kind_view, create, drop_index};
 ghost use Rattle.doc_values.specs.Ids.{key_of};
 ghost use Rattle.index_core.specs.Index.{empty_index};
+ghost use Rattle.index_core.specs.Keyed.{HasKey};
 ghost use Rattle.index_core.specs.Plans.{planned, applied, IsPlanFor};
 ghost use Rattle.index_core.specs.Fetches.{needed};
 ghost use Rattle.request_replies.specs.Replies.{accepted};
@@ -37,6 +38,7 @@ pub(crate) fn change_indexes<F>(
     change: Change,
     fetches: &mut Steps<F>,
 ) -> Result<Reply, Fault<Refusal>>
+    requires key { HasKey (kind_view change.kind) }
     ensures grows { Grows (indexes_after before indexes.old.entries change.uid (kind_view change.kind))
         (accepted change.uid (type_in (kind_view change.kind)) before) indexes.old.entries result indexes.new.entries }
     ensures room { OnOk result (before < most_changes) }
@@ -89,6 +91,7 @@ fn create_index<F>(
     key: Option<Word>,
     fetches: &mut Steps<F>,
 ) -> Result<Reply, Fault<Refusal>>
+    requires key { HasKey (create key) }
     ensures grows { Grows (indexes_after before indexes.old.entries uid (create key))
         (accepted uid (type_in (create key)) before) indexes.old.entries result indexes.new.entries }
     ensures room { OnOk result (before < most_changes) }
@@ -110,6 +113,7 @@ fn new_index<F>(
     key: Option<Word>,
     fetches: &mut Steps<F>,
 ) -> Result<IndexCore, NoMemory>
+    requires key { HasKey (create key) }
     ensures index { IfOk result (λ index. index
         ≡ record { key = key; store = empty_index.store; settings = empty_index.settings }) }
     ensures fetched { fetches.new ≤ fetches.old }
@@ -158,6 +162,7 @@ fn fill<F>(
     change: ChangeKind,
     fetches: &mut Steps<F>,
 ) -> Result<Reply, Fault<Refusal>>
+    requires key { HasKey (kind_view change) }
     ensures grows { Grows (filled before indexes.old.entries uid (kind_view change))
         (accepted uid (type_in (kind_view change)) before) indexes.old.entries result indexes.new.entries }
     ensures room { OnOk result (before < most_changes) }
@@ -197,6 +202,7 @@ fn empty<F>(
     change: ChangeKind,
     fetches: &mut Steps<F>,
 ) -> Result<Reply, Fault<Refusal>>
+    requires key { HasKey (kind_view change) }
     ensures grows { Grows (emptied before indexes.old.entries uid (kind_view change))
         (accepted uid (type_in (kind_view change)) before) indexes.old.entries result indexes.new.entries }
     ensures room { OnOk result (before < most_changes) }
@@ -218,6 +224,7 @@ fn change_index<F>(
     change: ChangeKind,
     fetches: &mut Steps<F>,
 ) -> Result<Reply, Fault<Refusal>>
+    requires key { HasKey (kind_view change) }
     ensures grows { Grows (index_after before is_full index.old (kind_view change))
         (accepted uid.now (type_in (kind_view change)) before) index.old result index.new }
     ensures room { OnOk result (before < most_changes) }
@@ -281,6 +288,7 @@ fn plan_of(
     key: &Word,
     change: ChangeKind,
 ) -> Result<Plan, Fault<Refusal>>
+    requires key { HasKey (kind_view change) }
     ensures plan { Gives (λ plan. plan) result
         (refused_as (core_refusal key.now) (planned index.now (kind_view change))) }
     ensures fits { IfOk result (λ plan. IsPlanFor plan index.now) }

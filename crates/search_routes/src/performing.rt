@@ -1,11 +1,14 @@
-ghost use Rattle.std.specs.Prelude.{◌≡◌, ◌+◌, ◌≤◌, Bool, IfOk};
+ghost use Rattle.std.specs.Prelude.{◌≡◌, ◌+◌, ◌<◌, ◌≤◌, Bool, IfOk};
 ghost use Rattle.http_wire.specs.Sent.{IsSentAs};
+ghost use Rattle.http_wire.specs.Stream.{Request};
 ghost use Rattle.http_wire.specs.Wire.{request_of};
-ghost use Rattle.request_calls.specs.Calls.{IsCall, call_of};
+ghost use Rattle.request_calls.specs.Calls.{IsAccepted, IsCall, OnChange, call_of};
 ghost use Rattle.request_calls.specs.Refusals.{refused};
-ghost use Rattle.search_routes.specs.Chosen.{or_memory, answer_of, state_after};
-ghost use Rattle.search_routes.specs.Done.{Answers, Performs, held_need};
+ghost use Rattle.search_routes.specs.Chosen.{or_memory};
+ghost use Rattle.search_routes.specs.Done.{Answered, Answers, Performs, held_need};
+ghost use Rattle.search_routes.specs.Machine.{most_changes};
 ghost use Rattle.search_routes.specs.Needs.{needed_fetches};
+ghost use Rattle.search_routes.specs.Redo.{IsRecordable};
 
 use crate::machine::Machine;
 use http_wire::{Reply, Wire};
@@ -20,8 +23,7 @@ use std::alloc::Global;
 /// so and the machine is as it was. The request is let go, with its body, before its call is performed. `fetches`
 /// counts the stored documents that are read: at most those that the request needs, by specs/Needs.antt.
 pub fn answer<F>(alloc: Global, machine: &mut Machine, wire: Wire, fetches: &mut Steps<F>) -> Reply
-    ensures answered { (starved : Bool) × IsSentAs result (answer_of machine.old (request_of wire) starved)
-        × (machine.new ≡ state_after machine.old (request_of wire) starved) }
+    ensures answered { Answered machine.old (request_of wire) result machine.new }
     ensures fetched { fetches.new ≤ fetches.old + needed_fetches machine.old (request_of wire) }
 {
     match take_call(alloc, wire) {
@@ -32,20 +34,28 @@ pub fn answer<F>(alloc: Global, machine: &mut Machine, wire: Wire, fetches: &mut
 
 // The call that a request is. The request is let go.
 fn take_call(alloc: Global, wire: Wire) -> Result<Call, NoMemory>
-    ensures { IfOk result (λ call. IsCall call (call_of (request_of wire))) }
+    ensures call { IfOk result (λ call. IsCall call (call_of (request_of wire))) }
+    ensures accepted { IfOk result (λ call. OnChange IsAccepted call) }
 {
     read_call(alloc, &wire)
 }
 
-/// Performs a call.
+/// Performs a call, of which a change is one that `read_call` accepts.
 ///
 /// The reply and the state after it are those of `performed` in specs/Machine.antt; or there was no memory, the reply
 /// says so and the machine is as it was. A call that is refused gives its own reply and changes nothing. A change takes
-/// its memory before it changes anything, that of its reply too, and is counted last. `fetches` counts the stored
-/// documents that are read: at most those that the call needs, by specs/Needs.antt.
+/// its memory before it changes anything, that of its reply too, and is counted last. A payload that records the change
+/// makes it again, by `Machine::redo`. `fetches` counts the stored documents that are read: at most those that the call
+/// needs, by specs/Needs.antt.
 pub fn perform<F>(alloc: Global, machine: &mut Machine, call: Call, fetches: &mut Steps<F>) -> Reply
+    requires accepted { OnChange IsAccepted call }
     ensures performed { Performs machine.old call result machine.new }
+    ensures answered { (q : Request) → IsCall call (call_of q) → Answered machine.old q result machine.new }
+    ensures recorded { IsRecordable call machine.old machine.new }
+    ensures room { machine.new.changes ≡ machine.old.changes + 1 → machine.old.changes < most_changes }
     ensures fetched { fetches.new ≤ fetches.old + held_need machine.old call }
+    ensures needed { (q : Request) → IsCall call (call_of q)
+        → fetches.new ≤ fetches.old + needed_fetches machine.old q }
 {
     match call {
         Call::Refused(reply) => reply,

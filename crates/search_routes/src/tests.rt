@@ -1,6 +1,9 @@
 use crate::{Machine, answer};
+use doc_values::DocumentText;
 use http_wire::{Reply, Wire};
-use search_base::{Steps, Word};
+use index_image::{ImageDocument, ImageIndex, ImageRows, encode};
+use index_settings::Settings;
+use search_base::{DocId, NoMemory, Steps, Word};
 use std::alloc::Global;
 use std::process::Abort;
 use std::str;
@@ -277,6 +280,49 @@ DELETE~/indexes/m~~400 {"code":"changes_spent","message":"No more changes.","typ
 POST~/indexes/m/documents~{}~400 {"code":"missing_document_id","message":"Document 1 has no `id`.",
 "type":"invalid_request"}"#;
 
+const IDS_SPENT: &str =
+    r#"POST~/indexes/m/documents~{"id":2}~400 {"code":"ids_spent","message":"No more documents.",
+"type":"invalid_request"}
+
+POST~/indexes/m/documents~{"id":1,"year":1999}~202 {"indexUid":"m","status":"succeeded","taskUid":5,
+"type":"documentAdditionOrUpdate"}"#;
+
+// Images of no indexes, of a new machine and of one that may take one more change.
+const NEW_IMAGE: [u8; 13] = [1, 0, 0, 0, 0, 0, 0, 0, 0, 0, 0, 0, 0];
+
+const LAST_CHANGE_IMAGE: [u8; 13] = [1, 0xff, 0xc9, 0x9a, 0x3b, 0, 0, 0, 0, 0, 0, 0, 0];
+
+// The machine of an image.
+fn opened(alloc: Global, image: &[u8]) -> Result<Machine, Fail> {
+    let mut fetches: Steps<()> = Steps::new();
+    Ok(Machine::open(alloc, image, &mut fetches)?)
+}
+
+// The image of an index whose last document has the last internal id.
+fn image_of_spent_ids(alloc: Global) -> Result<Vec<u8>, Fail> {
+    let mut paths = Vec::new(alloc);
+    paths.push(Word::new(alloc, "id")?)?;
+    let mut documents = Vec::new(alloc);
+    if let Some(document) = DocumentText::at(alloc, "{\"id\":1}".as_bytes())? {
+        let id = DocId(999_999);
+        documents.push(ImageDocument { id, document })?;
+    }
+    let mut indexes = Vec::new(alloc);
+    indexes.push(ImageIndex {
+        uid: Word::new(alloc, "m")?,
+        key: Some(Word::new(alloc, "id")?),
+        next_id: 1_000_000,
+        paths,
+        settings: Settings::defaults(alloc)?,
+        documents,
+    })?;
+    let rows = ImageRows {
+        changes: 5,
+        indexes,
+    };
+    Ok(encode(alloc, &rows)?)
+}
+
 // The status and the body of the reply to a request.
 fn reply_to(
     alloc: Global,
@@ -350,9 +396,26 @@ fn searches_filter_sort_count_and_page(rt: HostRuntime) -> Result<(), Fail> {
 }
 
 #[test]
+fn the_image_of_a_new_machine(rt: HostRuntime) -> Result<(), Fail> {
+    let alloc = rt.alloc();
+    let image = Machine::new(alloc)?.image(alloc)?;
+    assert!(rt; image.as_slice() == NEW_IMAGE.as_slice());
+    let machine = opened(alloc, &image)?;
+    assert_eq!(rt; machine.changes(), 0);
+    Ok(())
+}
+
+#[test]
+fn internal_ids_are_spent(rt: HostRuntime) -> Result<(), Fail> {
+    let alloc = rt.alloc();
+    let image = image_of_spent_ids(alloc)?;
+    let mut machine = opened(alloc, &image)?;
+    check_table(&rt, alloc, &mut machine, IDS_SPENT)
+}
+
+#[test]
 fn the_last_change_that_is_accepted(rt: HostRuntime) -> Result<(), Fail> {
-    let mut machine = Machine::new(rt.alloc())?;
-    machine.changes = 999_999_999;
+    let mut machine = opened(rt.alloc(), &LAST_CHANGE_IMAGE)?;
     check_table(&rt, rt.alloc(), &mut machine, CHANGES_SPENT)?;
     assert_eq!(rt; machine.changes(), 1_000_000_000);
     Ok(())

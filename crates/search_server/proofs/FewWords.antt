@@ -1,5 +1,5 @@
 -- Lists of few words.
-use Rattle.std.proofs.Common.{◌≡◌, ◌∙◌, ℕ, ◌<◌, ◌≤◌, true, false, Bool, Decides, List, [], ◌∷◌, length, get_or, bytes_eq, codes, sym, refl, arith, Option, Some, None, String, string_bytes}
+use Rattle.std.proofs.Common.{◌≡◌, ◌∙◌, ℕ, ◌<◌, ◌≤◌, true, false, Bool, Decides, List, [], ◌∷◌, length, get_or, bytes_eq, codes, refl, arith, None, String, string_bytes}
 use Rattle.std.proofs.lemmas.Slice.Eq.{bytes_eq-Decides}
 use Rattle.std.specs.declared.alloc.Global.{Global}
 use Rattle.search_server.specs.Words.{command_of}

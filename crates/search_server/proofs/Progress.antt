@@ -23,3 +23,5 @@ pub record LeftBy (kept : List ℕ) (last final : LinkState) : Type 0 where
   pub fetches : final.fetches ≡ last.fetches
   pub read_faults : final.read_faults ≡ last.read_faults
   pub write_faults : final.write_faults ≡ last.write_faults
+  pub disk_a : final.disk_a ≡ last.disk_a
+  pub disk_b : final.disk_b ≡ last.disk_b

@@ -1,5 +1,5 @@
 -- From turns to what serving a link did.
-use Rattle.std.proofs.Common.{◌≡◌, ℕ, ◌+◌, ◌-◌, ◌<◌, ◌≤◌, Bool, true, false, List, [], ◌∷◌, ◌++◌, length, take, Option, Some, None, IfSome, refl, ap, sym, ◌∙◌, subst, arith, inl, inr, append-nil}
+use Rattle.std.proofs.Common.{◌≡◌, ◌⊎◌, ℕ, ◌+◌, ◌-◌, ◌<◌, ◌≤◌, Bool, true, false, List, [], ◌∷◌, ◌++◌, length, take, Option, Some, None, IfSome, refl, ap, sym, ◌∙◌, subst, arith, inl, inr, append-nil}
 use Rattle.std.specs.Io.KnownBytes.{prepend_known, append_known}
 use Rattle.std.proofs.lemmas.List.{length-append}
 use Rattle.std.proofs.lemmas.Grind.{flat_map-append}
@@ -12,15 +12,18 @@ use Rattle.search_routes.specs.Chosen.{state_after}
 use Rattle.search_routes.specs.Needs.{needed_fetches}
 use Rattle.search_server.specs.LinkState.{LinkState}
 use Rattle.search_server.specs.Run.{Event, requests_of, replies, reply_to, after, end_replies}
-use Rattle.search_server.specs.Turns.{Replied, ReplyCut, NoneTaken, Quiet, TurnIs, end_by}
+use Rattle.search_server.specs.Turns.{Replied, ReplyCut, NotRecorded, NoneTaken, Quiet, TurnIs, end_by}
 use Rattle.search_server.specs.declared.status.LinkEnd.{LinkEnd}
 use Rattle.search_server.specs.declared.turn.Turn.{Turn}
 use Rattle.search_server.specs.declared.turn.Turn.TheVariants as turn
 use Rattle.search_server.specs.declared.status.Status.{Status}
 use Rattle.search_server.specs.declared.status.Status.TheVariants as link
-use Rattle.search_server.specs.Statuses.{IsCaused}
+use Rattle.change_journal.specs.Fits.{IsDue}
+use Rattle.durable_machine.specs.declared.machine.DurableMachine.{DurableMachine}
+use Rattle.search_server.specs.Passed.{PassedIfDue}
+use Rattle.search_server.specs.Statuses.{DiskRose, IsCaused, IsGoing}
 use Rattle.search_server.proofs.Progress.{Progress, LeftBy}
-use Rattle.search_server.specs.Served.{join, Went, Served, Answers, FirstAnswers, CutAnswers, GivenAnswers, IsUnfinished}
+use Rattle.search_server.specs.Served.{join, Went, Served, Answers, FirstAnswers, CutAnswers, GivenAnswers, IsUnfinished, Unrecorded}
 use Rattle.search_server.proofs.Runs.{follows_more, replies_more, after_more, needs_more, requests_more, known_rest, given_of}
 use Rattle.http_wire.proofs.Writes.{append_known-append}
 
@@ -208,6 +211,22 @@ reply_cut bytes start old new final n kept p less r l =
       told = (size, short, l.told ∙ told ∙ ap (λ v. append_known v (take size (reply_to (most_requests - n) old.state r.event))) p.told_is);
     }
 
+-- a disk failed at a request
+unrecorded : (bytes : List ℕ) (start old new final : LinkState) (n : ℕ) (kept : List ℕ) → Progress bytes start old n false → n < most_requests
+    → NotRecorded old new → LeftBy kept new final → Unrecorded bytes start final (n + 1)
+unrecorded bytes start old new final n kept p less r l =
+    let longer' : Longer bytes p.events r.event new.pending n = longer bytes start old n r.event new.pending p less r.takes.0 r.takes.1 r.takes.2 in
+    let went : Went start new (n + 1) (p.events ++ r.event ∷ []) = went_more start old new n p.events r.event p.went r.state r.fetched in
+    record {
+      front = p.events;
+      last = r.event;
+      went = went_so start new final (n + 1) (p.events ++ r.event ∷ []) went l.state l.fetches;
+      stream = record { left = most_requests - (n + 1); closed = r.event.request.closes; bytes = longer'.rest };
+      follows = longer'.follows;
+      told = l.told ∙ r.told ∙ p.told_is;
+      crash = rw (l.disk_a, l.disk_b, l.state, sym p.went.state) r.crash;
+    }
+
 -- an end for bytes that are open
 open_end : (left : ℕ) (bytes : List ℕ) → 0 < left → IsOpen bytes
     → (end : End) × IsUnfinished end × (end_replies end ≡ []) × Ends (record { left = left; closed = false; bytes = bytes }) end
@@ -241,38 +260,40 @@ given_answers bytes start old new final n kept p less q opens l =
 abbrev Promised : List ℕ → LinkState → LinkState → LinkEnd → Type 0
 Promised bytes start final end = Served bytes start final end.requests end.status
 
-as_end : (status : Status) (requests : ℕ) (end : LinkEnd) → (P : LinkEnd → Type 0) → Some (record { status = status; requests = requests }) ≡ Some end
-    → P (record { status = status; requests = requests }) → P end
-as_end status requests end P ends p = let same : record { status = status; requests = requests } ≡ end = cc in subst P same p
+as_end : (status : Status) (requests passed : ℕ) (end : LinkEnd) → (P : LinkEnd → Type 0) → Some (record { status = status; requests = requests; passed = passed }) ≡ Some end
+    → P (record { status = status; requests = requests; passed = passed }) → P end
+as_end status requests passed end P ends p = let same : record { status = status; requests = requests; passed = passed } ≡ end = cc in subst P same p
 
 -- what was written, by the turn that ended the link
-pub served_by : (bytes : List ℕ) (start old new final : LinkState) (n : ℕ) (kept : List ℕ) (t : Turn) (end : LinkEnd) → Progress bytes start old n false
-    → n < most_requests → TurnIs (most_requests - n) old new kept t → end_by n t ≡ Some end → LeftBy kept new final → Promised bytes start final end
-served_by bytes start old new final n kept turn.Next end p less is ends l = absurd (cc)
-served_by bytes start old new final n kept turn.Closed end p less is ends l =
+pub served_by : (bytes : List ℕ) (start old new final : LinkState) (n passed : ℕ) (kept : List ℕ) (t : Turn) (end : LinkEnd) → Progress bytes start old n false
+    → n < most_requests → TurnIs (most_requests - n) old new kept t → end_by n passed t ≡ Some end → LeftBy kept new final → Promised bytes start final end
+served_by bytes start old new final n passed kept turn.Next end p less is ends l = absurd (cc)
+served_by bytes start old new final n passed kept turn.Closed end p less is ends l =
     let on = goes_on bytes start old new n true p less is in
-    as_end link.Done (n + 1) end (Promised bytes start final) ends (closed, inr refl, ended bytes start new final (n + 1) true closed on refl refl l.told l.state l.fetches)
-served_by bytes start old new final n kept turn.End end p less (q, blank) ends l =
-    as_end link.Done n end (Promised bytes start final) ends (
+    as_end link.Done (n + 1) passed end (Promised bytes start final) ends (closed, inr refl, ended bytes start new final (n + 1) true closed on refl refl l.told l.state l.fetches)
+served_by bytes start old new final n passed kept turn.End end p less (q, blank) ends l =
+    as_end link.Done n passed end (Promised bytes start final) ends (
       between,
       inl refl,
       ended bytes start old final n false between p ((refl, awake n less), known_is old.pending p.rest IsBlank p.pending_is blank) refl
           (l.told ∙ q.told) (l.state ∙ q.none.state) (l.fetches ∙ q.none.fetches),
     )
-served_by bytes start old new final n kept (turn.CutShort size) end p less (q, some, part) ends l =
+served_by bytes start old new final n passed kept (turn.CutShort size) end p less (q, some, part) ends l =
     let here : IsPart p.rest × (size ≡ length p.rest) = known_is old.pending p.rest (λ xs. IsPart xs × (size ≡ length xs)) p.pending_is part in
-    as_end (link.CutShort size) n end (Promised bytes start final) ends
+    as_end (link.CutShort size) n passed end (Promised bytes start final) ends
     (ended bytes start old final n false (rest size) p ((refl, awake n less), here.0, here.1) refl (l.told ∙ q.told) (l.state ∙ q.none.state) (l.fetches ∙ q.none.fetches))
-served_by bytes start old new final n kept (turn.Bad kind number) end p less (q, wrong, told) ends l =
-    as_end (link.BadHead kind number) n end (Promised bytes start final) ends (bad_answers bytes start old new final n kind number kept p less q wrong told l)
-served_by bytes start old new final n kept turn.ReadFault end p less (q, opens, rose) ends l =
-    as_end link.ReadFault n end (Promised bytes start final) ends (given_answers bytes start old new final n kept p less q opens l)
-served_by bytes start old new final n kept turn.ReplyFault end p less (r, rose) ends l =
-    as_end link.WriteFault (n + 1) end (Promised bytes start final) ends (reply_cut bytes start old new final n kept p less r l)
-served_by bytes start old new final n kept (turn.RefusalFault kind number) end p less (q, wrong, told, rose) ends l =
-    as_end link.WriteFault n end (Promised bytes start final) ends (refusal_cut bytes start old new final n kind number kept p less q wrong told l)
-served_by bytes start old new final n kept turn.NoMemory end p less q ends l =
-    as_end link.NoMemory n end (Promised bytes start final) ends (record {
+served_by bytes start old new final n passed kept (turn.Bad kind number) end p less (q, wrong, told) ends l =
+    as_end (link.BadHead kind number) n passed end (Promised bytes start final) ends (bad_answers bytes start old new final n kind number kept p less q wrong told l)
+served_by bytes start old new final n passed kept turn.ReadFault end p less (q, opens, rose) ends l =
+    as_end link.ReadFault n passed end (Promised bytes start final) ends (given_answers bytes start old new final n kept p less q opens l)
+served_by bytes start old new final n passed kept turn.ReplyFault end p less (r, rose) ends l =
+    as_end link.WriteFault (n + 1) passed end (Promised bytes start final) ends (reply_cut bytes start old new final n kept p less r l)
+served_by bytes start old new final n passed kept (turn.RefusalFault kind number) end p less (q, wrong, told, rose) ends l =
+    as_end link.WriteFault n passed end (Promised bytes start final) ends (refusal_cut bytes start old new final n kind number kept p less q wrong told l)
+served_by bytes start old new final n passed kept turn.DiskFault end p less (r, rose) ends l =
+    as_end link.DiskFault (n + 1) passed end (Promised bytes start final) ends (unrecorded bytes start old new final n kept p less r l)
+served_by bytes start old new final n passed kept turn.NoMemory end p less q ends l =
+    as_end link.NoMemory n passed end (Promised bytes start final) ends (record {
       events = p.events;
       went = went_so start old final n p.events p.went (l.state ∙ q.none.state) (l.fetches ∙ q.none.fetches);
       stream = record { left = most_requests - n; closed = false; bytes = p.rest };
@@ -284,31 +305,69 @@ served_by bytes start old new final n kept turn.NoMemory end p less q ends l =
 abbrev Caused : LinkState → LinkState → LinkEnd → Type 0
 Caused start final end = IsCaused start final end.status
 
-pub caused_by : (start old new final : LinkState) (left n : ℕ) (kept : List ℕ) (t : Turn) (end : LinkEnd) → start.read_faults ≤ old.read_faults
-    → start.write_faults ≤ old.write_faults → TurnIs left old new kept t → end_by n t ≡ Some end → LeftBy kept new final → Caused start final end
-caused_by start old new final left n kept turn.Next end reads writes is ends l = absurd (cc)
-caused_by start old new final left n kept turn.Closed end reads writes is ends l = as_end link.Done (n + 1) end (Caused start final) ends tt
-caused_by start old new final left n kept turn.End end reads writes is ends l = as_end link.Done n end (Caused start final) ends tt
-caused_by start old new final left n kept (turn.CutShort size) end reads writes (q, some, part) ends l =
-    as_end (link.CutShort size) n end (Caused start final) ends some
-caused_by start old new final left n kept (turn.Bad kind number) end reads writes is ends l =
-    as_end (link.BadHead kind number) n end (Caused start final) ends tt
-caused_by start old new final left n kept turn.ReadFault end reads writes (q, opens, rose) ends l =
-    as_end link.ReadFault n end (Caused start final) ends (omega (arith, rose, reads, l.read_faults))
-caused_by start old new final left n kept turn.ReplyFault end reads writes (r, rose) ends l =
-    as_end link.WriteFault (n + 1) end (Caused start final) ends (omega (arith, rose, writes, l.write_faults))
-caused_by start old new final left n kept (turn.RefusalFault kind number) end reads writes (q, wrong, told, rose) ends l =
-    as_end link.WriteFault n end (Caused start final) ends (omega (arith, rose, writes, l.write_faults))
-caused_by start old new final left n kept turn.NoMemory end reads writes is ends l = as_end link.NoMemory n end (Caused start final) ends tt
+-- no count of faults fell
+pub record Later (start old : LinkState) : Type 0 where
+  pub reads : start.read_faults ≤ old.read_faults
+  pub writes : start.write_faults ≤ old.write_faults
+  pub disk_a : start.disk_a.faults ≤ old.disk_a.faults
+  pub disk_b : start.disk_b.faults ≤ old.disk_b.faults
+
+disk_rose : (start old new final : LinkState) (kept : List ℕ) → Later start old → DiskRose old.disk_a old.disk_b new.disk_a new.disk_b → LeftBy kept new final
+    → DiskRose start.disk_a start.disk_b final.disk_a final.disk_b
+disk_rose start old new final kept later (inl rose) l = let same = ap (λ d. d.faults) l.disk_a in inl (omega (arith, rose, later.disk_a, same))
+disk_rose start old new final kept later (inr rose) l = let same = ap (λ d. d.faults) l.disk_b in inr (omega (arith, rose, later.disk_b, same))
+
+pub caused_by : (start old new final : LinkState) (left n passed : ℕ) (kept : List ℕ) (t : Turn) (end : LinkEnd) → Later start old → TurnIs left old new kept t → end_by n passed t ≡ Some end → LeftBy kept new final → Caused start final end
+caused_by start old new final left n passed kept turn.Next end later is ends l = absurd (cc)
+caused_by start old new final left n passed kept turn.Closed end later is ends l = as_end link.Done (n + 1) passed end (Caused start final) ends tt
+caused_by start old new final left n passed kept turn.End end later is ends l = as_end link.Done n passed end (Caused start final) ends tt
+caused_by start old new final left n passed kept (turn.CutShort size) end later (q, some, part) ends l =
+    as_end (link.CutShort size) n passed end (Caused start final) ends some
+caused_by start old new final left n passed kept (turn.Bad kind number) end later is ends l =
+    as_end (link.BadHead kind number) n passed end (Caused start final) ends tt
+caused_by start old new final left n passed kept turn.ReadFault end later (q, opens, rose) ends l =
+    as_end link.ReadFault n passed end (Caused start final) ends (omega (arith, rose, later.reads, l.read_faults))
+caused_by start old new final left n passed kept turn.ReplyFault end later (r, rose) ends l =
+    as_end link.WriteFault (n + 1) passed end (Caused start final) ends (omega (arith, rose, later.writes, l.write_faults))
+caused_by start old new final left n passed kept (turn.RefusalFault kind number) end later (q, wrong, told, rose) ends l =
+    as_end link.WriteFault n passed end (Caused start final) ends (omega (arith, rose, later.writes, l.write_faults))
+caused_by start old new final left n passed kept turn.DiskFault end later (r, rose) ends l =
+    as_end link.DiskFault (n + 1) passed end (Caused start final) ends (disk_rose start old new final kept later rose l)
+caused_by start old new final left n passed kept turn.NoMemory end later is ends l = as_end link.NoMemory n passed end (Caused start final) ends tt
 
 -- a turn after which a link goes on
-pub replied_by : (old new : LinkState) (left n : ℕ) (kept : List ℕ) (t : Turn) → TurnIs left old new kept t → end_by n t ≡ None → Replied left old new false
-replied_by old new left n kept turn.Next is ends = is
-replied_by old new left n kept turn.Closed is ends = absurd (cc)
-replied_by old new left n kept turn.End is ends = absurd (cc)
-replied_by old new left n kept (turn.CutShort size) is ends = absurd (cc)
-replied_by old new left n kept (turn.Bad kind number) is ends = absurd (cc)
-replied_by old new left n kept turn.ReadFault is ends = absurd (cc)
-replied_by old new left n kept turn.ReplyFault is ends = absurd (cc)
-replied_by old new left n kept (turn.RefusalFault kind number) is ends = absurd (cc)
-replied_by old new left n kept turn.NoMemory is ends = absurd (cc)
+pub replied_by : (old new : LinkState) (left n passed : ℕ) (kept : List ℕ) (t : Turn) → TurnIs left old new kept t → end_by n passed t ≡ None → Replied left old new false
+replied_by old new left n passed kept turn.Next is ends = is
+replied_by old new left n passed kept turn.Closed is ends = absurd (cc)
+replied_by old new left n passed kept turn.End is ends = absurd (cc)
+replied_by old new left n passed kept (turn.CutShort size) is ends = absurd (cc)
+replied_by old new left n passed kept (turn.Bad kind number) is ends = absurd (cc)
+replied_by old new left n passed kept turn.ReadFault is ends = absurd (cc)
+replied_by old new left n passed kept turn.ReplyFault is ends = absurd (cc)
+replied_by old new left n passed kept (turn.RefusalFault kind number) is ends = absurd (cc)
+replied_by old new left n passed kept turn.DiskFault is ends = absurd (cc)
+replied_by old new left n passed kept turn.NoMemory is ends = absurd (cc)
+
+-- a turn that no disk failed in
+pub went_on : (n passed : ℕ) (t : Turn) (P : Type 0) → (t ≡ turn.DiskFault) ⊎ P → end_by n passed t ≡ None → P
+went_on n passed t P (inl fault) ends = absurd (cc)
+went_on n passed t P (inr is) ends = is
+
+pub ended_well : (n passed : ℕ) (t : Turn) (end : LinkEnd) (P : Type 0) → (t ≡ turn.DiskFault) ⊎ P → end_by n passed t ≡ Some end → IsGoing end.status → P
+ended_well n passed t end P (inl fault) ends going =
+    absurd (going (let same : Some (record { status = link.DiskFault; requests = n + 1; passed = passed }) ≡ Some end = subst (λ v. end_by n passed v ≡ Some end) fault ends in cc))
+ended_well n passed t end P (inr is) ends going = is
+
+-- one turn more
+pub due_later : (first old new : DurableMachine) (before passed : ℕ) → PassedIfDue first old before → before ≤ passed → PassedIfDue old new passed
+    → PassedIfDue first new passed
+due_later first old new before passed earlier later now due = or_before (now due)
+  where
+    or_first : (0 < before) ⊎ (IsDue first.journal × (old.machine ≡ first.machine)) → new.machine ≡ old.machine
+        → (0 < passed) ⊎ (IsDue first.journal × (new.machine ≡ first.machine))
+    or_first (inl some) same = inl (omega (arith, some, later))
+    or_first (inr (is, was)) same = inr (is, same ∙ was)
+
+    or_before : (0 < passed) ⊎ (IsDue old.journal × (new.machine ≡ old.machine)) → (0 < passed) ⊎ (IsDue first.journal × (new.machine ≡ first.machine))
+    or_before (inl some) = inl some
+    or_before (inr (is, same)) = or_first (earlier is) same

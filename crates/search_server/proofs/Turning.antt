@@ -1,6 +1,6 @@
 -- From the calls of a turn to what it did.
 use Rattle.std.proofs.Common.{◌≡◌, ◌≤◌, ◌+◌, ℕ, Bool, List, Option, ap, sym, ◌∙◌, subst}
-use Rattle.std.specs.Io.KnownBytes.{prepend_known, append_known}
+use Rattle.std.specs.Io.KnownBytes.{append_known}
 use Rattle.http_wire.specs.Stream.{Request}
 use Rattle.http_wire.specs.Stops.{TakesFront}
 use Rattle.http_wire.specs.Reply.{wire, WrotePart}
@@ -9,49 +9,43 @@ use Rattle.http_wire.specs.declared.reply.Reply.{Reply}
 use Rattle.search_routes.specs.State.{State}
 use Rattle.search_routes.specs.Chosen.{answer_of, state_after}
 use Rattle.search_routes.specs.Needs.{needed_fetches}
+use Rattle.search_server.specs.LinkState.{LinkState}
 use Rattle.search_server.specs.Run.{says_close, reply_to}
 use Rattle.search_server.specs.Turns.{Replied, ReplyCut}
 
--- what `perform` says
+-- what an answer says, where it came to a reply
 abbrev pub Performed : State → Request → State → Reply → Type 0
-Performed old q new reply = (starved : Bool) × IsSentAs reply (answer_of old q starved) × (new ≡ state_after old q starved)
+Performed old q new reply = (starved : Bool) × (new ≡ state_after old q starved) × IsSentAs reply (answer_of old q starved)
 
 -- the bytes that are sent are the reply to the event
 sent_reply : (left : ℕ) (old new : State) (q : Request) (reply : Reply) (says : Bool) (p : Performed old q new reply)
     → says ≡ says_close left q → sent reply says ≡ reply_to left old (record { request = q; starved = p.0 })
-sent_reply left old new q reply says p e = p.1.each says ∙ ap (λ v. wire (answer_of old q p.0) v) e
+sent_reply left old new q reply says p e = p.2.each says ∙ ap (λ v. wire (answer_of old q p.0) v) e
 
-pub turn_replied : (left : ℕ) (pending : Option (List ℕ)) (kept : List ℕ) (left1 left2 told0 told1 told2 : Option (List ℕ)) (s0 s1 : State) (f0 f1 r0 r1 w0 w1 : ℕ)
-    (q : Request) (reply : Reply) (says closes : Bool) → Performed s0 q s1 reply → f1 ≤ f0 + needed_fetches s0 q
-    → TakesFront pending q (prepend_known kept left1) → told1 ≡ told0 → left2 ≡ left1 → says ≡ says_close left q
-    → told2 ≡ append_known told1 (sent reply says) → q.closes ≡ closes
-    → Replied left (record { pending = pending; told = told0; state = s0; fetches = f0; read_faults = r0; write_faults = w0 }) (record { pending = prepend_known kept left2; told = told2; state = s1; fetches = f1; read_faults = r1; write_faults = w1 }) closes
-turn_replied left pending kept left1 left2 told0 told1 told2 s0 s1 f0 f1 r0 r1 w0 w1 q reply says closes p fetched takes same stays e told is =
-    let T : Option (List ℕ) → Type 0 = λ v. TakesFront pending q (prepend_known kept v) in
-    let W : List ℕ → Type 0 = λ v. told2 ≡ append_known told0 v in
-    let A : Option (List ℕ) → Type 0 = λ v. told2 ≡ append_known v (sent reply says) in
-    record {
-      event = record { request = q; starved = p.0 };
-      takes = subst T (sym stays) takes;
-      told = subst W (sent_reply left s0 s1 q reply says p e) (subst A same told);
-      state = p.2;
-      fetched = fetched;
-      closes_is = is;
-    }
+-- `pending` and `told` are those from behind the request and before the reply
+pub turn_replied : (left : ℕ) (old new : LinkState) (q : Request) (reply : Reply) (says closes : Bool) (pending told : Option (List ℕ))
+    → Performed old.state q new.state reply → new.fetches ≤ old.fetches + needed_fetches old.state q → TakesFront old.pending q pending
+    → new.pending ≡ pending → told ≡ old.told → says ≡ says_close left q → new.told ≡ append_known told (sent reply says) → q.closes ≡ closes
+    → Replied left old new closes
+turn_replied left old new q reply says closes pending told p fetched takes stays same e written is = record {
+  event = record { request = q; starved = p.0 };
+  takes = subst (λ v. TakesFront old.pending q v) (sym stays) takes;
+  told = subst (λ v. new.told ≡ append_known old.told v) (sent_reply left old.state new.state q reply says p e)
+      (subst (λ v. new.told ≡ append_known v (sent reply says)) same written);
+  state = p.1;
+  fetched = fetched;
+  closes_is = is;
+}
 
-pub turn_cut : (left : ℕ) (pending : Option (List ℕ)) (kept : List ℕ) (left1 left2 told0 told1 told2 : Option (List ℕ)) (s0 s1 : State) (f0 f1 r0 r1 w0 w1 : ℕ)
-    (q : Request) (reply : Reply) (says : Bool) → Performed s0 q s1 reply → f1 ≤ f0 + needed_fetches s0 q
-    → TakesFront pending q (prepend_known kept left1) → told1 ≡ told0 → left2 ≡ left1 → says ≡ says_close left q
-    → WrotePart told1 told2 (sent reply says)
-    → ReplyCut left (record { pending = pending; told = told0; state = s0; fetches = f0; read_faults = r0; write_faults = w0 }) (record { pending = prepend_known kept left2; told = told2; state = s1; fetches = f1; read_faults = r1; write_faults = w1 })
-turn_cut left pending kept left1 left2 told0 told1 told2 s0 s1 f0 f1 r0 r1 w0 w1 q reply says p fetched takes same stays e told =
-    let T : Option (List ℕ) → Type 0 = λ v. TakesFront pending q (prepend_known kept v) in
-    let W : List ℕ → Type 0 = λ v. WrotePart told0 told2 v in
-    let A : Option (List ℕ) → Type 0 = λ v. WrotePart v told2 (sent reply says) in
-    record {
-      event = record { request = q; starved = p.0 };
-      takes = subst T (sym stays) takes;
-      told = subst W (sent_reply left s0 s1 q reply says p e) (subst A same told);
-      state = p.2;
-      fetched = fetched;
-    }
+pub turn_cut : (left : ℕ) (old new : LinkState) (q : Request) (reply : Reply) (says : Bool) (pending told : Option (List ℕ))
+    → Performed old.state q new.state reply → new.fetches ≤ old.fetches + needed_fetches old.state q → TakesFront old.pending q pending
+    → new.pending ≡ pending → told ≡ old.told → says ≡ says_close left q → WrotePart told new.told (sent reply says)
+    → ReplyCut left old new
+turn_cut left old new q reply says pending told p fetched takes stays same e written = record {
+  event = record { request = q; starved = p.0 };
+  takes = subst (λ v. TakesFront old.pending q v) (sym stays) takes;
+  told = subst (λ v. WrotePart old.told new.told v) (sent_reply left old.state new.state q reply says p e)
+      (subst (λ v. WrotePart v new.told (sent reply says)) same written);
+  state = p.1;
+  fetched = fetched;
+}

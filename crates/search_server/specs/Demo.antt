@@ -10,7 +10,7 @@ use Rattle.search_routes.specs.Machine.{empty_state}
 use Rattle.search_routes.specs.Chosen.{answer_of, state_after}
 use Rattle.search_routes.specs.Needs.{needed_fetches}
 use Rattle.search_server.specs.declared.status.Status.{Status}
-use Rattle.search_server.specs.declared.status.Status.TheVariants.{Done, BadWords, ReadFault, WriteFault, DoorFault, CutShort, BadHead, RequestsSpent, NoMemory}
+use Rattle.search_server.specs.declared.status.Status.TheVariants.{Done, BadWords, ReadFault, WriteFault, DoorFault, DiskFault, Damaged, CutShort, BadHead, RequestsSpent, NoMemory}
 
 -- each request with the body of the reply to it, by the machine that the ones before left
 abbrev pub replied : State → List DemoStep → List (DemoStep × List ℕ)
@@ -40,6 +40,8 @@ Printed text old new NoMemory = new.told ≡ old.told
 Printed text old new BadWords = ⊥
 Printed text old new ReadFault = ⊥
 Printed text old new DoorFault = ⊥
+Printed text old new DiskFault = ⊥
+Printed text old new (Damaged disk place found) = ⊥
 Printed text old new (CutShort size) = ⊥
 Printed text old new (BadHead kind number) = ⊥
 Printed text old new RequestsSpent = ⊥

@@ -3,6 +3,8 @@ pub mod Demo
 pub mod LinkState
 pub mod Lines
 pub mod Links
+pub mod Opening
+pub mod Passed
 pub mod Run
 pub mod Served
 pub mod Statuses

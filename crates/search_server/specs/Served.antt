@@ -9,12 +9,13 @@ use Rattle.http_wire.specs.Stream.{Stream, End, between, closed, spent, rest, ba
 use Rattle.http_wire.specs.Reply.{wire, refusal_answer, WrotePart}
 use Rattle.http_wire.specs.declared.HeadKind.{HeadKind}
 use Rattle.search_routes.specs.State.{State}
+use Rattle.durable_machine.specs.Durable.{CrashHolds}
 use Rattle.search_server.specs.LinkState.{LinkState}
 use Rattle.search_server.specs.Run.{Event, requests_of, replies, after, needs, written}
-use Rattle.search_server.specs.Statuses.{IsCaused}
+use Rattle.search_server.specs.Statuses.{IsCaused, IsGoing}
 use Rattle.search_server.specs.declared.status.LinkEnd.{LinkEnd}
 use Rattle.search_server.specs.declared.status.Status.{Status}
-use Rattle.search_server.specs.declared.status.Status.TheVariants.{Done, BadWords, ReadFault, WriteFault, DoorFault, CutShort, BadHead, RequestsSpent, NoMemory}
+use Rattle.search_server.specs.declared.status.Status.TheVariants.{Done, BadWords, ReadFault, WriteFault, DoorFault, DiskFault, Damaged, CutShort, BadHead, RequestsSpent, NoMemory}
 
 -- pieces one after the other
 abbrev pub join : List (List ℕ) → List ℕ
@@ -77,11 +78,25 @@ pub record GivenAnswers (bytes : List ℕ) (old new : LinkState) (n : ℕ) : Typ
   pub unfinished : IsUnfinished end
   pub answers : Answers given old new n end
 
+-- A disk failed at the last request: the replies to all before it are written, and no byte of its own. Whatever a crash
+-- may now leave on the disks holds the state before that request or the one after it.
+pub record Unrecorded (bytes : List ℕ) (old new : LinkState) (n : ℕ) : Type 0 where
+  pub front : List Event
+  pub last : Event
+  pub went : Went old new n (front ++ last ∷ [])
+  pub stream : Stream
+  pub follows : Follows (fresh bytes) (requests_of (front ++ last ∷ [])) stream
+  pub told : new.told ≡ append_known old.told (join (replies most_requests old.state front))
+  pub crash : CrashHolds new.disk_a.contents new.disk_b.contents
+      (λ t. (t ≡ after old.state front) ⊎ (t ≡ new.state))
+
 -- what was written, where the link tells its bytes
 abbrev pub Served : List ℕ → LinkState → LinkState → ℕ → Status → Type 0
 Served bytes old new n Done = (end : End) × IsDone end × Answers bytes old new n end
 Served bytes old new n BadWords = ⊥
 Served bytes old new n DoorFault = ⊥
+Served bytes old new n DiskFault = Unrecorded bytes old new n
+Served bytes old new n (Damaged disk place found) = ⊥
 Served bytes old new n (CutShort size) = Answers bytes old new n (rest size)
 Served bytes old new n (BadHead kind number) = Answers bytes old new n (bad kind number)
 Served bytes old new n RequestsSpent = Answers bytes old new n spent
@@ -89,7 +104,9 @@ Served bytes old new n ReadFault = GivenAnswers bytes old new n
 Served bytes old new n WriteFault = CutAnswers bytes old new n
 Served bytes old new n NoMemory = FirstAnswers bytes old new n
 
--- The wire promise. Whether the link tells its bytes or not, it ends with a cause.
+-- The wire promise. Whether the link tells its bytes or not, it ends with a cause; and where no disk failed, whatever a
+-- crash may now leave on the disks holds the state after all requests, each of which had its reply begun.
 pub record Serves (old new : LinkState) (end : LinkEnd) : Type 0 where
   pub promise : (bytes : List ℕ) → old.pending ≡ Some bytes → Served bytes old new end.requests end.status
   pub cause : IsCaused old new end.status
+  pub crash : IsGoing end.status → CrashHolds new.disk_a.contents new.disk_b.contents (λ t. t ≡ new.state)

@@ -1,5 +1,5 @@
 -- One turn of a link: one request and its reply.
-use Rattle.std.specs.Prelude.{◌≡◌, ◌<◌, ◌≤◌, ◌+◌, ℕ, Bool, true, false, List, Option, Some, None, IfSome, length}
+use Rattle.std.specs.Prelude.{◌≡◌, ◌⊎◌, ◌<◌, ◌≤◌, ◌+◌, ℕ, Bool, true, false, List, Option, Some, None, IfSome, length}
 use Rattle.std.specs.Io.KnownBytes.{append_known}
 use Rattle.outside_io.specs.Faults.{Rose}
 use Rattle.http_wire.specs.Stream.{IsPart, IsBad, IsOpen}
@@ -8,13 +8,15 @@ use Rattle.http_wire.specs.Stops.{TakesFront}
 use Rattle.http_wire.specs.Reply.{wire, refusal_answer, WrotePart}
 use Rattle.search_routes.specs.Chosen.{state_after}
 use Rattle.search_routes.specs.Needs.{needed_fetches}
+use Rattle.durable_machine.specs.Durable.{CrashHolds}
 use Rattle.search_server.specs.LinkState.{LinkState}
 use Rattle.search_server.specs.Run.{Event, reply_to}
+use Rattle.search_server.specs.Statuses.{DiskRose}
 use Rattle.search_server.specs.declared.status.LinkEnd.{LinkEnd}
 use Rattle.search_server.specs.declared.status.Status.{Status}
 use Rattle.search_server.specs.declared.status.Status.TheVariants as link
 use Rattle.search_server.specs.declared.turn.Turn.{Turn}
-use Rattle.search_server.specs.declared.turn.Turn.TheVariants.{Next, Closed, End, CutShort, Bad, ReadFault, ReplyFault, RefusalFault, NoMemory}
+use Rattle.search_server.specs.declared.turn.Turn.TheVariants.{Next, Closed, End, CutShort, Bad, ReadFault, ReplyFault, RefusalFault, DiskFault, NoMemory}
 
 -- a request was taken, and its reply was written
 pub record Replied (left : ℕ) (old new : LinkState) (closes : Bool) : Type 0 where
@@ -32,6 +34,15 @@ pub record ReplyCut (left : ℕ) (old new : LinkState) : Type 0 where
   pub told : WrotePart old.told new.told (reply_to left old.state event)
   pub state : new.state ≡ state_after old.state event.request event.starved
   pub fetched : new.fetches ≤ old.fetches + needed_fetches old.state event.request
+
+-- a request was taken, and nothing was written, since a disk failed: a crash may leave the state before it or after it
+pub record NotRecorded (old new : LinkState) : Type 0 where
+  pub event : Event
+  pub takes : TakesFront old.pending event.request new.pending
+  pub told : new.told ≡ old.told
+  pub state : new.state ≡ state_after old.state event.request event.starved
+  pub fetched : new.fetches ≤ old.fetches + needed_fetches old.state event.request
+  pub crash : CrashHolds new.disk_a.contents new.disk_b.contents (λ t. (t ≡ old.state) ⊎ (t ≡ new.state))
 
 -- no request was taken
 pub record NoneTaken (old new : LinkState) : Type 0 where
@@ -58,19 +69,22 @@ TurnIs left old new kept ReplyFault = ReplyCut left old new × Rose old.write_fa
 TurnIs left old new kept (RefusalFault kind number) =
     NoneTaken old new × IfSome old.pending (λ xs. IsBad xs kind number)
     × WrotePart old.told new.told (wire (refusal_answer kind) true) × Rose old.write_faults new.write_faults
+TurnIs left old new kept DiskFault = NotRecorded old new × DiskRose old.disk_a old.disk_b new.disk_a new.disk_b
 TurnIs left old new kept NoMemory = Quiet old new
 
-abbrev pub ended : Status → ℕ → Option LinkEnd
-ended status requests = Some (record { status = status; requests = requests })
+abbrev pub ended : Status → ℕ → ℕ → Option LinkEnd
+ended status requests passed = Some (record { status = status; requests = requests; passed = passed })
 
--- how a link ends by a turn, where so many requests were read before it, if it does not go on
-abbrev pub end_by : ℕ → Turn → Option LinkEnd
-end_by before Next = None
-end_by before Closed = ended link.Done (before + 1)
-end_by before End = ended link.Done before
-end_by before (CutShort size) = ended (link.CutShort size) before
-end_by before (Bad kind number) = ended (link.BadHead kind number) before
-end_by before ReadFault = ended link.ReadFault before
-end_by before ReplyFault = ended link.WriteFault (before + 1)
-end_by before (RefusalFault kind number) = ended link.WriteFault before
-end_by before NoMemory = ended link.NoMemory before
+-- how a link ends by a turn, where so many requests were read before it and so many checkpoints were passed over up to
+-- now, if it does not go on
+abbrev pub end_by : ℕ → ℕ → Turn → Option LinkEnd
+end_by before passed Next = None
+end_by before passed Closed = ended link.Done (before + 1) passed
+end_by before passed End = ended link.Done before passed
+end_by before passed (CutShort size) = ended (link.CutShort size) before passed
+end_by before passed (Bad kind number) = ended (link.BadHead kind number) before passed
+end_by before passed ReadFault = ended link.ReadFault before passed
+end_by before passed ReplyFault = ended link.WriteFault (before + 1) passed
+end_by before passed (RefusalFault kind number) = ended link.WriteFault before passed
+end_by before passed DiskFault = ended link.DiskFault (before + 1) passed
+end_by before passed NoMemory = ended link.NoMemory before passed

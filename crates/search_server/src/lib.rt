@@ -1,14 +1,17 @@
-//! The server: it serves a link from a machine, the links of a door one after the other, and shows the demo, as the
-//! words of the command line ask.
-//!
-//! The wire promise is the clause `promise` of `serve_link`, and `pipe` of `run_search_server`: the bytes written on a
-//! link are the replies of the plain machine to the requests in the bytes read, by the status with which it ended
-//! (`specs/Served.antt`). Its clause `serve` says that links are taken in the door's order, that each is served by that
-//! promise from the state that the one before left and given back once, and that a line for each is written to the pipe
-//! (`specs/Links.antt`); its clause `demo`, that what is printed are the totals and ids that the machine answers to the
-//! demo's requests (`specs/Demo.antt`). Contracts see `LinkEnd`, `Status` and `Command` as they are. Stands on
-//! `search_routes` for the machine, `http_wire` for the bytes, `outside_io` and `link_doors` for links and doors, and
-//! `demo_input` for the demo.
+//! The server: it opens the machine that two disks hold, serves a link from it, or the links of a door one after the
+//! other, and shows the demo, as the words of the command line ask.  The wire promise is the clause `promise` of
+//! `serve_link`, and `pipe` of `run_search_server`: the bytes written on a link are the replies of the plain machine
+//! to the requests in the bytes read, by the status with which it ended (`specs/Served.antt`). The crash promise
+//! stands beside it: an accepted change is recorded before its reply is begun. So whatever a crash may now leave on
+//! the disks holds the state after all requests; where a disk failed, that state or the one before the last request,
+//! of whose reply no byte was written. The clause `serve` says that links are taken in the door's order, that each is
+//! served by these promises from what the one before left and given back once, and that a line for each is written to
+//! the pipe, save for one at which a disk failed (`specs/Links.antt`). Both clauses say how the machine was opened,
+//! or why it was not (`specs/Opening.antt`); the clause `demo`, that what is printed are the totals and ids that a
+//! machine answers to the demo's requests (`specs/Demo.antt`). Contracts see `LinkEnd`, `Status` and `Command` as
+//! they are. Stands on `durable_machine` for the machine on its disks, `change_journal` for why it was not opened,
+//! `search_routes` for the machine of the demo, `http_wire` for the bytes, `outside_io` and `link_doors` for links,
+//! disks and doors, and `demo_input` for the demo.
 #![tactic(auto)]
 
 mod demo;

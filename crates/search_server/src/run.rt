@@ -1,175 +1,104 @@
 // What the program does for the words of the command line.
-ghost use Rattle.std.specs.Prelude.{◌≡◌, ◌↔◌, ◌≤◌, ℕ, Some, None, false};
-ghost use Rattle.search_routes.specs.State.{State};
-ghost use Rattle.search_routes.specs.Machine.{empty_state};
+ghost use Rattle.std.specs.Prelude.{◌≡◌, ◌↔◌, ◌≤◌, ℕ, Some, None, false, IfErr, IfOk};
+ghost use Rattle.change_journal.specs.Fits.{IsSettled};
+ghost use Rattle.durable_machine.specs.Durable.{IsDurable};
+ghost use Rattle.search_server.specs.LinkState.{link_state, shared_state};
 ghost use Rattle.search_server.specs.Served.{Serves};
-ghost use Rattle.search_server.specs.Links.{ServesDoor};
+ghost use Rattle.search_server.specs.Links.{ServesDoor, door_state};
 ghost use Rattle.search_server.specs.Demo.{ShowsDemo};
+ghost use Rattle.search_server.specs.Opening.{NotOpened, Opened, OpensAndServes, unopened_state};
 ghost use Rattle.search_server.specs.Words.{command_of};
 
 use crate::demo::show_demo;
 use crate::links::serve_links;
 use crate::words::{Command, command_of};
 use crate::{Status, serve_link};
+use change_journal::JournalFault;
+use durable_machine::DurableMachine;
 use link_doors::Door;
-use outside_io::{Failed, Link};
+use outside_io::{Disk, Failed, Link};
 use search_base::Steps;
-use search_routes::Machine;
 use std::alloc::Global;
 
-// Serves a link from a machine that holds nothing.
-fn serve_pipe<P: Link, F>(alloc: Global, pipe: &mut P, fetches: &mut Steps<F>) -> Status
-    ensures promise { (end : State) × (requests : ℕ) × Serves
-        (record {
-          pending = P.left pipe.old;
-          told = P.told pipe.old;
-          state = empty_state;
-          fetches = fetches.old;
-          read_faults = P.read_faults pipe.old;
-          write_faults = P.write_faults pipe.old;
-        })
-        (record {
-          pending = P.left pipe.new;
-          told = P.told pipe.new;
-          state = end;
-          fetches = fetches.new;
-          read_faults = P.read_faults pipe.new;
-          write_faults = P.write_faults pipe.new;
-        })
-        (record { status = result; requests = requests }) }
-    ensures read_later { P.read_faults pipe.old ≤ P.read_faults pipe.new }
-    ensures write_later { P.write_faults pipe.old ≤ P.write_faults pipe.new }
-{
-    match Machine::new(alloc) {
-        Err(_) => Status::NoMemory,
-        Ok(mut machine) => serve_link(alloc, &mut machine, pipe, fetches).status,
-    }
-}
-
-// Opens a door and serves so many of its links, from a machine that holds nothing.
-fn serve_door<P: Link, D: Door, F>(
+// Opens the machine that two disks hold, or says how the program ends.
+fn open_machine<K: Disk, F>(
     alloc: Global,
-    port: u16,
-    connections: u32,
-    pipe: &mut P,
-    door: &mut D,
+    disk_a: &mut K,
+    disk_b: &mut K,
     fetches: &mut Steps<F>,
-) -> Status
-    requires none_out { D.is_out door.old ≡ false }
-    ensures promise { (end : State) × ServesDoor
-        (λ link state count. record {
-          pending = D.Link.left link;
-          told = D.Link.told link;
-          state = state;
-          fetches = count;
-          read_faults = D.Link.read_faults link;
-          write_faults = D.Link.write_faults link;
-        })
-        connections
-        (record {
-          state = empty_state;
-          fetches = fetches.old;
-          coming = D.coming door.old;
-          returned = D.returned door.old;
-          told = P.told pipe.old;
-          door_faults = D.door_faults door.old;
-          write_faults = P.write_faults pipe.old;
-        })
-        (record {
-          state = end;
-          fetches = fetches.new;
-          coming = D.coming door.new;
-          returned = D.returned door.new;
-          told = P.told pipe.new;
-          door_faults = D.door_faults door.new;
-          write_faults = P.write_faults pipe.new;
-        })
-        result }
-    ensures none_out { D.is_out door.new ≡ false }
-    ensures left { P.left pipe.new ≡ P.left pipe.old }
-    ensures read_faults { P.read_faults pipe.new ≡ P.read_faults pipe.old }
-    ensures write_later { P.write_faults pipe.old ≤ P.write_faults pipe.new }
+) -> Result<DurableMachine, Status>
+    requires settled_a { IsSettled (K.contents disk_a.old) }
+    requires settled_b { IsSettled (K.contents disk_b.old) }
+    ensures opened { IfOk result (λ machine. Opened
+        (unopened_state K.contents K.disk_faults fetches.old disk_a.old disk_b.old)
+        (shared_state K.contents K.disk_faults machine.machine fetches.new disk_a.new disk_b.new)) }
+    ensures durable { IfOk result (λ machine. IsDurable machine (K.contents disk_a.new) (K.contents disk_b.new)) }
+    ensures not_opened { IfErr result (λ status. NotOpened
+        (unopened_state K.contents K.disk_faults fetches.old disk_a.old disk_b.old)
+        (unopened_state K.contents K.disk_faults fetches.new disk_a.new disk_b.new)
+        status) }
+    ensures later_a { K.disk_faults disk_a.old ≤ K.disk_faults disk_a.new }
+    ensures later_b { K.disk_faults disk_b.old ≤ K.disk_faults disk_b.new }
 {
-    let Ok(mut machine) = Machine::new(alloc) else {
-        return Status::NoMemory;
-    };
-    match door.open(port) {
-        Err(Failed) => Status::DoorFault,
-        Ok(()) => serve_links(alloc, &mut machine, connections, pipe, door, fetches),
+    match DurableMachine::opened(alloc, disk_a, disk_b, fetches) {
+        Ok(machine) => Ok(machine),
+        Err(JournalFault::DiskFault) => Err(Status::DiskFault),
+        Err(JournalFault::Damaged { disk, place, found }) => Err(Status::Damaged {
+            disk,
+            place,
+            found,
+        }),
+        Err(JournalFault::NoMemory) => Err(Status::NoMemory),
     }
 }
 
 /// Does what the words of the command line, after the program's own name, ask for.
 ///
-/// `pipe` serves the link from a machine that holds nothing, as `serve_link` says. `serve PORT CONNECTIONS` opens the
-/// door and serves so many of its links from a machine that holds nothing, as `serve_links` says. `demo COUNT SEED`
-/// prints what a machine answers to the demo, as `show_demo` says. `BadWords` comes exactly for all other words, and
-/// then nothing is touched; `pipe` and `demo` leave the door as it was. `fetches` counts the stored documents that are
-/// read.
-pub fn run_search_server<P: Link, D: Door, F>(
+/// `pipe` opens the machine that the two disks hold and serves the link from it, as `serve_link` says. `serve PORT
+/// CONNECTIONS` opens the machine and then the door, and serves so many of its links, as `serve_links` says. Where no
+/// machine is opened, nothing else is done: `DiskFault`, a disk's count of faults rose; `Damaged`, the first byte that
+/// is damaged; or `NoMemory`; and whatever a crash may leave still holds what the disks held. `demo COUNT SEED` prints
+/// what a machine that holds nothing answers to the demo, as `show_demo` says. `BadWords` comes exactly for all other
+/// words, and then nothing is touched; `pipe` leaves the door as it was, and `demo` the door and the disks. `fetches`
+/// counts the stored documents that are read.
+///
+/// `ReadFault`, `CutShort`, `BadHead` and `RequestsSpent` come with `pipe` alone, `DoorFault` with `serve` alone,
+/// `DiskFault` and `Damaged` with these two.
+pub fn run_search_server<P: Link, D: Door, K: Disk, F>(
     alloc: Global,
     words: &[String],
     pipe: &mut P,
     door: &mut D,
+    disk_a: &mut K,
+    disk_b: &mut K,
     fetches: &mut Steps<F>,
 ) -> Status
     requires none_out { D.is_out door.old ≡ false }
+    requires settled_a { IsSettled (K.contents disk_a.old) }
+    requires settled_b { IsSettled (K.contents disk_b.old) }
     ensures bad_words { (result ≡ Status.BadWords) ↔ (command_of words.now ≡ None) }
-    ensures untouched { command_of words.now ≡ None
-        → (pipe.new ≡ pipe.old) × (door.new ≡ door.old) × (fetches.new ≡ fetches.old) }
-    ensures pipe { command_of words.now ≡ Some Command.Pipe → (door.new ≡ door.old)
-        × (end : State) × (requests : ℕ) × Serves
-        (record {
-          pending = P.left pipe.old;
-          told = P.told pipe.old;
-          state = empty_state;
-          fetches = fetches.old;
-          read_faults = P.read_faults pipe.old;
-          write_faults = P.write_faults pipe.old;
-        })
-        (record {
-          pending = P.left pipe.new;
-          told = P.told pipe.new;
-          state = end;
-          fetches = fetches.new;
-          read_faults = P.read_faults pipe.new;
-          write_faults = P.write_faults pipe.new;
-        })
-        (record { status = result; requests = requests }) }
+    ensures untouched { command_of words.now ≡ None → (pipe.new ≡ pipe.old) × (door.new ≡ door.old)
+        × (disk_a.new ≡ disk_a.old) × (disk_b.new ≡ disk_b.old) × (fetches.new ≡ fetches.old) }
+    ensures pipe { command_of words.now ≡ Some Command.Pipe → (door.new ≡ door.old) × OpensAndServes
+        (unopened_state K.contents K.disk_faults fetches.old disk_a.old disk_b.old)
+        (unopened_state K.contents K.disk_faults fetches.new disk_a.new disk_b.new)
+        result (pipe.new ≡ pipe.old)
+        (λ found left. (requests passed : ℕ) × Serves
+        (link_state P.left P.told P.read_faults P.write_faults pipe.old found)
+        (link_state P.left P.told P.read_faults P.write_faults pipe.new left)
+        (record { status = result; requests = requests; passed = passed })) }
     ensures serve { (port connections : ℕ) → command_of words.now ≡ Some (Command.Serve port connections)
-        → (P.left pipe.new ≡ P.left pipe.old) × (P.read_faults pipe.new ≡ P.read_faults pipe.old)
-        × (end : State) × ServesDoor
-        (λ link state count. record {
-          pending = D.Link.left link;
-          told = D.Link.told link;
-          state = state;
-          fetches = count;
-          read_faults = D.Link.read_faults link;
-          write_faults = D.Link.write_faults link;
-        })
-        connections
-        (record {
-          state = empty_state;
-          fetches = fetches.old;
-          coming = D.coming door.old;
-          returned = D.returned door.old;
-          told = P.told pipe.old;
-          door_faults = D.door_faults door.old;
-          write_faults = P.write_faults pipe.old;
-        })
-        (record {
-          state = end;
-          fetches = fetches.new;
-          coming = D.coming door.new;
-          returned = D.returned door.new;
-          told = P.told pipe.new;
-          door_faults = D.door_faults door.new;
-          write_faults = P.write_faults pipe.new;
-        })
-        result }
+        → (P.left pipe.new ≡ P.left pipe.old) × (P.read_faults pipe.new ≡ P.read_faults pipe.old) × OpensAndServes
+        (unopened_state K.contents K.disk_faults fetches.old disk_a.old disk_b.old)
+        (unopened_state K.contents K.disk_faults fetches.new disk_a.new disk_b.new)
+        result ((pipe.new ≡ pipe.old) × (door.new ≡ door.old))
+        (λ found left. ServesDoor (link_state D.Link.left D.Link.told D.Link.read_faults D.Link.write_faults) connections
+        (door_state D.coming D.returned D.door_faults P.told P.write_faults door.old pipe.old found)
+        (door_state D.coming D.returned D.door_faults P.told P.write_faults door.new pipe.new left)
+        result) }
     ensures demo { (count seed : ℕ) → command_of words.now ≡ Some (Command.Demo count seed)
-        → (door.new ≡ door.old) × (P.left pipe.new ≡ P.left pipe.old)
-        × (P.read_faults pipe.new ≡ P.read_faults pipe.old)
+        → (door.new ≡ door.old) × (disk_a.new ≡ disk_a.old) × (disk_b.new ≡ disk_b.old)
+        × (P.left pipe.new ≡ P.left pipe.old) × (P.read_faults pipe.new ≡ P.read_faults pipe.old)
         × ShowsDemo count seed
         (record {
           told = P.told pipe.old;
@@ -185,12 +114,39 @@ pub fn run_search_server<P: Link, D: Door, F>(
     ensures none_out { D.is_out door.new ≡ false }
     ensures read_later { P.read_faults pipe.old ≤ P.read_faults pipe.new }
     ensures write_later { P.write_faults pipe.old ≤ P.write_faults pipe.new }
+    ensures later_a { K.disk_faults disk_a.old ≤ K.disk_faults disk_a.new }
+    ensures later_b { K.disk_faults disk_b.old ≤ K.disk_faults disk_b.new }
 {
     match command_of(words) {
         None => Status::BadWords,
-        Some(Command::Pipe) => serve_pipe(alloc, pipe, fetches),
+        Some(Command::Pipe) => match open_machine(alloc, disk_a, disk_b, fetches) {
+            Err(status) => status,
+            Ok(mut machine) => serve_link(
+                alloc,
+                &mut machine,
+                pipe,
+                disk_a,
+                disk_b,
+                fetches,
+            ).status,
+        },
         Some(Command::Serve { port, connections }) => {
-            serve_door(alloc, port, connections, pipe, door, fetches)
+            match open_machine(alloc, disk_a, disk_b, fetches) {
+                Err(status) => status,
+                Ok(mut machine) => match door.open(port) {
+                    Err(Failed) => Status::DoorFault,
+                    Ok(()) => serve_links(
+                        alloc,
+                        &mut machine,
+                        connections,
+                        pipe,
+                        door,
+                        disk_a,
+                        disk_b,
+                        fetches,
+                    ),
+                },
+            }
         }
         Some(Command::Demo { count, seed }) => show_demo(alloc, count, seed, pipe, fetches),
     }

@@ -1,69 +1,87 @@
 // The loop over one link.
 ghost use Rattle.std.specs.Prelude.{◌≤◌};
+ghost use Rattle.durable_machine.specs.Durable.{IsDurable};
+ghost use Rattle.search_server.specs.LinkState.{link_state, shared_state};
+ghost use Rattle.search_server.specs.Passed.{PassedIfDue};
 ghost use Rattle.search_server.specs.Served.{Serves};
+ghost use Rattle.search_server.specs.Statuses.{IsGoing};
 
 use crate::turn::serve_one;
 use crate::{LinkEnd, Status};
+use durable_machine::DurableMachine;
 use http_wire::Kept;
-use outside_io::Link;
+use outside_io::{Disk, Link};
 use search_base::Steps;
-use search_routes::Machine;
 use std::alloc::Global;
 
 const MOST_REQUESTS: u64 = 1_000_000;
 
 /// Serves one link to its end: each request gets the machine's reply or, for want of memory, the one
 /// constant reply, which leaves the machine as it is. A request that asks to close is the last, and
-/// so is the 1,000,000th.
+/// so is the 1,000,000th. A change that is accepted is recorded on the disks before its reply is begun.
 ///
 /// Where the link tells its bytes, `promise` says what was written by the status: all replies for
 /// `Done`, `CutShort`, `BadHead` and `RequestsSpent`; the replies to all that the link gave for
-/// `ReadFault`; all but the last, and of it a part, for `WriteFault`; the replies to the first
-/// requests for `NoMemory`. `fetches` counts the stored documents that are read: at most those that
-/// these requests need, one after the other.
-pub fn serve_link<P: Link, F>(
+/// `ReadFault`; all but the last, and of it a part, for `WriteFault`; all but the last, and of it
+/// nothing, for `DiskFault`; the replies to the first requests for `NoMemory`. It also says what a
+/// crash may now leave on the disks: where no disk failed, the state after all requests, and for
+/// `DiskFault` that state or the one before the last request. `fetches` counts the stored documents
+/// that are read: at most those that these requests need, one after the other.
+///
+/// Where no disk failed, the machine and the disks are fit to go on (`durable`), and a checkpoint that is due was
+/// passed over for want of memory, or was due before with the machine as it is (`due`). After `DiskFault` the disks
+/// are to be opened again.
+pub fn serve_link<P: Link, K: Disk, F>(
     alloc: Global,
-    machine: &mut Machine,
+    machine: &mut DurableMachine,
     link: &mut P,
+    disk_a: &mut K,
+    disk_b: &mut K,
     fetches: &mut Steps<F>,
 ) -> LinkEnd
+    requires durable { IsDurable machine.old (K.contents disk_a.old) (K.contents disk_b.old) }
     ensures promise { Serves
-        (record {
-          pending = P.left link.old;
-          told = P.told link.old;
-          state = machine.old;
-          fetches = fetches.old;
-          read_faults = P.read_faults link.old;
-          write_faults = P.write_faults link.old;
-        })
-        (record {
-          pending = P.left link.new;
-          told = P.told link.new;
-          state = machine.new;
-          fetches = fetches.new;
-          read_faults = P.read_faults link.new;
-          write_faults = P.write_faults link.new;
-        })
+        (link_state P.left P.told P.read_faults P.write_faults link.old
+        (shared_state K.contents K.disk_faults machine.old.machine fetches.old disk_a.old disk_b.old))
+        (link_state P.left P.told P.read_faults P.write_faults link.new
+        (shared_state K.contents K.disk_faults machine.new.machine fetches.new disk_a.new disk_b.new))
         result }
+    ensures durable { IsGoing result.status → IsDurable machine.new (K.contents disk_a.new) (K.contents disk_b.new) }
+    ensures due { IsGoing result.status → PassedIfDue machine.old machine.new result.passed }
     ensures requests { result.requests ≤ 1000000 }
     ensures read_later { P.read_faults link.old ≤ P.read_faults link.new }
     ensures write_later { P.write_faults link.old ≤ P.write_faults link.new }
+    ensures later_a { K.disk_faults disk_a.old ≤ K.disk_faults disk_a.new }
+    ensures later_b { K.disk_faults disk_b.old ≤ K.disk_faults disk_b.new }
 {
     let Ok(mut kept) = Kept::new(alloc) else {
         return LinkEnd {
             status: Status::NoMemory,
             requests: 0,
+            passed: 0,
         };
     };
+    let mut passed = 0;
     for served in 0..MOST_REQUESTS {
         let left = MOST_REQUESTS - served;
-        let turn = serve_one(alloc, machine, link, &mut kept, left, fetches);
-        if let Some(end) = turn.end(served) {
+        let turn = serve_one(
+            alloc,
+            machine,
+            link,
+            disk_a,
+            disk_b,
+            &mut kept,
+            left,
+            &mut passed,
+            fetches,
+        );
+        if let Some(end) = turn.end(served, passed) {
             return end;
         }
     }
     LinkEnd {
         status: Status::RequestsSpent,
         requests: MOST_REQUESTS,
+        passed,
     }
 }

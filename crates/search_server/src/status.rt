@@ -17,18 +17,31 @@ pub enum Status {
     WriteFault,
     /// The door's count of faults rose. Serving a link never ends so.
     DoorFault,
+    /// The count of faults of one of the two disks rose.
+    DiskFault,
+    /// What a disk, 0 or 1, holds is damaged: `found` is the first byte that is wrong, nothing at an end that comes too
+    /// early. Serving a link never ends so.
+    Damaged {
+        disk: u8,
+        place: u64,
+        found: Option<u8>,
+    },
     /// The input ended inside a request, `rest` bytes, above 0, after the last whole one.
-    CutShort { rest: u64 },
+    CutShort {
+        rest: u64,
+    },
     /// A head was refused, and the answer to it was written whole.
-    BadHead { kind: HeadKind, number: u64 },
+    BadHead {
+        kind: HeadKind,
+        number: u64,
+    },
     /// 1,000,000 requests were served, and the last did not ask to close.
     RequestsSpent,
     NoMemory,
 }
 
 impl Status {
-    /// The number with which the program ends: 0, 2, 3, 4, 5, 8, 9, 10 or 11, in the order in which
-    /// the statuses are declared.
+    /// The number with which the program ends: 0 and 2 to 11, in the order in which the statuses are declared.
     pub fn number(&self) -> u8
         ensures { result ≡ number_of self.now }
     {
@@ -38,6 +51,8 @@ impl Status {
             Status::ReadFault => 3,
             Status::WriteFault => 4,
             Status::DoorFault => 5,
+            Status::DiskFault => 6,
+            Status::Damaged { .. } => 7,
             Status::CutShort { .. } => 8,
             Status::BadHead { .. } => 9,
             Status::RequestsSpent => 10,
@@ -53,4 +68,6 @@ pub struct LinkEnd {
     /// How many whole requests were read, from 0 to 1,000,000. One whose reply could not be
     /// written is among them.
     pub requests: u64,
+    /// How many checkpoints were due and passed over for want of memory.
+    pub passed: u64,
 }

@@ -1,13 +1,16 @@
 // One turn of a link: one request and its reply.
-ghost use Rattle.std.specs.Prelude.{◌≡◌, ◌==◌, ◌||◌, ◌<◌, ◌≤◌};
+ghost use Rattle.std.specs.Prelude.{◌≡◌, ◌⊎◌, ◌==◌, ◌||◌, ◌<◌, ◌≤◌, true, IfSome};
 ghost use Rattle.std.specs.Io.KnownBytes.{prepend_known};
+ghost use Rattle.durable_machine.specs.Durable.{IsDurable};
+ghost use Rattle.search_server.specs.LinkState.{link_state, shared_state};
+ghost use Rattle.search_server.specs.Passed.{PassedIfDue};
 ghost use Rattle.search_server.specs.Turns.{TurnIs, end_by};
 
 use crate::{LinkEnd, Status};
+use durable_machine::{Answered, DurableMachine};
 use http_wire::{HeadKind, Kept, WireEnd, read_request, write_refusal, write_reply};
-use outside_io::{Failed, Link};
+use outside_io::{Disk, Failed, Link};
 use search_base::Steps;
-use search_routes::{Machine, answer};
 use std::alloc::Global;
 
 /// What a turn came to.
@@ -26,14 +29,18 @@ pub enum Turn {
     ReplyFault,
     /// A head was refused, and the answer to it was not written whole.
     RefusalFault { kind: HeadKind, number: u64 },
+    /// A request was taken, and a disk failed before its reply was begun.
+    DiskFault,
     NoMemory,
 }
 
 impl Turn {
-    /// How a link ends by this turn, where `before` requests were read before it. None where another request may come.
-    pub fn end(self, before: u64) -> Option<LinkEnd>
+    /// How a link ends by this turn, where `before` requests were read before it and `passed` checkpoints were passed
+    /// over up to now. None where another request may come.
+    pub fn end(self, before: u64, passed: u64) -> Option<LinkEnd>
         requires { before < 1000000 }
-        ensures { result ≡ end_by before self }
+        ensures turn { result ≡ end_by before passed self }
+        ensures passed { IfSome result (λ end. end.passed ≡ passed) }
     {
         let (status, requests) = match self {
             Turn::Next => return None,
@@ -44,9 +51,14 @@ impl Turn {
             Turn::ReadFault => (Status::ReadFault, before),
             Turn::ReplyFault => (Status::WriteFault, before + 1),
             Turn::RefusalFault { .. } => (Status::WriteFault, before),
+            Turn::DiskFault => (Status::DiskFault, before + 1),
             Turn::NoMemory => (Status::NoMemory, before),
         };
-        Some(LinkEnd { status, requests })
+        Some(LinkEnd {
+            status,
+            requests,
+            passed,
+        })
     }
 }
 
@@ -57,35 +69,43 @@ fn says_close(closes: bool, left: u64) -> bool
     closes || left == 1
 }
 
-/// Reads one request and writes its reply, where `left` requests may still come.
-pub fn serve_one<P: Link, F>(
+// Counts a checkpoint where it was passed over.
+fn count(passed: &mut u64, is_passed: bool)
+    ensures counted { is_passed ≡ true → 0 < passed.new }
+    ensures later { passed.old ≤ passed.new }
+{
+    if is_passed {
+        *passed = passed.saturating_add(1);
+    }
+}
+
+/// Reads one request and writes its reply, where `left` requests may still come. The reply is begun only once the
+/// request is recorded. `passed` counts the checkpoints that are due and were passed over.
+pub fn serve_one<P: Link, K: Disk, F>(
     alloc: Global,
-    machine: &mut Machine,
+    machine: &mut DurableMachine,
     link: &mut P,
+    disk_a: &mut K,
+    disk_b: &mut K,
     kept: &mut Kept,
     left: u64,
+    passed: &mut u64,
     fetches: &mut Steps<F>,
 ) -> Turn
+    requires durable { IsDurable machine.old (K.contents disk_a.old) (K.contents disk_b.old) }
     ensures turn { TurnIs left
-        (record {
-          pending = prepend_known kept.old (P.left link.old);
-          told = P.told link.old;
-          state = machine.old;
-          fetches = fetches.old;
-          read_faults = P.read_faults link.old;
-          write_faults = P.write_faults link.old;
-        })
-        (record {
-          pending = prepend_known kept.new (P.left link.new);
-          told = P.told link.new;
-          state = machine.new;
-          fetches = fetches.new;
-          read_faults = P.read_faults link.new;
-          write_faults = P.write_faults link.new;
-        })
+        (link_state (λ l. prepend_known kept.old (P.left l)) P.told P.read_faults P.write_faults link.old
+        (shared_state K.contents K.disk_faults machine.old.machine fetches.old disk_a.old disk_b.old))
+        (link_state (λ l. prepend_known kept.new (P.left l)) P.told P.read_faults P.write_faults link.new
+        (shared_state K.contents K.disk_faults machine.new.machine fetches.new disk_a.new disk_b.new))
         kept.new result }
+    ensures durable { (result ≡ Turn.DiskFault) ⊎ IsDurable machine.new (K.contents disk_a.new) (K.contents disk_b.new) }
+    ensures due { (result ≡ Turn.DiskFault) ⊎ PassedIfDue machine.old machine.new passed.new }
+    ensures passed { passed.old ≤ passed.new }
     ensures read_later { P.read_faults link.old ≤ P.read_faults link.new }
     ensures write_later { P.write_faults link.old ≤ P.write_faults link.new }
+    ensures later_a { K.disk_faults disk_a.old ≤ K.disk_faults disk_a.new }
+    ensures later_b { K.disk_faults disk_b.old ≤ K.disk_faults disk_b.new }
 {
     match read_request(alloc, link, kept) {
         Err(WireEnd::End) => Turn::End,
@@ -98,11 +118,20 @@ pub fn serve_one<P: Link, F>(
         Err(WireEnd::NoMemory) => Turn::NoMemory,
         Ok(wire) => {
             let closes = wire.closes;
-            let reply = answer(alloc, machine, wire, fetches);
-            let says = says_close(closes, left);
-            match write_reply(link, &reply, says) {
-                Err(Failed) => Turn::ReplyFault,
-                Ok(()) => { if closes { Turn::Closed } else { Turn::Next } }
+            match machine.answer(alloc, wire, disk_a, disk_b, fetches) {
+                Err(Failed) => Turn::DiskFault,
+                Ok(
+                    Answered {
+                        reply,
+                        passed: is_passed,
+                    },
+                ) => {
+                    count(passed, is_passed);
+                    match write_reply(link, &reply, says_close(closes, left)) {
+                        Err(Failed) => Turn::ReplyFault,
+                        Ok(()) => { if closes { Turn::Closed } else { Turn::Next } }
+                    }
+                }
             }
         }
     }

@@ -1,3 +1,7 @@
+ghost use Rattle.std.specs.Prelude.{◌≡◌, ◌<◌, length, IfSome};
+ghost use Rattle.doc_values.specs.Changes.{kind_view};
+ghost use Rattle.index_core.specs.Keyed.{HasKey};
+
 use doc_values::{ChangeKind, DocumentText, documents_of};
 use filter_tree::Filter;
 use index_core::{CoreFault, CoreRefusal, Hit, IndexCore, SearchRefusal};
@@ -26,11 +30,15 @@ fn documents(rt: &impl Abort, alloc: Global, body: &str) -> Vec<DocumentText> {
     texts
 }
 
-fn word(rt: &impl Abort, alloc: Global, text: &str) -> Word {
+fn word(rt: &impl Abort, alloc: Global, text: &str) -> Word
+    ensures { result ≡ text.now }
+{
     Word::new(alloc, text).expect(rt, "memory")
 }
 
-fn change(alloc: Global, index: &mut IndexCore, kind: ChangeKind) -> Result<(), CoreFault> {
+fn change(alloc: Global, index: &mut IndexCore, kind: ChangeKind) -> Result<(), CoreFault>
+    requires { HasKey (kind_view kind) }
+{
     let mut fetches = Steps::<Fetch>::new();
     let plan = index.plan(alloc, kind)?;
     index.apply(alloc, plan, &mut fetches)
@@ -42,7 +50,9 @@ fn add(
     index: &mut IndexCore,
     key: Option<Word>,
     body: &str,
-) -> Result<(), CoreFault> {
+) -> Result<(), CoreFault>
+    requires { IfSome key (λ text. 0 < length text) }
+{
     let documents = documents(rt, alloc, body);
     change(alloc, index, ChangeKind::Replace { key, documents })
 }

@@ -5,8 +5,12 @@
 #![tactic(auto)]
 
 #[cfg(test)]
+mod disks;
+#[cfg(test)]
 mod links;
 #[cfg(test)]
 mod modes;
 #[cfg(test)]
 mod starving;
+#[cfg(test)]
+mod stops;

@@ -1,9 +1,10 @@
 ghost use Rattle.std.specs.Prelude.{◌<◌};
 
+use crate::disks::empty_disk;
+use durable_machine::DurableMachine;
 use http_wire::HeadKind;
 use outside_io::MemoryLink;
 use search_base::Steps;
-use search_routes::Machine;
 use search_server::{LinkEnd, Status, serve_link};
 use std::alloc::Global;
 use std::str;
@@ -48,14 +49,27 @@ fn serve(
     let input = input.to_vec(alloc)?;
     let failing = failing.to_vec(alloc)?;
     let mut link = MemoryLink::paced(alloc, input, failing, most)?;
-    let mut machine = Machine::new(alloc)?;
+    let mut disk_a = empty_disk(alloc)?;
+    let mut disk_b = empty_disk(alloc)?;
     let mut fetches: Steps<()> = Steps::new();
-    let end = serve_link(alloc, &mut machine, &mut link, &mut fetches);
+    let mut machine = DurableMachine::opened(alloc, &mut disk_a, &mut disk_b, &mut fetches)?;
+    let end = serve_link(
+        alloc,
+        &mut machine,
+        &mut link,
+        &mut disk_a,
+        &mut disk_b,
+        &mut fetches,
+    );
     Ok((end, link.written().to_vec(alloc)?))
 }
 
 fn ended(status: Status, requests: u64) -> LinkEnd {
-    LinkEnd { status, requests }
+    LinkEnd {
+        status,
+        requests,
+        passed: 0,
+    }
 }
 
 #[test]
@@ -146,11 +160,32 @@ fn refused_documents_leave_the_link_open(rt: HostRuntime) -> Result<(), Fail> {
 fn a_link_that_failed_once_is_served_afterwards(rt: HostRuntime) -> Result<(), Fail> {
     let input = ADD_AND_SEARCH.to_vec(rt.alloc())?;
     let mut link = MemoryLink::new(rt.alloc(), input, [0].to_vec(rt.alloc())?)?;
-    let mut machine = Machine::new(rt.alloc())?;
+    let alloc = rt.alloc();
+    let mut disk_a = empty_disk(alloc)?;
+    let mut disk_b = empty_disk(alloc)?;
     let mut fetches: Steps<()> = Steps::new();
-    let end = serve_link(rt.alloc(), &mut machine, &mut link, &mut fetches);
+    let mut machine = DurableMachine::opened(alloc, &mut disk_a, &mut disk_b, &mut fetches)?;
+    let end = serve_link(
+        alloc,
+        &mut machine,
+        &mut link,
+        &mut disk_a,
+        &mut disk_b,
+        &mut fetches,
+    );
     assert_eq!(rt; end, ended(Status::ReadFault, 0));
-    let end = serve_link(rt.alloc(), &mut machine, &mut link, &mut fetches);
+    // What a crash leaves of the disks is opened again.
+    let mut disk_a = disk_a.after_crash(0)?;
+    let mut disk_b = disk_b.after_crash(0)?;
+    let mut machine = DurableMachine::opened(alloc, &mut disk_a, &mut disk_b, &mut fetches)?;
+    let end = serve_link(
+        alloc,
+        &mut machine,
+        &mut link,
+        &mut disk_a,
+        &mut disk_b,
+        &mut fetches,
+    );
     assert_eq!(rt; end, ended(Status::Done, 2));
     assert_eq!(rt; link.written(), ADDED_AND_FOUND);
     Ok(())

@@ -1,5 +1,6 @@
 ghost use Rattle.std.specs.Prelude.{◌≡◌, false};
 
+use crate::disks::empty_disk;
 use link_doors::{Door, MemoryDoor};
 use outside_io::MemoryLink;
 use search_base::Steps;
@@ -43,8 +44,8 @@ fn digits(alloc: Global, text: &str) -> Result<Vec<u64>, Fail> {
     Ok(numbers)
 }
 
-// Runs the program with a pipe that gives no bytes and fails at these calls, and a door of these links, which stand
-// between bars.
+// Runs the program with two empty disks, a pipe that gives no bytes and fails at these calls, and a door of these links,
+// which stand between bars.
 fn run(
     alloc: Global,
     words: &str,
@@ -60,7 +61,17 @@ fn run(
     }
     let mut door = MemoryDoor::new(alloc, links, digits(alloc, door_fails)?)?;
     let mut fetches: Steps<()> = Steps::new();
-    let status = run_search_server(alloc, &words, &mut pipe, &mut door, &mut fetches);
+    let mut disk_a = empty_disk(alloc)?;
+    let mut disk_b = empty_disk(alloc)?;
+    let status = run_search_server(
+        alloc,
+        &words,
+        &mut pipe,
+        &mut door,
+        &mut disk_a,
+        &mut disk_b,
+        &mut fetches,
+    );
     let mut answers = String::new(alloc);
     for link in door.returned() {
         answers.push_str(str::from_utf8(link.written())?)?;

@@ -2,9 +2,10 @@ ghost use Rattle.std.specs.Prelude.{◌≡◌, Some, length, ◌<◌};
 ghost use Rattle.outside_io.specs.Bytes.{Reads, Writes};
 ghost use Rattle.outside_io.specs.Faults.{HasCause};
 
+use crate::disks::empty_disk;
+use durable_machine::DurableMachine;
 use outside_io::{Failed, Link, MemoryLink};
 use search_base::Steps;
-use search_routes::Machine;
 use search_server::{LinkEnd, Status, serve_link};
 use std::str;
 use std::test::Fail;
@@ -68,25 +69,48 @@ fn a_link_that_starves_once_is_served_afterwards(rt: HostRuntime) -> Result<(), 
         read_faults: 0,
         write_faults: 0,
     };
-    let mut machine = Machine::new(rt.alloc())?;
+    let alloc = rt.alloc();
+    let mut disk_a = empty_disk(alloc)?;
+    let mut disk_b = empty_disk(alloc)?;
     let mut fetches: Steps<()> = Steps::new();
-    let end = serve_link(rt.alloc(), &mut machine, &mut link, &mut fetches);
+    let mut machine = DurableMachine::opened(alloc, &mut disk_a, &mut disk_b, &mut fetches)?;
+    let end = serve_link(
+        alloc,
+        &mut machine,
+        &mut link,
+        &mut disk_a,
+        &mut disk_b,
+        &mut fetches,
+    );
     let status = Status::WriteFault;
     assert_eq!(rt;
         end,
         LinkEnd {
             status,
-            requests: 1
+            requests: 1,
+            passed: 0
         }
     );
     assert_eq!(rt; link.link.written().len(), 0);
-    let end = serve_link(rt.alloc(), &mut machine, &mut link, &mut fetches);
+    // What a crash leaves of the disks is opened again.
+    let mut disk_a = disk_a.after_crash(0)?;
+    let mut disk_b = disk_b.after_crash(0)?;
+    let mut machine = DurableMachine::opened(alloc, &mut disk_a, &mut disk_b, &mut fetches)?;
+    let end = serve_link(
+        alloc,
+        &mut machine,
+        &mut link,
+        &mut disk_a,
+        &mut disk_b,
+        &mut fetches,
+    );
     let status = Status::Done;
     assert_eq!(rt;
         end,
         LinkEnd {
             status,
-            requests: 1
+            requests: 1,
+            passed: 0
         }
     );
     let written = str::from_utf8(link.link.written())?;

@@ -32,7 +32,7 @@ returns-in-Closed-look_at c =
       record {
         room = omega arith;
         within = omega arith;
-        disks = (older_by 0 c.args.a.now _ (sym c.in-Closed.ensures.look) tt, older_by 0 c.args.b.now _ (sym c.in-Closed-look_at.ensures.look) tt, refl, refl);
+        disks = (older_by 0 c.args.a.now _ (sym c.in-Closed.ensures.look) tt, older_by 0 c.args.b.now _ (sym c.in-Closed-look_at.ensures.look) tt, refl, refl, refl);
       },
       (refl, refl),
     )

@@ -1,7 +1,6 @@
 use Rattle.std.proofs.Common.{sym, ap, ◌∙◌, arith, length}
 use Rattle.index_core.specs.Fetches.{use_alike}
 use Rattle.row_search.specs.Slots.{kept_from}
-use Rattle.index_core.proofs.Finding.{kept-of}
 use Rattle.index_core.proofs.Settling.{kept-alike}
 use Rattle.index_core.proofs.new_settings.settle.Goals as goal
 
@@ -18,19 +17,4 @@ returns-then-stay_alike-clause-kept g c = record {
   kept = kept-alike c.args.others c.args.settings.now c.args.store.now.content (kept_from 0 c.args.kept.now.slots)
       (ap (use_alike c.args.others c.args.settings.now) (sym c.paths.ensures) ∙ sym c.stay_alike.ensures ∙ c.if-stay_alike.true) c.requires.kept.kept;
   many = c.requires.kept.many;
-}
-
-pub rows_of_all-requires-clause-kept : goal.rows_of_all-requires-clause-kept
-rows_of_all-requires-clause-kept g c =
-    kept-of c.args.settings.now c.args.store.now.content (kept_from 0 c.args.kept.now.slots) c.requires.kept.kept
-
-pub rows_of_all-requires-clause-few : goal.rows_of_all-requires-clause-few
-rows_of_all-requires-clause-few g c =
-    let most = c.requires.kept.kept.sound.ids_within in
-    omega (arith, c.requires.kept.many)
-
-pub returns-clause-kept : goal.returns-clause-kept
-returns-clause-kept g c = record {
-  kept = record { same = c.in_ok-kept.ensures.rows; sound = c.requires.kept.kept.sound };
-  many = c.in_ok-kept.ensures.slots ∙ c.requires.kept.many;
 }

@@ -1,12 +1,42 @@
+use Rattle.std.proofs.Common.{refl, arith}
+use Rattle.doc_values.specs.Changes.{change_view}
 use Rattle.request_calls.specs.Asked.{read_view}
-use Rattle.search_routes.proofs.Steps.{makes, steps_read}
+use Rattle.search_routes.proofs.RedoLemmas.{recordable, room_before}
+use Rattle.search_routes.proofs.Steps.{makes, need_made, step_made, steps_read}
 use Rattle.search_routes.proofs.performing.perform.Goals as goal
+
+pub returns-in-Refused-clause-answered : goal.returns-in-Refused-clause-answered
+returns-in-Refused-clause-answered g c = λ q is. step_made c.args.machine.now q c.args.call c.in-Refused.reply c.args.machine.now is (rw c.in-Refused.is (refl, refl))
 
 pub returns-in-Write-clause-performed : goal.returns-in-Write-clause-performed
 returns-in-Write-clause-performed g c =
     rw c.in-Write.is (makes _ _ c.change-done.result c.reply_to.result _ c.change-done.ensures.step c.reply_to.ensures)
 
+pub returns-in-Write-clause-answered : goal.returns-in-Write-clause-answered
+returns-in-Write-clause-answered g c = λ q is. step_made _ q c.args.call _ _ is (returns-in-Write-clause-performed g c)
+
+pub returns-in-Write-clause-recorded : goal.returns-in-Write-clause-recorded
+returns-in-Write-clause-recorded g c =
+    let accepted = rw c.in-Write.is at c.requires.accepted in
+    rw c.in-Write.is (recordable c.args.machine.now (change_view c.in-Write.change) c.change-done.result _ accepted c.change-done.ensures.step)
+
+pub returns-in-Write-clause-room : goal.returns-in-Write-clause-room
+returns-in-Write-clause-room g c = room_before c.args.machine.now _ c.change-done.result _ c.change-done.ensures.room c.change-done.ensures.step
+
+pub returns-in-Write-clause-needed : goal.returns-in-Write-clause-needed
+returns-in-Write-clause-needed g c = λ q is.
+    let need = rw c.in-Write.is at (need_made c.args.machine.now q c.args.call is) in
+    omega (arith, need, c.change-done.ensures.fetched)
+
 pub returns-in-Read-clause-performed : goal.returns-in-Read-clause-performed
 returns-in-Read-clause-performed g c =
     rw c.in-Read.is
     (makes _ _ c.read-done.result c.reply_to-in-Read.result _ (steps_read c.args.machine.now (read_view c.in-Read.call) c.read-done.result c.read-done.ensures.answer) c.reply_to-in-Read.ensures)
+
+pub returns-in-Read-clause-answered : goal.returns-in-Read-clause-answered
+returns-in-Read-clause-answered g c = λ q is. step_made _ q c.args.call _ _ is (returns-in-Read-clause-performed g c)
+
+pub returns-in-Read-clause-needed : goal.returns-in-Read-clause-needed
+returns-in-Read-clause-needed g c = λ q is.
+    let need = rw c.in-Read.is at (need_made c.args.machine.now q c.args.call is) in
+    omega (arith, need, c.read-done.ensures.fetched)

@@ -1,4 +1,4 @@
-use Rattle.std.proofs.Common.{◌≡◌, map, refl, ap, subst, ◌∙◌}
+use Rattle.std.proofs.Common.{map, refl, ap, subst, ◌∙◌}
 use Rattle.std.specs.Option.{option_copied}
 use Rattle.http_wire.specs.Sent.{IsSentAs}
 use Rattle.index_core.specs.Shown.{hit_shown, result_shown}

@@ -1,4 +1,4 @@
-use Rattle.std.proofs.Common.{◌≡◌, ◌+◌, Ok, map, length, ap, sym, subst, ◌∙◌}
+use Rattle.std.proofs.Common.{◌+◌, Ok, ap, sym, subst, ◌∙◌}
 use Rattle.index_core.specs.Found.{found}
 use Rattle.index_core.specs.Shown.{hit_shown, result_shown}
 use Rattle.index_core.proofs.Finding.{length-map}

@@ -1,54 +1,112 @@
-use Rattle.std.proofs.Common.{[], false, refl, sym, ap, ◌∙◌, ◌-◌, arith}
+use Rattle.std.proofs.Common.{◌≡◌, Some, None, [], false, refl, sym, subst, ap, ◌∙◌, ◌-◌, arith, inr}
 use Rattle.std.specs.Io.KnownBytes.{prepend_known}
-use Rattle.search_server.specs.LinkState.{LinkState}
+use Rattle.durable_machine.specs.Durable.{IsDurable}
+use Rattle.durable_machine.proofs.Crash.{crash_now}
+use Rattle.search_server.specs.LinkState.{LinkState, link_state, shared_state}
+use Rattle.search_server.specs.Passed.{PassedIfDue}
+use Rattle.search_server.specs.Turns.{end_by}
 use Rattle.search_server.proofs.Progress.{LeftBy}
-use Rattle.search_server.proofs.Serving.{starts, goes_on, ends_spent, served_by, caused_by, replied_by}
+use Rattle.search_server.proofs.Serving.{starts, goes_on, ends_spent, served_by, caused_by, replied_by, went_on, ended_well, due_later, nothing_yet}
 use Rattle.search_server.proofs.serve.serve_link.Goals as goal
+
+pub returns-in_default-clause-promise : goal.returns-in_default-clause-promise
+returns-in_default-clause-promise g c =
+    let start : LinkState = link_state g.P.Link.left g.P.Link.told g.P.Link.read_faults g.P.Link.write_faults c.args.link.now
+    (shared_state g.K.Disk.contents g.K.Disk.disk_faults c.args.machine.now.machine c.args.fetches.now c.args.disk_a.now c.args.disk_b.now) in
+    record {
+      promise = λ bytes e. nothing_yet bytes start;
+      cause = tt;
+      crash = λ going. crash_now c.args.machine.now start.disk_a.contents start.disk_b.contents c.requires.durable;
+    }
 
 pub loop-served-init : goal.loop-served-init
 loop-served-init g c = record {
   progress = λ bytes e. starts bytes _ _ (ap (λ v. prepend_known v (g.P.Link.left c.args.link.now)) c.in-Ok.ensures ∙ ap (λ v. prepend_known [] v) e) refl refl refl;
+  durable = c.requires.durable;
+  due = λ due. inr (due, refl);
   read_later = omega arith;
   write_later = omega arith;
+  later_a = omega arith;
+  later_b = omega arith;
 }
 
 pub loop-served-preserved : goal.loop-served-preserved
 loop-served-preserved g c =
-    let start : LinkState = record { pending = g.P.Link.left c.args.link.now; told = g.P.Link.told c.args.link.now; state = c.args.machine.now; fetches = c.args.fetches.now; read_faults = g.P.Link.read_faults c.args.link.now; write_faults = g.P.Link.write_faults c.args.link.now } in
-    let old : LinkState = record { pending = prepend_known c.loop-served.kept (g.P.Link.left c.loop-served.link); told = g.P.Link.told c.loop-served.link; state = c.loop-served.machine; fetches = c.loop-served.fetches; read_faults = g.P.Link.read_faults c.loop-served.link; write_faults = g.P.Link.write_faults c.loop-served.link } in
-    let new : LinkState = record { pending = prepend_known c.serve_one-turn.new.kept (g.P.Link.left c.serve_one-turn.new.link); told = g.P.Link.told c.serve_one-turn.new.link; state = c.serve_one-turn.new.machine; fetches = c.serve_one-turn.new.fetches; read_faults = g.P.Link.read_faults c.serve_one-turn.new.link; write_faults = g.P.Link.write_faults c.serve_one-turn.new.link } in
+    let start : LinkState = link_state g.P.Link.left g.P.Link.told g.P.Link.read_faults g.P.Link.write_faults c.args.link.now
+    (shared_state g.K.Disk.contents g.K.Disk.disk_faults c.args.machine.now.machine c.args.fetches.now c.args.disk_a.now c.args.disk_b.now) in
+    let old : LinkState = link_state (λ link. prepend_known c.loop-served.kept (g.P.Link.left link)) g.P.Link.told g.P.Link.read_faults g.P.Link.write_faults c.loop-served.link
+    (shared_state g.K.Disk.contents g.K.Disk.disk_faults c.loop-served.machine.machine c.loop-served.fetches c.loop-served.disk_a c.loop-served.disk_b) in
+    let new : LinkState = link_state (λ link. prepend_known c.serve_one-turn.new.kept (g.P.Link.left link)) g.P.Link.told g.P.Link.read_faults g.P.Link.write_faults c.serve_one-turn.new.link
+    (shared_state g.K.Disk.contents g.K.Disk.disk_faults c.serve_one-turn.new.machine.machine c.serve_one-turn.new.fetches c.serve_one-turn.new.disk_a c.serve_one-turn.new.disk_b) in
     let n = c.loop-served.served in
+    let goes : end_by n c.serve_one-turn.new.passed c.serve_one-turn.result ≡ None = sym c.end.ensures.turn ∙ c.in_default-end.is in
     record {
       progress = λ bytes e. goes_on bytes start old new n false (c.loop-served.invariant.progress bytes e) c.loop-served-test.true
-          (replied_by old new (1000000 - n) n c.serve_one-turn.new.kept c.serve_one-turn.result c.serve_one-turn.ensures.turn (sym c.end.ensures ∙ c.in_default-end.is));
+          (replied_by old new (1000000 - n) n c.serve_one-turn.new.passed c.serve_one-turn.new.kept c.serve_one-turn.result c.serve_one-turn.ensures.turn goes);
+      durable = went_on n c.serve_one-turn.new.passed c.serve_one-turn.result (IsDurable c.serve_one-turn.new.machine (g.K.Disk.contents c.serve_one-turn.new.disk_a) (g.K.Disk.contents c.serve_one-turn.new.disk_b)) c.serve_one-turn.ensures.durable goes;
+      due = due_later c.args.machine.now c.loop-served.machine c.serve_one-turn.new.machine c.loop-served.passed c.serve_one-turn.new.passed c.loop-served.invariant.due
+          c.serve_one-turn.ensures.passed (went_on n c.serve_one-turn.new.passed c.serve_one-turn.result (PassedIfDue c.loop-served.machine c.serve_one-turn.new.machine c.serve_one-turn.new.passed) c.serve_one-turn.ensures.due goes);
       read_later = omega (arith, c.serve_one-turn.ensures.read_later);
       write_later = omega (arith, c.serve_one-turn.ensures.write_later);
+      later_a = omega (arith, c.serve_one-turn.ensures.later_a);
+      later_b = omega (arith, c.serve_one-turn.ensures.later_b);
     }
+
+pub returns-in-Some-clause-durable : goal.returns-in-Some-clause-durable
+returns-in-Some-clause-durable g c =
+    let ends : end_by c.loop-served.served c.serve_one-turn.new.passed c.serve_one-turn.result ≡ Some c.in-Some.end = sym c.end.ensures.turn ∙ c.in-Some.is in
+    ended_well c.loop-served.served c.serve_one-turn.new.passed c.serve_one-turn.result c.in-Some.end (IsDurable c.serve_one-turn.new.machine (g.K.Disk.contents c.serve_one-turn.new.disk_a) (g.K.Disk.contents c.serve_one-turn.new.disk_b)) c.serve_one-turn.ensures.durable
+    ends
+
+pub returns-in-Some-clause-due : goal.returns-in-Some-clause-due
+returns-in-Some-clause-due g c = λ going.
+    let ends : end_by c.loop-served.served c.serve_one-turn.new.passed c.serve_one-turn.result ≡ Some c.in-Some.end = sym c.end.ensures.turn ∙ c.in-Some.is in
+    let turn = ended_well c.loop-served.served c.serve_one-turn.new.passed c.serve_one-turn.result c.in-Some.end (PassedIfDue c.loop-served.machine c.serve_one-turn.new.machine c.serve_one-turn.new.passed) c.serve_one-turn.ensures.due
+    ends going in
+    subst (λ passed. PassedIfDue c.args.machine.now c.serve_one-turn.new.machine passed) (sym c.in-Some.ensures.passed)
+    (due_later c.args.machine.now c.loop-served.machine c.serve_one-turn.new.machine c.loop-served.passed c.serve_one-turn.new.passed c.loop-served.invariant.due
+    c.serve_one-turn.ensures.passed turn)
 
 pub returns-in-Some-clause-promise : goal.returns-in-Some-clause-promise
 returns-in-Some-clause-promise g c =
-    let start : LinkState = record { pending = g.P.Link.left c.args.link.now; told = g.P.Link.told c.args.link.now; state = c.args.machine.now; fetches = c.args.fetches.now; read_faults = g.P.Link.read_faults c.args.link.now; write_faults = g.P.Link.write_faults c.args.link.now } in
-    let old : LinkState = record { pending = prepend_known c.loop-served.kept (g.P.Link.left c.loop-served.link); told = g.P.Link.told c.loop-served.link; state = c.loop-served.machine; fetches = c.loop-served.fetches; read_faults = g.P.Link.read_faults c.loop-served.link; write_faults = g.P.Link.write_faults c.loop-served.link } in
-    let new : LinkState = record { pending = prepend_known c.serve_one-turn.new.kept (g.P.Link.left c.serve_one-turn.new.link); told = g.P.Link.told c.serve_one-turn.new.link; state = c.serve_one-turn.new.machine; fetches = c.serve_one-turn.new.fetches; read_faults = g.P.Link.read_faults c.serve_one-turn.new.link; write_faults = g.P.Link.write_faults c.serve_one-turn.new.link } in
-    let final : LinkState = record { pending = g.P.Link.left c.serve_one-turn.new.link; told = g.P.Link.told c.serve_one-turn.new.link; state = c.serve_one-turn.new.machine; fetches = c.serve_one-turn.new.fetches; read_faults = g.P.Link.read_faults c.serve_one-turn.new.link; write_faults = g.P.Link.write_faults c.serve_one-turn.new.link } in
-    let left : LeftBy c.serve_one-turn.new.kept new final = record { pending = refl; told = refl; state = refl; fetches = refl; read_faults = refl; write_faults = refl } in
+    let start : LinkState = link_state g.P.Link.left g.P.Link.told g.P.Link.read_faults g.P.Link.write_faults c.args.link.now
+    (shared_state g.K.Disk.contents g.K.Disk.disk_faults c.args.machine.now.machine c.args.fetches.now c.args.disk_a.now c.args.disk_b.now) in
+    let old : LinkState = link_state (λ link. prepend_known c.loop-served.kept (g.P.Link.left link)) g.P.Link.told g.P.Link.read_faults g.P.Link.write_faults c.loop-served.link
+    (shared_state g.K.Disk.contents g.K.Disk.disk_faults c.loop-served.machine.machine c.loop-served.fetches c.loop-served.disk_a c.loop-served.disk_b) in
+    let new : LinkState = link_state (λ link. prepend_known c.serve_one-turn.new.kept (g.P.Link.left link)) g.P.Link.told g.P.Link.read_faults g.P.Link.write_faults c.serve_one-turn.new.link
+    (shared_state g.K.Disk.contents g.K.Disk.disk_faults c.serve_one-turn.new.machine.machine c.serve_one-turn.new.fetches c.serve_one-turn.new.disk_a c.serve_one-turn.new.disk_b) in
+    let final : LinkState = link_state g.P.Link.left g.P.Link.told g.P.Link.read_faults g.P.Link.write_faults c.serve_one-turn.new.link
+    (shared_state g.K.Disk.contents g.K.Disk.disk_faults c.serve_one-turn.new.machine.machine c.serve_one-turn.new.fetches c.serve_one-turn.new.disk_a c.serve_one-turn.new.disk_b) in
+    let left : LeftBy c.serve_one-turn.new.kept new final = record { pending = refl; told = refl; state = refl; fetches = refl; read_faults = refl; write_faults = refl; disk_a = refl; disk_b = refl } in
     let n = c.loop-served.served in
-    let ends = sym c.end.ensures ∙ c.in-Some.is in
+    let ends : end_by n c.serve_one-turn.new.passed c.serve_one-turn.result ≡ Some c.in-Some.end = sym c.end.ensures.turn ∙ c.in-Some.is in
     record {
-      promise = λ bytes e. served_by bytes start old new final n c.serve_one-turn.new.kept c.serve_one-turn.result c.in-Some.end (c.loop-served.invariant.progress bytes e)
-          c.loop-served-test.true c.serve_one-turn.ensures.turn ends left;
-      cause = caused_by start old new final (1000000 - n) n c.serve_one-turn.new.kept c.serve_one-turn.result c.in-Some.end c.loop-served.invariant.read_later
-          c.loop-served.invariant.write_later c.serve_one-turn.ensures.turn ends left;
+      promise = λ bytes e. served_by bytes start old new final n c.serve_one-turn.new.passed c.serve_one-turn.new.kept c.serve_one-turn.result c.in-Some.end
+          (c.loop-served.invariant.progress bytes e) c.loop-served-test.true c.serve_one-turn.ensures.turn ends left;
+      cause = caused_by start old new final (1000000 - n) n c.serve_one-turn.new.passed c.serve_one-turn.new.kept c.serve_one-turn.result c.in-Some.end
+          (record {
+            reads = c.loop-served.invariant.read_later;
+            writes = c.loop-served.invariant.write_later;
+            disk_a = c.loop-served.invariant.later_a;
+            disk_b = c.loop-served.invariant.later_b;
+          })
+          c.serve_one-turn.ensures.turn ends left;
+      crash = λ going. crash_now c.serve_one-turn.new.machine final.disk_a.contents final.disk_b.contents
+          (ended_well n c.serve_one-turn.new.passed c.serve_one-turn.result c.in-Some.end (IsDurable c.serve_one-turn.new.machine (g.K.Disk.contents c.serve_one-turn.new.disk_a) (g.K.Disk.contents c.serve_one-turn.new.disk_b)) c.serve_one-turn.ensures.durable ends going);
     }
 
 pub returns-clause-promise : goal.returns-clause-promise
 returns-clause-promise g c =
-    let start : LinkState = record { pending = g.P.Link.left c.args.link.now; told = g.P.Link.told c.args.link.now; state = c.args.machine.now; fetches = c.args.fetches.now; read_faults = g.P.Link.read_faults c.args.link.now; write_faults = g.P.Link.write_faults c.args.link.now } in
-    let here : LinkState = record { pending = prepend_known c.loop-served.kept (g.P.Link.left c.loop-served.link); told = g.P.Link.told c.loop-served.link; state = c.loop-served.machine; fetches = c.loop-served.fetches; read_faults = g.P.Link.read_faults c.loop-served.link; write_faults = g.P.Link.write_faults c.loop-served.link } in
-    let final : LinkState = record { pending = g.P.Link.left c.loop-served.link; told = g.P.Link.told c.loop-served.link; state = c.loop-served.machine; fetches = c.loop-served.fetches; read_faults = g.P.Link.read_faults c.loop-served.link; write_faults = g.P.Link.write_faults c.loop-served.link } in
-    let left : LeftBy c.loop-served.kept here final = record { pending = refl; told = refl; state = refl; fetches = refl; read_faults = refl; write_faults = refl } in
+    let start : LinkState = link_state g.P.Link.left g.P.Link.told g.P.Link.read_faults g.P.Link.write_faults c.args.link.now
+    (shared_state g.K.Disk.contents g.K.Disk.disk_faults c.args.machine.now.machine c.args.fetches.now c.args.disk_a.now c.args.disk_b.now) in
+    let old : LinkState = link_state (λ link. prepend_known c.loop-served.kept (g.P.Link.left link)) g.P.Link.told g.P.Link.read_faults g.P.Link.write_faults c.loop-served.link
+    (shared_state g.K.Disk.contents g.K.Disk.disk_faults c.loop-served.machine.machine c.loop-served.fetches c.loop-served.disk_a c.loop-served.disk_b) in
+    let final : LinkState = link_state g.P.Link.left g.P.Link.told g.P.Link.read_faults g.P.Link.write_faults c.loop-served.link
+    (shared_state g.K.Disk.contents g.K.Disk.disk_faults c.loop-served.machine.machine c.loop-served.fetches c.loop-served.disk_a c.loop-served.disk_b) in
+    let left : LeftBy c.loop-served.kept old final = record { pending = refl; told = refl; state = refl; fetches = refl; read_faults = refl; write_faults = refl; disk_a = refl; disk_b = refl } in
     record {
-      promise = λ bytes e. ends_spent bytes start here final c.loop-served.served c.loop-served.kept (c.loop-served.invariant.progress bytes e)
+      promise = λ bytes e. ends_spent bytes start old final c.loop-served.served c.loop-served.kept (c.loop-served.invariant.progress bytes e)
           (omega (arith, c.loop-served-test.false, c.loop-served.auto.served-end)) left;
       cause = tt;
+      crash = λ going. crash_now c.loop-served.machine final.disk_a.contents final.disk_b.contents c.loop-served.invariant.durable;
     }

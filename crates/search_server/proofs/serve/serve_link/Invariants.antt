@@ -1,5 +1,8 @@
 use Rattle.std.proofs.Common.{◌≡◌, ◌≤◌, ℕ, List, Some, false}
 use Rattle.std.specs.Io.KnownBytes.{prepend_known}
+use Rattle.durable_machine.specs.Durable.{IsDurable}
+use Rattle.search_server.specs.LinkState.{link_state, shared_state}
+use Rattle.search_server.specs.Passed.{PassedIfDue}
 use Rattle.search_server.proofs.Progress.{Progress}
 use Rattle.search_server.proofs.serve.serve_link.Given as goal
 
@@ -7,23 +10,15 @@ abbrev pub invariant-loop-served : goal.invariant-loop-served
 invariant-loop-served g l = record {
   progress : (bytes : List ℕ) → g.P.Link.left l.fn.link ≡ Some bytes
       → Progress bytes
-      (record {
-        pending = g.P.Link.left l.fn.link;
-        told = g.P.Link.told l.fn.link;
-        state = l.fn.machine;
-        fetches = l.fn.fetches;
-        read_faults = g.P.Link.read_faults l.fn.link;
-        write_faults = g.P.Link.write_faults l.fn.link;
-      })
-      (record {
-        pending = prepend_known l.kept (g.P.Link.left l.link);
-        told = g.P.Link.told l.link;
-        state = l.machine;
-        fetches = l.fetches;
-        read_faults = g.P.Link.read_faults l.link;
-        write_faults = g.P.Link.write_faults l.link;
-      })
+      (link_state g.P.Link.left g.P.Link.told g.P.Link.read_faults g.P.Link.write_faults l.fn.link
+      (shared_state g.K.Disk.contents g.K.Disk.disk_faults l.fn.machine.machine l.fn.fetches l.fn.disk_a l.fn.disk_b))
+      (link_state (λ link. prepend_known l.kept (g.P.Link.left link)) g.P.Link.told g.P.Link.read_faults g.P.Link.write_faults l.link
+      (shared_state g.K.Disk.contents g.K.Disk.disk_faults l.machine.machine l.fetches l.disk_a l.disk_b))
       l.served false;
+  durable : IsDurable l.machine (g.K.Disk.contents l.disk_a) (g.K.Disk.contents l.disk_b);
+  due : PassedIfDue l.fn.machine l.machine l.passed;
   read_later : g.P.Link.read_faults l.fn.link ≤ g.P.Link.read_faults l.link;
   write_later : g.P.Link.write_faults l.fn.link ≤ g.P.Link.write_faults l.link;
+  later_a : g.K.Disk.disk_faults l.fn.disk_a ≤ g.K.Disk.disk_faults l.disk_a;
+  later_b : g.K.Disk.disk_faults l.fn.disk_b ≤ g.K.Disk.disk_faults l.disk_b;
 }

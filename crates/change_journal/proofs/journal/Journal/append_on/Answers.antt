@@ -8,6 +8,7 @@ use Rattle.change_journal.proofs.Runs.{weaker}
 use Rattle.change_journal.proofs.Walks.{length-entry_bytes}
 use Rattle.change_journal.proofs.Grow.{gate_within, adds_grows}
 use Rattle.change_journal.proofs.Both.{told_map, told_holds, now_one}
+use Rattle.change_journal.proofs.Telling.{settled_mapped}
 use Rattle.change_journal.proofs.journal.Journal.append_on.Goals as goal
 
 pub add-requires-clause-at_gate : goal.add-requires-clause-at_gate
@@ -57,3 +58,6 @@ pub returns-clause-size : goal.returns-clause-size
 returns-clause-size g c =
     let long : length c.bytes-piece.result.now ≡ length c.args.entry.now.payload + 13 = ap length c.bytes-piece.ensures.bytes ∙ length-entry_bytes c.args.entry.now.number c.args.entry.now.payload in
     omega (arith, long)
+
+pub returns-clause-settled : goal.returns-clause-settled
+returns-clause-settled g c = λ calm. settled_mapped (λ (s : Contents). added c.args.self.now.gate c.bytes-piece.result.now s.now) (g.K.Disk.contents c.args.disk.now) (g.K.Disk.contents c.add.new.disk) c.in_ok-add.ensures.added

@@ -9,6 +9,8 @@ use Rattle.change_journal.proofs.Left.{only_fresh}
 use Rattle.change_journal.proofs.Runs.{left_of}
 use Rattle.change_journal.proofs.Both.{on_ok_map, first_moves, second_moves}
 use Rattle.change_journal.proofs.Checkpoints.{remade_first, remade_second, remade_none, made_first, made_second, holds_older, none_older}
+use Rattle.change_journal.specs.Fits.{IsSettled}
+use Rattle.change_journal.proofs.Telling.{same_after}
 use Rattle.change_journal.proofs.journal.Journal.checkpoint.Goals as goal
 
 pub returns-then-self-clause-any_moment : goal.returns-then-self-clause-any_moment
@@ -96,3 +98,12 @@ returns-in-None-clause-now g c =
     let short : length image < 2 ^ 64 = search rules in
     on_ok_map c.checkpoint_on-in-None.result (λ now less a b was_a was_b. made_first j.generation j.count image few short c.requires.image (g.K.Disk.contents c.checkpoint_on-in-None.new.disk) (g.K.Disk.contents c.args.disk_b.now) b was_b
     (none_older j.generation b (subst (λ o. Told o (λ ys. IsOlder 0 (look ys))) was_b disks.1)) (now a was_a)) c.checkpoint_on-in-None.ensures.now
+
+pub returns-in-Some-A-clause-settled_a : goal.returns-in-Some-A-clause-settled_a
+returns-in-Some-A-clause-settled_a g c = same_after c.checkpoint_on.result (IsSettled (g.K.Disk.contents c.args.disk_a.now))
+
+pub returns-in-Some-B-clause-settled_b : goal.returns-in-Some-B-clause-settled_b
+returns-in-Some-B-clause-settled_b g c = same_after c.checkpoint_on-in-Some-B.result (IsSettled (g.K.Disk.contents c.args.disk_b.now))
+
+pub returns-in-None-clause-settled_b : goal.returns-in-None-clause-settled_b
+returns-in-None-clause-settled_b g c = same_after c.checkpoint_on-in-None.result (IsSettled (g.K.Disk.contents c.args.disk_b.now))

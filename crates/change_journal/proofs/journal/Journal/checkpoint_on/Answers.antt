@@ -15,3 +15,6 @@ pub returns-clause-now : goal.returns-clause-now
 returns-clause-now g c =
     λ ys was. now_made (g.K.Disk.contents c.args.disk.now) (g.K.Disk.contents c.remake.new.disk) ys (1 ∷ image_disk (c.args.self.now.generation + 1) c.args.image.now)
     c.in_ok-remake.ensures.alike c.in_ok-remake.ensures.settled c.in_ok-remake.ensures.made was
+
+pub returns-clause-settled : goal.returns-clause-settled
+returns-clause-settled g c = λ calm. c.in_ok-remake.ensures.settled

@@ -1,0 +1,5 @@
+pub mod Sides
+pub mod Runs
+pub mod Pairs
+pub mod Crash
+pub mod Reopening

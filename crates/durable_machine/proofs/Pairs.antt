@@ -1,0 +1,102 @@
+-- The state of two disks depends on their stored pair alone.
+use Rattle.std.proofs.Common.{◌≡◌, ℕ, List, [], ◌∷◌, ◌++◌, refl, sym, ◌∙◌, ap, Option, Some, None, Result, Ok, Err}
+use Rattle.change_payloads.specs.Change.{Spot as PayloadSpot}
+use Rattle.index_image.specs.Image.{state_at}
+use Rattle.index_image.specs.Rows.{ImageData}
+use Rattle.change_journal.specs.Format.{Walk, shut, broken, entry, payloads, Spot, Stored, stored, Pair, pair_in, stored_pair}
+use Rattle.change_journal.specs.Fits.{grown, image_pair}
+use Rattle.search_routes.specs.State.{State}
+use Rattle.search_routes.specs.Machine.{empty_state}
+use Rattle.search_routes.specs.Images.{state_of, Spells}
+use Rattle.search_routes.specs.Redo.{redone}
+use Rattle.durable_machine.specs.Held.{if_redone, run_from, held_in, held}
+use Rattle.durable_machine.proofs.Runs.{reads}
+
+-- the value, without why there is none
+abbrev pub kept : {A E : Type 0} → Result A E → Option A
+kept (Ok x) = Some x
+kept (Err e) = None
+
+abbrev then_for : Option State → (State → Option State) → Option State
+then_for (Some s) rest = rest s
+then_for None rest = None
+
+abbrev pub after : State → List (List ℕ) → Option State
+after s [] = Some s
+after s (bytes ∷ others) = then_for (kept (redone s bytes)) (λ t. after t others)
+
+abbrev of_image : Result ImageData PayloadSpot → List (List ℕ) → Option State
+of_image (Ok s) changes = after (state_of s) changes
+of_image (Err spot) changes = None
+
+abbrev of_pair : Option (List ℕ) → List (List ℕ) → Option State
+of_pair None changes = after empty_state changes
+of_pair (Some image) changes = of_image (state_at image) changes
+
+-- the state of a stored pair
+abbrev pub pair_state : Result Pair Spot → Option State
+pair_state (Ok p) = of_pair p.image p.changes
+pair_state (Err spot) = None
+
+run_next : (disk at : ℕ) (records : Walk) (r : Result State PayloadSpot) → ((t : State) → kept (run_from disk t records) ≡ after t (payloads records))
+    → kept (if_redone disk at r (λ t. run_from disk t records)) ≡ then_for (kept r) (λ t. after t (payloads records))
+run_next disk at records (Ok t) goes = goes t
+run_next disk at records (Err spot) goes = refl
+
+run_pairs : (disk : ℕ) (s : State) (records : Walk) → kept (run_from disk s records) ≡ after s (payloads records)
+run_pairs disk s (shut at) = refl
+run_pairs disk s (broken place) = refl
+run_pairs disk s (entry at bytes records) = run_next disk at records (redone s bytes) (λ t. run_pairs disk t records)
+
+held_next : (r : Result (Option Stored) Spot) → ((s : Stored) → r ≡ Ok (Some s) → state_at s.image ≡ Ok s.state) → kept (held_in r) ≡ pair_state (pair_in r)
+held_next (Ok None) spelled = refl
+held_next (Ok (Some s)) spelled = run_pairs s.active (state_of s.state) s.records ∙ ap (λ (r : Result ImageData PayloadSpot). of_image r (payloads s.records)) (sym (spelled s refl))
+held_next (Err spot) spelled = refl
+
+pub held_pair : (xs ys : List ℕ) → kept (held xs ys) ≡ pair_state (stored_pair xs ys)
+unfolding held
+held_pair xs ys = held_next (stored xs ys) (λ s e. (reads xs ys s e).state)
+
+kept_ok : {E : Type 0} (r : Result State E) (s : State) → kept r ≡ Some s → r ≡ Ok s
+kept_ok (Ok t) s e = cc (e)
+kept_ok (Err spot) s e = absurd (cc (e))
+
+pub held_to : (xs ys : List ℕ) (s : State) → held xs ys ≡ Ok s → pair_state (stored_pair xs ys) ≡ Some s
+held_to xs ys s e = sym (held_pair xs ys) ∙ ap (λ (r : Result State Spot). kept r) e
+
+pub held_from : (xs ys : List ℕ) (s : State) → pair_state (stored_pair xs ys) ≡ Some s → held xs ys ≡ Ok s
+held_from xs ys s e = kept_ok (held xs ys) s (held_pair xs ys ∙ e)
+
+-- one change more
+last_one : (r : Result State PayloadSpot) → then_for (kept r) (λ t. Some t) ≡ kept r
+last_one (Ok t) = refl
+last_one (Err spot) = refl
+
+push_next : (o : Option State) (others : List (List ℕ)) (bytes : List ℕ) → ((t : State) → after t (others ++ bytes ∷ []) ≡ then_for (after t others) (λ u. kept (redone u bytes)))
+    → then_for o (λ t. after t (others ++ bytes ∷ [])) ≡ then_for (then_for o (λ t. after t others)) (λ u. kept (redone u bytes))
+push_next (Some t) others bytes goes = goes t
+push_next None others bytes goes = refl
+
+after_push : (s : State) (changes : List (List ℕ)) (bytes : List ℕ) → after s (changes ++ bytes ∷ []) ≡ then_for (after s changes) (λ t. kept (redone t bytes))
+after_push s [] bytes = last_one (redone s bytes)
+after_push s (first ∷ others) bytes = push_next (kept (redone s first)) others bytes (λ t. after_push t others bytes)
+
+image_push : (r : Result ImageData PayloadSpot) (changes : List (List ℕ)) (bytes : List ℕ) → of_image r (changes ++ bytes ∷ []) ≡ then_for (of_image r changes) (λ t. kept (redone t bytes))
+image_push (Ok s) changes bytes = after_push (state_of s) changes bytes
+image_push (Err spot) changes bytes = refl
+
+pair_push : (image : Option (List ℕ)) (changes : List (List ℕ)) (bytes : List ℕ) → of_pair image (changes ++ bytes ∷ []) ≡ then_for (of_pair image changes) (λ t. kept (redone t bytes))
+pair_push None changes bytes = after_push empty_state changes bytes
+pair_push (Some image) changes bytes = image_push (state_at image) changes bytes
+
+grown_push : (r : Result Pair Spot) (bytes : List ℕ) → pair_state (grown bytes r) ≡ then_for (pair_state r) (λ t. kept (redone t bytes))
+grown_push (Ok p) bytes = pair_push p.image p.changes bytes
+grown_push (Err spot) bytes = refl
+
+pub grown_state : (r : Result Pair Spot) (bytes : List ℕ) (s t : State) → pair_state r ≡ Some s → redone s bytes ≡ Ok t → pair_state (grown bytes r) ≡ Some t
+grown_state r bytes s t was e =
+    grown_push r bytes ∙ ap (λ (o : Option State). then_for o (λ u. kept (redone u bytes))) was ∙ ap (λ (q : Result State PayloadSpot). kept q) e
+
+-- an image with no change behind it
+pub image_state : (image : List ℕ) (s : State) → Spells image s (state_at image) → pair_state (Ok (image_pair image)) ≡ Some s
+image_state image s spelled = ap (λ (r : Result ImageData PayloadSpot). of_image r []) spelled.is ∙ ap (λ (t : State). Some t) spelled.machine_of

@@ -1,0 +1,43 @@
+use Rattle.std.proofs.Common.{rules, sym, subst, ◌∙◌}
+use Rattle.http_wire.specs.Sent.{IsSentAs}
+use Rattle.http_wire.specs.Wire.{request_of}
+use Rattle.search_routes.specs.Chosen.{answer_of}
+use Rattle.durable_machine.proofs.Crash.{crash_now}
+use Rattle.durable_machine.proofs.machine.DurableMachine.answer.Goals as goal
+
+pub returns-in-Err-clause-crash_now : goal.returns-in-Err-clause-crash_now
+returns-in-Err-clause-crash_now g c = crash_now c.args.self.now (g.K.Disk.contents c.args.disk_a.now) (g.K.Disk.contents c.args.disk_b.now) (search rules)
+
+pub returns-in-Err-entry_of-clause-crash_now : goal.returns-in-Err-entry_of-clause-crash_now
+returns-in-Err-entry_of-clause-crash_now g c = crash_now c.args.self.now (g.K.Disk.contents c.args.disk_a.now) (g.K.Disk.contents c.args.disk_b.now) (search rules)
+
+pub returns-in-None-clause-crash_now : goal.returns-in-None-clause-crash_now
+returns-in-None-clause-crash_now g c =
+    crash_now (record { machine = c.perform-reply.new.machine; journal = c.args.self.now.journal }) (g.K.Disk.contents c.args.disk_a.now) (g.K.Disk.contents c.args.disk_b.now) (search rules)
+
+pub returns-then-changes-before-clause-crash_now : goal.returns-then-changes-before-clause-crash_now
+returns-then-changes-before-clause-crash_now g c =
+    crash_now (record { machine = c.perform-reply.new.machine; journal = c.args.self.now.journal }) (g.K.Disk.contents c.args.disk_a.now) (g.K.Disk.contents c.args.disk_b.now) (search rules)
+
+pub returns-clause-crash_now : goal.returns-clause-crash_now
+returns-clause-crash_now g c = crash_now c.keep.new.self (g.K.Disk.contents c.keep.new.disk_a) (g.K.Disk.contents c.keep.new.disk_b) c.in_ok-passed.ensures.durable
+
+pub returns-in-None-clause-step : goal.returns-in-None-clause-step
+returns-in-None-clause-step g c =
+    let done = c.perform-reply.ensures.answered (request_of c.args.wire) c.in-Ok.ensures.call in
+    (done.0, done.2, subst (λ r. IsSentAs r (answer_of c.args.self.now.machine (request_of c.args.wire) done.0)) (sym c.told-in-None.ensures.reply) done.1)
+
+pub returns-then-changes-before-clause-step : goal.returns-then-changes-before-clause-step
+returns-then-changes-before-clause-step g c =
+    let done = c.perform-reply.ensures.answered (request_of c.args.wire) c.in-Ok.ensures.call in
+    (done.0, done.2, subst (λ r. IsSentAs r (answer_of c.args.self.now.machine (request_of c.args.wire) done.0)) (sym c.told-then-changes-before.ensures.reply) done.1)
+
+pub returns-in_err-passed-clause-step : goal.returns-in_err-passed-clause-step
+returns-in_err-passed-clause-step g c =
+    let done = c.perform-reply.ensures.answered (request_of c.args.wire) c.in-Ok.ensures.call in
+    (done.0, c.keep.ensures.machine ∙ done.2, search rules)
+
+pub returns-clause-step : goal.returns-clause-step
+returns-clause-step g c =
+    let done = c.perform-reply.ensures.answered (request_of c.args.wire) c.in-Ok.ensures.call in
+    (done.0, c.keep.ensures.machine ∙ done.2, done.1)

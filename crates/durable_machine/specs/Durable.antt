@@ -1,0 +1,24 @@
+-- A machine whose accepted changes stand on two disks.
+use Rattle.std.specs.Prelude.{◌≡◌, ◌≢◌, ℕ, List, Option, None, Some, Ok}
+use Rattle.outside_io.specs.Disks.{Contents, fresh, MayLeave}
+use Rattle.change_journal.specs.Fits.{IsSettled, Fits}
+use Rattle.search_routes.specs.State.{State}
+use Rattle.durable_machine.specs.Held.{held}
+use Rattle.durable_machine.specs.declared.machine.DurableMachine.{DurableMachine}
+
+-- two disks where nothing is pending hold this state, where they tell what they hold
+abbrev pub Hold : Option Contents → Option Contents → State → Type 0
+Hold a b s = (xs ys : List ℕ) → a ≡ Some (fresh xs) → b ≡ Some (fresh ys) → held xs ys ≡ Ok s
+
+-- whatever a crash may now leave on two disks holds one of these states
+abbrev pub CrashHolds : Option Contents → Option Contents → (State → Type 0) → Type 0
+CrashHolds a b P = (xs ys : List ℕ) → MayLeave a xs → MayLeave b ys → (s : State) × (held xs ys ≡ Ok s) × P s
+
+-- the machine is what the disks hold; nothing is pending, and its journal goes on there
+pub record IsDurable (m : DurableMachine) (a b : Option Contents) : Type 0 where
+  pub active : m.journal.active ≢ None
+  pub fits : Fits m.journal a b
+  pub count : m.journal.count ≡ m.machine.changes
+  pub settled_a : IsSettled a
+  pub settled_b : IsSettled b
+  pub holds : Hold a b m.machine

@@ -1,0 +1,4 @@
+-- A machine on two disks.
+pub mod Held
+pub mod Durable
+pub mod Reopened

@@ -1,0 +1,31 @@
+-- What making a machine again answers.
+use Rattle.std.specs.Prelude.{◌≡◌, ℕ, ◌+◌, ◌≤◌, length, Result, Ok, Err}
+use Rattle.change_journal.specs.Format.{Walk, shut, broken, entry, Spot}
+use Rattle.change_journal.specs.declared.opening.JournalFault.{JournalFault}
+use Rattle.change_journal.specs.declared.opening.JournalFault.TheVariants.{DiskFault, Damaged, NoMemory}
+use Rattle.search_routes.specs.State.{State}
+use Rattle.durable_machine.specs.declared.machine.DurableMachine.{DurableMachine}
+
+-- each payload ends below a gate
+abbrev pub AllBelow : ℕ → Walk → Type 0
+AllBelow gate (shut at) = Unit {0}
+AllBelow gate (broken place) = Unit {0}
+AllBelow gate (entry at bytes records) = (at + length bytes ≤ gate) × AllBelow gate records
+
+-- why a machine was not made again: the damage, unless memory was wanting
+abbrev pub IsDamage : JournalFault → Result State Spot → Type 0
+IsDamage (Damaged disk place found) run = run ≡ Err (record { disk = disk; place = place; found = found })
+IsDamage NoMemory run = Unit {0}
+IsDamage DiskFault run = ⊥
+
+abbrev pub IsRun : Result (Unit {0}) JournalFault → Result State Spot → State → Type 0
+IsRun (Ok u) run new = run ≡ Ok new
+IsRun (Err fault) run new = IsDamage fault run
+
+abbrev pub IsMade : Result State JournalFault → Result State Spot → Type 0
+IsMade (Ok machine) run = run ≡ Ok machine
+IsMade (Err fault) run = IsDamage fault run
+
+abbrev pub IsHeld : Result DurableMachine JournalFault → Result State Spot → Type 0
+IsHeld (Ok made) run = run ≡ Ok made.machine
+IsHeld (Err fault) run = IsDamage fault run

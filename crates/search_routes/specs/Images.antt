@@ -1,0 +1,41 @@
+-- The state that stands in an image, and what reading it needs.
+use Rattle.std.specs.Prelude.{◌≡◌, ℕ, ◌+◌, List, [], ◌∷◌, length, map, Result, Ok, Err}
+use Rattle.change_payloads.specs.Change.{Spot}
+use Rattle.change_payloads.specs.declared.fault.ImageFault.{ImageFault}
+use Rattle.change_payloads.specs.declared.fault.ImageFault.TheVariants.{Damaged, NoMemory}
+use Rattle.index_image.specs.Rows.{IndexData, ImageData}
+use Rattle.index_core.specs.Index.{Index}
+use Rattle.index_core.specs.Images.{index_of}
+use Rattle.search_routes.specs.State.{State}
+
+abbrev pub entry_of : IndexData → List ℕ × Index
+entry_of i = (i.uid, index_of i)
+
+-- the machine of an image
+abbrev pub state_of : ImageData → State
+state_of s = record { changes = s.changes; indexes = map entry_of s.indexes }
+
+abbrev pub documents_of : List IndexData → ℕ
+documents_of [] = 0
+documents_of (i ∷ is) = length i.documents + documents_of is
+
+-- each document is read once
+abbrev pub image_need : ImageData → ℕ
+image_need s = documents_of s.indexes
+
+-- the same of bytes that may spell no state
+abbrev pub need_of : Result ImageData Spot → ℕ
+need_of (Ok s) = image_need s
+need_of (Err spot) = 0
+
+-- the machine of the image that the bytes spell, or where they are damaged, unless memory was wanting
+abbrev pub Opens : Result State ImageFault → Result ImageData Spot → Type 0
+Opens (Ok machine) spelled = (s : ImageData) × (spelled ≡ Ok s) × (machine ≡ state_of s)
+Opens (Err (Damaged place found)) spelled = spelled ≡ Err (record { place = place; found = found })
+Opens (Err NoMemory) spelled = Unit {0}
+
+-- these bytes spell a state whose machine is this one
+pub record Spells (bytes : List ℕ) (machine : State) (spelled : Result ImageData Spot) : Type 0 where
+  pub state : ImageData
+  pub is : spelled ≡ Ok state
+  pub machine_of : state_of state ≡ machine

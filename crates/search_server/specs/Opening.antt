@@ -1,0 +1,65 @@
+-- Opening the machine that two disks hold, and what follows.
+use Rattle.std.specs.Prelude.{◌≡◌, ◌⊎◌, ℕ, ◌+◌, ◌≤◌, List, Option, Some, Ok, Err}
+use Rattle.outside_io.specs.Disks.{Contents, fresh}
+use Rattle.search_routes.specs.State.{State}
+use Rattle.durable_machine.specs.Held.{held, opening_need}
+use Rattle.durable_machine.specs.Durable.{CrashHolds}
+use Rattle.search_server.specs.LinkState.{DiskState, Shared, disk_state}
+use Rattle.search_server.specs.Statuses.{DiskRose}
+use Rattle.search_server.specs.declared.status.Status.{Status}
+use Rattle.search_server.specs.declared.status.Status.TheVariants.{Done, BadWords, ReadFault, WriteFault, DoorFault, DiskFault, Damaged, CutShort, BadHead, RequestsSpent, NoMemory}
+
+-- what a machine is opened from, and what is left of it: how many stored documents were read, and the two disks
+pub record Unopened : Type 0 where
+  pub fetches : ℕ
+  pub disk_a : DiskState
+  pub disk_b : DiskState
+
+abbrev pub unopened_state : {K : Type 0} → (K → Option Contents) → (K → ℕ) → ℕ → K → K → Unopened
+unopened_state contents faults fetches disk_a disk_b = record {
+  fetches = fetches;
+  disk_a = disk_state contents faults disk_a;
+  disk_b = disk_state contents faults disk_b;
+}
+
+-- the same with a machine
+abbrev pub with_state : State → Unopened → Shared
+with_state state s = record { state = state; fetches = s.fetches; disk_a = s.disk_a; disk_b = s.disk_b }
+
+-- P of the bytes of two disks where nothing is pending, where they tell them
+abbrev pub ForBytes : Unopened → (List ℕ → List ℕ → Type 0) → Type 0
+ForBytes s P = (xs ys : List ℕ) → s.disk_a.contents ≡ Some (fresh xs) → s.disk_b.contents ≡ Some (fresh ys) → P xs ys
+
+-- The machine was opened: its state is the one that the disks held, and whatever a crash may now leave holds it.
+pub record Opened (old : Unopened) (found : Shared) : Type 0 where
+  pub state : ForBytes old (λ xs ys. held xs ys ≡ Ok found.state)
+  pub crash : CrashHolds found.disk_a.contents found.disk_b.contents (λ t. t ≡ found.state)
+  pub fetched : ForBytes old (λ xs ys. found.fetches ≤ old.fetches + opening_need xs ys)
+
+-- why no machine is opened
+abbrev pub IsUnopened : Unopened → Unopened → Status → Type 0
+IsUnopened old new DiskFault = DiskRose old.disk_a old.disk_b new.disk_a new.disk_b
+IsUnopened old new (Damaged disk place found) =
+    ForBytes old (λ xs ys. held xs ys ≡ Err (record { disk = disk; place = place; found = found }))
+IsUnopened old new NoMemory = Unit {0}
+IsUnopened old new Done = ⊥
+IsUnopened old new BadWords = ⊥
+IsUnopened old new ReadFault = ⊥
+IsUnopened old new WriteFault = ⊥
+IsUnopened old new DoorFault = ⊥
+IsUnopened old new (CutShort rest) = ⊥
+IsUnopened old new (BadHead kind number) = ⊥
+IsUnopened old new RequestsSpent = ⊥
+
+-- No machine was opened: whatever a crash may now leave holds the state that the disks held, if they held one.
+pub record NotOpened (old new : Unopened) (status : Status) : Type 0 where
+  pub why : IsUnopened old new status
+  pub kept : ForBytes old (λ xs ys. (s : State) → held xs ys ≡ Ok s
+      → CrashHolds new.disk_a.contents new.disk_b.contents (λ t. t ≡ s))
+  pub fetched : ForBytes old (λ xs ys. new.fetches ≤ old.fetches + opening_need xs ys)
+
+-- A machine was opened, and served from what was found to what was left; or none was, and all else is as it was.
+abbrev pub OpensAndServes : Unopened → Unopened → Status → Type 0 → (Shared → Shared → Type 0) → Type 0
+OpensAndServes old new status AsItWas Serving =
+    (NotOpened old new status × AsItWas)
+    ⊎ ((found : Shared) × Opened old found × (end : State) × Serving found (with_state end new))
