@@ -1,17 +1,11 @@
 -- A graph of words in a row.
-use Rattle.std.proofs.Common.{◌≡◌, ℕ, ◌+◌, ◌-◌, ◌<◌, ◌≤◌, ◌^◌, List, [], ◌∷◌, ◌++◌, arith}
+use Rattle.std.proofs.Common.{ℕ, ◌+◌, ◌-◌, ◌<◌, ◌^◌, List, arith}
 use Rattle.std.specs.List.{AllByRecursion}
 use Rattle.condition_graph.specs.declared.graph.ConditionEdge.{ConditionEdge}
-use Rattle.condition_graph.specs.EdgesView.{EdgesView}
 use Rattle.condition_graph.specs.Paths.{IsForward}
 use Rattle.condition_graph.specs.Promise.{IsCondition, IsConditionGraph}
-use Rattle.condition_graph.proofs.PathLemmas.{all-append, all-weaken, paths-small, Falls}
+use Rattle.condition_graph.proofs.PathLemmas.{all-weaken, paths-small, Falls}
 use Rattle.bench_ranking.specs.Ranks.{IsStep}
-
--- one step more
-pub with-step : (words : ℕ) (edges : List ConditionEdge) (edge : ConditionEdge) → AllByRecursion (IsStep words) edges → IsStep words edge
-    → AllByRecursion (IsStep words) (edges ++ edge ∷ [])
-with-step words edges edge all one = all-append (IsStep words) edges (edge ∷ []) all (one, tt)
 
 -- how many words are left at a place
 left : ℕ → ℕ → ℕ

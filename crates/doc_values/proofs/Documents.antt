@@ -6,7 +6,6 @@ use Rattle.std.proofs.lemmas.Str.{IsUtf8-from_is_utf8, is_utf8-from_IsUtf8}
 use Rattle.std.specs.Ordering.{match_ordering}
 use Rattle.std.specs.Str.{IsUtf8, is_utf8, bytes_eq}
 use Rattle.serde_json.specs.Data.{Data, null, boolean, number, string, array, object, Members, no_members, member, put, depth, members_depth}
-use Rattle.serde_json.specs.Find.{as_object}
 use Rattle.serde_json.specs.Read.{read}
 use Rattle.serde_json.specs.Written.{has_float, members_have_float, compact_text}
 use Rattle.doc_values.specs.Walk.{members_in, walk_of_members, first_broken, document_of}
@@ -99,11 +98,3 @@ document-from_small ms h = record { whole = ap (λ o. o >> Ok (object ms)) (walk
 
 pub merge_is_document : (old new : Data) → IsDocument old → IsDocument new → IsDocument (merge old new)
 merge_is_document old new p q = document-from_small _ (small-put_all 126 (members_in new) (members_in old) (small-document new q) (small-document old p))
-
-pub document_is_object : (d : Data) → IsDocument d → (as_object d ≡ None → ⊥)
-document_is_object null h e = let w = h.whole in cc
-document_is_object (boolean b) h e = let w = h.whole in cc
-document_is_object (number n) h e = let w = h.whole in cc
-document_is_object (string s) h e = let w = h.whole in cc
-document_is_object (array ds) h e = let w = h.whole in cc
-document_is_object (object ms) h e = cc

@@ -4,31 +4,30 @@ ghost use Rattle.doc_values.specs.Stored.{document_at};
 ghost use Rattle.doc_values.specs.Whole.{IsDocument};
 
 use crate::document::Document;
-use search_base::{Fault, NoMemory};
+use search_base::{Fault, NoMemory, Word};
 use serde_json::Value;
-use std::alloc::Global;
+use std::alloc::{AllocError, Global};
 use std::marker::Model;
 
 /// A document as an index keeps it: its canonical text, with no room to spare where the allocator gives that back.
-/// Seen as the document's data, as a `Document` is.
+/// Its clones share one text. Seen as the document's data, as a `Document` is.
 #[derive(Drop)]
 pub struct DocumentText {
-    text: String,
+    text: Word,
 }
 
 impl Model for DocumentText {
     ghost use Rattle.serde_json.specs.Data.{Data};
     ghost use Rattle.doc_values.specs.DataCode.{data_code};
-    ghost use Rattle.std.specs.Prelude.{string_bytes};
     ghost use Rattle.doc_values.specs.Texts.{text_data, IsDocumentText};
 
     ghost Value = { Data };
 
     ghost coded = { data_code };
 
-    ghost view = { λ kept. text_data (string_bytes kept.text) };
+    ghost view = { λ kept. text_data kept.text };
 
-    ghost invariant = { λ kept. IsDocumentText (string_bytes kept.text) };
+    ghost invariant = { λ kept. IsDocumentText kept.text };
 }
 
 impl DocumentText {
@@ -38,7 +37,9 @@ impl DocumentText {
     {
         let mut text = document.as_json().to_string(alloc)?;
         text.shrink_to_fit();
-        Ok(DocumentText { text })
+        Ok(DocumentText {
+            text: Word::from_string(text)?,
+        })
     }
 
     /// The document whose canonical text these bytes are. None where they are the canonical text of no document, also
@@ -85,5 +86,14 @@ impl DocumentText {
             Ok(value) => Ok(Document::whole(value)),
             Err(_) => Err(NoMemory),
         }
+    }
+}
+
+impl Clone for DocumentText {
+    ghost is_clone = { λ kept copy. copy ≡ kept };
+
+    fn clone(&self) -> Result<DocumentText, AllocError> {
+        let text = self.text.clone()?;
+        Ok(DocumentText { text })
     }
 }

@@ -1,7 +1,6 @@
 -- The machine of what was opened.
 use Rattle.std.proofs.Common.{◌≡◌, ℕ, ◌+◌, List, [], ◌∷◌, refl, sym, ◌∙◌, ap, subst, Option, Some, None, Result, Ok, Err}
 use Rattle.std.specs.Option.{option_map}
-use Rattle.change_payloads.specs.Change.{Spot as PayloadSpot}
 use Rattle.index_image.specs.declared.rows.ImageRows.{ImageRows}
 use Rattle.index_image.specs.Rows.{ImageData, image_view}
 use Rattle.change_journal.specs.Format.{Walk, shut, end_of, Spot, Stored, stored}
@@ -11,20 +10,13 @@ use Rattle.outside_io.specs.Disks.{Contents, fresh}
 use Rattle.change_journal.specs.declared.opening.Opened.{Opened}
 use Rattle.change_journal.specs.declared.opening.StoredChange.{StoredChange}
 use Rattle.change_journal.specs.declared.opening.JournalFault.{JournalFault}
-use Rattle.change_journal.specs.declared.opening.JournalFault.TheVariants.{DiskFault, Damaged, NoMemory}
+use Rattle.change_journal.specs.declared.opening.JournalFault.TheVariants.{Damaged}
 use Rattle.search_routes.specs.State.{State}
 use Rattle.search_routes.specs.Machine.{empty_state}
 use Rattle.search_routes.specs.Images.{state_of, image_need}
-use Rattle.durable_machine.specs.Held.{if_redone, run_from, held_in, held, run_need, need_in, opening_need}
-use Rattle.durable_machine.specs.Reopened.{AllBelow, IsDamage}
+use Rattle.durable_machine.specs.Held.{run_from, held_in, held, run_need, need_in, opening_need}
+use Rattle.durable_machine.specs.Reopened.{AllBelow}
 use Rattle.durable_machine.proofs.Runs.{Reads, reads}
-
--- the first change that is damaged ends the run
-pub damaged_run : (fault : JournalFault) (disk at : ℕ) (r : Result State PayloadSpot) (rest : State → Result State Spot) → IsDamage fault (if_redone disk at r Ok) → IsDamage fault (if_redone disk at r rest)
-damaged_run (Damaged d place found) disk at (Ok t) rest e = absurd (cc (e))
-damaged_run (Damaged d place found) disk at (Err spot) rest e = e
-damaged_run NoMemory disk at r rest e = tt
-damaged_run DiskFault disk at r rest e = absurd e
 
 end_behind : (changes : List StoredChange) (gate : ℕ) → end_of (behind changes (shut gate)) ≡ Ok gate
 end_behind [] gate = refl

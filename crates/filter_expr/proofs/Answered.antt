@@ -92,11 +92,3 @@ one_place text p q h k =
     let a : p < q → ⊥ = no_earlier text p q h k in
     let b : q < p → ⊥ = no_earlier text q p k h in
     omega arith
-
-pub syntax_read : (text : List ℕ) (p : ℕ) → IsSyntaxFault text p → ((q : ℕ) → IsTooDeep text q → ⊥) → reading_of text ≡ Err (syntax_at p)
-syntax_read text p h other = by_answer (reading_of text) (answer_is text)
-  where
-    by_answer : (r : Result Reading TextFault) → AnswerIs text r → r ≡ Err (syntax_at p)
-    by_answer (Ok r) (f, is, within, same) = absurd (h.no_filter f is)
-    by_answer (Err (syntax_at q)) (k, none) = ap (λ n. Err (syntax_at n)) (one_place text q p k h)
-    by_answer (Err (too_deep_at q)) k = absurd (other q k)

@@ -132,9 +132,6 @@ word_deep (b ∷ v) u rest from at m n far good stops e deep =
     rw (both.0, fits_word m.state m.level m.outer (u ++ b ∷ []) v (ap is_some e')) refl in
     goes_so ∙ h
 
-one_token : (p : Piece) (t x : Token) → token_in p ≡ t ∷ [] → token_in p ≡ x ∷ [] → x ≡ t
-one_token p t x e f = let same : x ∷ [] ≡ t ∷ [] = sym f ∙ e in cc
-
 -- a piece that opens, and goes too deep
 opening_deep : (p : Piece) (t : Token) (rest : List ℕ) (at : ℕ) (m n : Machine) → (t ≡ Not) ⊎ (t ≡ Open) → token_in p ≡ t ∷ [] → IsPiece p → Stops p rest → step m t ≡ Some n → most_depth < opened n
     → outcome_at (spelled p ++ rest) at (with gap m) ≡ Err (too_deep_at at)

@@ -1,11 +1,10 @@
 -- Indexes as the rows of an image, and from them.
-use Rattle.std.proofs.Common.{◌≡◌, ℕ, suc, ◌+◌, ◌<◌, ◌≤◌, Bool, true, false, List, [], ◌∷◌, ◌++◌, length, map, take, drop, Option, None, Some, option_map, Result, Ok, Err, refl, sym, ap, ap₂, subst, ◌∙◌, arith, bytes_eq}
+use Rattle.std.proofs.Common.{◌≡◌, ℕ, suc, ◌+◌, ◌≤◌, Bool, true, false, List, [], ◌∷◌, ◌++◌, length, map, take, drop, Option, None, Some, option_map, Result, Ok, Err, refl, sym, ap, ap₂, subst, ◌∙◌, arith, bytes_eq}
 use Rattle.std.specs.Prelude.{nat_lt, not, ◌&&◌, ◌||◌, unwrap_or}
 use Rattle.std.specs.List.{AllByRecursion, filter_map, cons_option}
 use Rattle.std.specs.Result.{result_ok}
 use Rattle.std.proofs.lemmas.List.{take_all}
-use Rattle.std.proofs.lemmas.Bool.{true≢false, cond-true, cond-false, cond_both, ltb-true, lt-ltb}
-use Rattle.serde_json.specs.Data.{Data}
+use Rattle.std.proofs.lemmas.Bool.{true≢false, cond-true, cond-false, ltb-true, lt-ltb}
 use Rattle.search_base.specs.declared.document.DocId.{DocId}
 use Rattle.doc_values.specs.declared.ids.IdRefusal.{IdRefusal}
 use Rattle.doc_values.specs.Ids.{external_id_of, is_uid}
@@ -20,7 +19,7 @@ use Rattle.index_settings.specs.View.{SettingsView}
 use Rattle.index_image.specs.declared.rows.ImageDocument.{ImageDocument}
 use Rattle.index_image.specs.Names.{has_name}
 use Rattle.index_image.specs.Rows.{IndexData}
-use Rattle.index_image.specs.State.{EachAfter, is_above, is_next, id_under, external_ids, is_free, are_registered, fits, most_documents, IsNew, IsPlaced, IsIndex}
+use Rattle.index_image.specs.State.{EachAfter, is_above, is_next, id_under, external_ids, is_free, are_registered, most_documents, IsNew, IsPlaced, IsIndex}
 use Rattle.index_core.specs.Images.{row_under, index_of, document_of}
 use Rattle.index_core.specs.Index.{Index}
 use Rattle.index_core.specs.Keyed.{AreUnder, NoneWithout, IsKeyed}
@@ -267,13 +266,6 @@ with_id id r = record { id = id; document = r.document }
 -- the document with an internal id
 abbrev pub document_at : List Row → DocId → Option ImageDocument
 document_at rows id = option_map (with_id id) (row_at id.0 rows)
-
-pub document-read : (rows : List Row) (id : DocId) (d e : Data) → e ≡ d → option_map (λ r. r.document) (row_at id.0 rows) ≡ Some d → document_at rows id ≡ Some (record { id = id; document = e })
-document-read rows id d e copy is = by (row_at id.0 rows) is
-  where
-    by : (o : Option Row) → option_map (λ r. r.document) o ≡ Some d → option_map (with_id id) o ≡ Some (record { id = id; document = e })
-    by None is = absurd (cc)
-    by (Some r) is = let same : r.document ≡ d = cc in ap (λ (v : Data). Some (record { id = id; document = v })) (same ∙ sym copy)
 
 read-each : (all rows : List Row) (ids : List DocId) → map (λ id. id.0) ids ≡ map (λ r. r.id) rows → AllByRecursion (IsThere all) rows → filter_map (document_at all) ids ≡ map document_of rows
 read-each all [] [] e h = refl

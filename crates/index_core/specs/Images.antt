@@ -1,5 +1,5 @@
 -- The index that stands in an image.
-use Rattle.std.specs.Prelude.{ℕ, List, [], map, Option, unwrap_or}
+use Rattle.std.specs.Prelude.{ℕ, List, [], map, unwrap_or}
 use Rattle.doc_store.specs.Store.{Row}
 use Rattle.index_image.specs.declared.rows.ImageDocument.{ImageDocument}
 use Rattle.index_image.specs.Rows.{IndexData}

@@ -1,5 +1,5 @@
 -- What an index keeps of its documents, in a slot for each internal id that was given.
-use Rattle.std.specs.Prelude.{◌≡◌, ◌≤◌, ℕ, suc, max, List, [], ◌∷◌, length, Option, None, Some}
+use Rattle.std.specs.Prelude.{◌≡◌, ◌≤◌, ℕ, suc, max, List, [], ◌∷◌, length, Option}
 use Rattle.search_base.specs.RowsView.{RowsView}
 use Rattle.index_settings.specs.View.{SettingsView}
 use Rattle.std.specs.Option.{option_map}

@@ -5,7 +5,6 @@ ghost use Rattle.index_core.specs.Images.{row_under, document_of};
 
 use crate::external_ids::id_at;
 use doc_store::{DocStore, StoredRow};
-use doc_values::DocumentText;
 use index_image::ImageDocument;
 use index_settings::{Settings, patch_checked};
 use search_base::{NoMemory, Steps, Word};
@@ -22,7 +21,7 @@ pub(crate) fn copy_of_settings(alloc: Global, settings: &Settings) -> Result<Set
     patch_checked(alloc, settings, &Value::Object(Map::new(alloc)))
 }
 
-/// The documents of a store under their internal ids, in the order of these. Each has a text of its own.
+/// The documents of a store under their internal ids, in the order of these. They share their texts with the store.
 pub(crate) fn image_documents(
     alloc: Global,
     store: &DocStore,
@@ -35,7 +34,7 @@ pub(crate) fn image_documents(
     let mut documents = Vec::with_capacity(alloc, ids.len())?;
     for id in ids {
         if let Some(text) = store.fetch(id, &mut steps) {
-            let document = DocumentText::of(alloc, &text.document(alloc)?)?;
+            let document = text.clone()?;
             documents.push(ImageDocument { id, document })?;
         }
     }

@@ -4,3 +4,4 @@ pub mod RowLemmas
 pub mod FreshLemmas
 pub mod PrefixLemmas
 pub mod TightLemmas
+pub mod FromLemmas

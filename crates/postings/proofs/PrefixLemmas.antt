@@ -55,11 +55,11 @@ above_all (x ∷ xs) (z ∷ zs) (y ∷ ys) le misses begins =
 abbrev pub shown : Option PagesView → Option (List ℕ)
 shown o = some_list (entries_of o)
 
-row_other : (w word entries : List ℕ) (rows : List (List ℕ × List ℕ)) → is_eq (word_cmp w word) ≡ false → value_at w (with_list word entries rows) ≡ value_at w rows
+pub row_other : (w word entries : List ℕ) (rows : List (List ℕ × List ℕ)) → is_eq (word_cmp w word) ≡ false → value_at w (with_list word entries rows) ≡ value_at w rows
 row_other w word [] rows h = refl
 row_other w word (x ∷ xs) rows h = cond-false _ _ _ h
 
-row_here : (w word entries : List ℕ) (rows : List (List ℕ × List ℕ)) → is_eq (word_cmp w word) ≡ true → value_at w rows ≡ None
+pub row_here : (w word entries : List ℕ) (rows : List (List ℕ × List ℕ)) → is_eq (word_cmp w word) ≡ true → value_at w rows ≡ None
     → value_at w (with_list word entries rows) ≡ some_list entries
 row_here w word [] rows h none = none
 row_here w word (x ∷ xs) rows h none = cond-true _ _ _ h
@@ -68,7 +68,7 @@ none_above : {X : Type 0} (w word : List ℕ) (rows : List (List ℕ × X)) → 
 none_above w word [] above less = refl
 none_above w word (r ∷ rs) above less = cond-false _ _ _ (ap is_eq (nat_list_cmp_total.trans w word r.0 less above.0)) ∙ none_above w word rs above.1 less
 
-none_equal : {X : Type 0} (w word : List ℕ) (rows : List (List ℕ × X)) → AllByRecursion (λ y. word_cmp word y ≡ Less) (keys_of rows) → is_eq (word_cmp w word) ≡ true → value_at w rows ≡ None
+pub none_equal : {X : Type 0} (w word : List ℕ) (rows : List (List ℕ × X)) → AllByRecursion (λ y. word_cmp word y ≡ Less) (keys_of rows) → is_eq (word_cmp w word) ≡ true → value_at w rows ≡ None
 none_equal w word [] above same = refl
 none_equal w word (r ∷ rs) above same =
     cond-false _ _ _ (ap is_eq (ap (λ v. word_cmp v r.0) (same_word w word same) ∙ above.0)) ∙ none_equal w word rs above.1 same

@@ -4,3 +4,4 @@ pub mod Dictionary
 pub mod Changes
 pub mod Fresh
 pub mod Prefixes
+pub mod Words

@@ -14,7 +14,9 @@ mod entry;
 mod postings;
 mod prefix;
 mod settled;
+mod words;
 
 pub use change::{Change, Prepared};
 pub use postings::Postings;
 pub use prefix::PrefixLists;
+pub use words::WordLists;

@@ -2,6 +2,8 @@ ghost use Rattle.std.specs.Prelude.{◌≡◌, ℕ, List, [], not, ◌&&◌, ◌
 ghost use Rattle.std.specs.List.{starts_with};
 ghost use Rattle.std.specs.List.Sorted.{IsStrictlySortedBy};
 ghost use Rattle.std.specs.Map.{keys_of};
+ghost use Rattle.std.specs.BTreeMap.Range.{is_from_start};
+ghost use Rattle.std.specs.Range.Bound.{bound_map};
 ghost use Rattle.std.specs.Option.{option_map};
 ghost use Rattle.sorted_pages.specs.Entries.{has};
 ghost use Rattle.postings.specs.Documents.{Document, IsBatch, after};
@@ -15,6 +17,7 @@ use crate::change::{Change, Prepared};
 use crate::dictionary::{Lists, change_words, drop_all_spent, reserve_words};
 use crate::prefix::PrefixLists;
 use crate::settled::settle;
+use crate::words::WordLists;
 use search_base::{NoMemory, Word};
 use sorted_pages::SortedPages;
 use std::alloc::Global;
@@ -71,6 +74,20 @@ impl Postings {
                 .lists
                 .range((Bound::Included(prefix), Bound::Unbounded)),
             done: false,
+        }
+    }
+
+    /// The words from a bound on, in order, each with the list of its places. Takes no memory, and
+    /// looks at no word before the bound.
+    pub fn words_from<'a>(&'a self, low: Bound<&'a Word>) -> WordLists<'a>
+        ensures lists { (word : List ℕ) → value_at word result
+            ≡ (if is_from_start word_cmp (bound_map (λ w. w.now) low.entry) word
+            then some_list (list_at word self.now) else None) }
+        ensures order { IsStrictlySortedBy word_cmp (keys_of result) }
+    {
+        let _words = self.lists.len();
+        WordLists {
+            lists: self.lists.range((low, Bound::Unbounded)),
         }
     }
 

@@ -1,8 +1,13 @@
-//! Tests of posting lists, through what `postings` offers.
+//! Tests of posting lists and of their questions, through what `postings`, `posting_sets` and
+//! `near_words` offer.
 //!
-//! They stand in a crate of their own, so that the crate they try is proved once and not twice. The crate has nothing
+//! They stand in a crate of their own, so that the crates they try are proved once and not twice. The crate has nothing
 //! but tests, and promises nothing.
 #![tactic(auto)]
 
 #[cfg(test)]
+mod near;
+#[cfg(test)]
 mod places;
+#[cfg(test)]
+mod questions;

@@ -3,15 +3,15 @@ use search_base::{DocId, PathId, Place, Word};
 use std::alloc::Global;
 use std::test::Fail;
 
-const WORDS: [&str; 6] = ["", "d", "dark", "darken", "knight", "ß"];
+pub(crate) const WORDS: [&str; 6] = ["", "d", "dark", "darken", "knight", "ß"];
 
 // A word of a document, as its place in the table, and where it stands.
-type Spot = (usize, u16, u16);
+pub(crate) type Spot = (usize, u16, u16);
 
 // A document: its number and its words.
-type Document = (u32, Vec<Spot>);
+pub(crate) type Document = (u32, Vec<Spot>);
 
-fn word(alloc: Global, at: usize) -> Result<Word, Fail> {
+pub(crate) fn word(alloc: Global, at: usize) -> Result<Word, Fail> {
     Ok(Word::new(alloc, WORDS.get(at).copied().unwrap_or("none"))?)
 }
 
@@ -39,7 +39,7 @@ fn change(alloc: Global, gone: &[Document], come: &[Document]) -> Result<Change,
     Ok(change)
 }
 
-fn commit(
+pub(crate) fn commit(
     alloc: Global,
     postings: &mut Postings,
     gone: &[Document],
@@ -92,14 +92,14 @@ fn stands_for(alloc: Global, postings: &Postings, documents: &[Document]) -> Res
 }
 
 // Numbers that look random.
-fn next(seed: &mut u64) -> u64 {
+pub(crate) fn next(seed: &mut u64) -> u64 {
     *seed = seed
         .wrapping_mul(6364136223846793005)
         .wrapping_add(1442695040888963407);
     *seed >> 33
 }
 
-fn any_spots(alloc: Global, seed: &mut u64) -> Result<Vec<Spot>, Fail> {
+pub(crate) fn any_spots(alloc: Global, seed: &mut u64) -> Result<Vec<Spot>, Fail> {
     let mut spots = Vec::new(alloc);
     for _ in 0..next(seed) % 9 {
         let at = (next(seed) % 6) as usize;
@@ -114,7 +114,7 @@ fn any_spots(alloc: Global, seed: &mut u64) -> Result<Vec<Spot>, Fail> {
 }
 
 // Takes about a third of the documents out, and gives them.
-fn leave(
+pub(crate) fn leave(
     alloc: Global,
     documents: &mut Vec<Document>,
     seed: &mut u64,

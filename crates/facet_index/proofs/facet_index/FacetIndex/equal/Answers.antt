@@ -1,0 +1,15 @@
+use Rattle.std.proofs.Common.{◌≡◌, List, subst}
+use Rattle.std.specs.List.{filter}
+use Rattle.std.specs.Result.{IfOk}
+use Rattle.facet_index.specs.LeavesView.{LeavesView}
+use Rattle.facet_index.specs.Documents.{has_value, passes_at}
+use Rattle.facet_index.specs.Places.{IsIndexOf}
+use Rattle.facet_index.proofs.AnswerLemmas.{value_answer}
+use Rattle.facet_index.proofs.facet_index.FacetIndex.equal.Goals as goal
+
+pub returns : goal.returns
+returns c =
+    subst (λ view. IfOk c.documents_at.result (λ docs. (documents : List LeavesView) → IsIndexOf view documents
+    → docs.ids ≡ filter (passes_at (has_value c.args.value.now c.args.path.0) documents) c.args.universe.now.ids)) c.self.view_is
+    (value_answer c.keys_tell_facets_apart.ensures c.self.inside.keys c.args.path.0 c.args.value.now c.args.universe.now.ids c.in_ok-key.key
+    c.in_ok-key.ensures.key c.in_ok-key.ensures.narrow c.documents_at.result c.documents_at.ensures)

@@ -1,0 +1,10 @@
+-- What contracts see of a document in the facet index.
+use Rattle.std.specs.Prelude.{ℕ, List}
+use Rattle.search_base.specs.declared.document.Leaf.{Leaf}
+use Rattle.search_base.specs.declared.document.Mark.{Mark}
+
+-- its internal number, its leaves and its marks
+pub record LeavesView : Type 0 where
+  pub id : ℕ
+  pub leaves : List Leaf
+  pub marks : List Mark

@@ -1,0 +1,3 @@
+-- Facets of documents and their keys.
+pub mod Keys
+pub mod Laws

@@ -1,0 +1,7 @@
+pub mod CutLemmas
+pub mod WalkLemmas
+pub mod DocumentLemmas
+pub mod CostLemmas
+pub mod StandLemmas
+pub mod CursorLemmas
+pub mod InsideLemmas

@@ -1,0 +1,12 @@
+-- Lemmas on walks over posting lists.
+pub mod CursorLemmas
+pub mod InsideLemmas
+pub mod StartLemmas
+pub mod WalkLemmas
+pub mod PlaceLemmas
+pub mod OccursLemmas
+pub mod PrefixLemmas
+pub mod NumberLemmas
+pub mod LeastLemmas
+pub mod ByNumberLemmas
+pub mod BlockLemmas

@@ -1,0 +1,8 @@
+-- Walks over posting lists, and what they find.
+pub mod Entries
+pub mod Left
+pub mod Starts
+pub mod Found
+pub mod Numbers
+pub mod Gathered
+pub mod Blocks

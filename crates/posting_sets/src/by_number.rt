@@ -1,0 +1,129 @@
+ghost use Rattle.std.specs.Prelude.{◌≡◌, ◌<◌, ◌≤◌, ◌^◌, true, false, [], ◌∷◌, length, Some, Option, IfOk};
+ghost use Rattle.doc_sets.specs.Sets.{IsIncreasing};
+ghost use Rattle.search_base.specs.Bucket.{bucket_of};
+ghost use Rattle.search_base.specs.Graphs.{IsTerm};
+ghost use Rattle.posting_sets.specs.Found.{term_of};
+ghost use Rattle.posting_sets.specs.Numbers.{rank_at, AreNumbered};
+ghost use Rattle.posting_sets.specs.Gathered.{place_number, AreOfNumbers};
+
+use crate::lists::lists_of;
+use crate::number::Number;
+use crate::numbered::{add_numbered, least_sets};
+use crate::occurrences::Occurrences;
+use doc_sets::{DocSet, DocSetBuilder};
+use postings::Postings;
+use search_base::{NoMemory, Term, Word};
+use std::alloc::Global;
+
+// The documents of each number of a place where the words stand in a row.
+fn numbers_of_words(
+    alloc: Global,
+    postings: &Postings,
+    words: &[Word],
+    number: Number<'_>,
+    universe: &DocSet,
+) -> Result<Vec<DocSetBuilder>, NoMemory>
+    requires { 0 < length words.now }
+    ensures each { IfOk result (λ sets. AreOfNumbers postings.now (term_of false words.now)
+        (place_number number.entry) universe.now.ids sets.items) }
+    ensures few { IfOk result (λ sets. length sets.items ≤ 2 ^ 16) }
+{
+    let Some(lists) = lists_of(alloc, postings, words)? else {
+        return Ok(Vec::new(alloc));
+    };
+    let mut sets = Vec::new(alloc);
+    let occurrences = Occurrences::new(lists.as_slice(), universe);
+    add_numbered(alloc, &mut sets, occurrences, number)?;
+    Ok(sets)
+}
+
+// The documents of each number of a place with a word that begins so.
+fn numbers_of_prefix(
+    alloc: Global,
+    postings: &Postings,
+    prefix: &Word,
+    number: Number<'_>,
+    universe: &DocSet,
+) -> Result<Vec<DocSetBuilder>, NoMemory>
+    ensures each { IfOk result (λ sets. AreOfNumbers postings.now (term_of true (prefix.now ∷ []))
+        (place_number number.entry) universe.now.ids sets.items) }
+    ensures few { IfOk result (λ sets. length sets.items ≤ 2 ^ 16) }
+{
+    let mut sets = Vec::new(alloc);
+    for (_word, list) in postings.with_prefix(prefix) {
+        let lists = [list];
+        let occurrences = Occurrences::new(&lists, universe);
+        add_numbered(alloc, &mut sets, occurrences, number)?;
+    }
+    Ok(sets)
+}
+
+// The documents of each number of a place where the term occurs.
+fn numbers_of(
+    alloc: Global,
+    postings: &Postings,
+    term: &Term,
+    number: Number<'_>,
+    universe: &DocSet,
+) -> Result<Vec<DocSetBuilder>, NoMemory>
+    requires { IsTerm term.now }
+    ensures each { IfOk result (λ sets. AreOfNumbers postings.now term.now (place_number number.entry)
+        universe.now.ids sets.items) }
+    ensures few { IfOk result (λ sets. length sets.items ≤ 2 ^ 16) }
+{
+    if term.prefix {
+        return numbers_of_prefix(alloc, postings, &term.words[0], number, universe);
+    }
+    numbers_of_words(alloc, postings, term.words.as_slice(), number, universe)
+}
+
+// The documents by the least number of the places where the term occurs.
+fn documents_by(
+    alloc: Global,
+    postings: &Postings,
+    term: &Term,
+    number: Number<'_>,
+    universe: &DocSet,
+) -> Result<Vec<(u16, DocSet)>, NoMemory>
+    requires { IsTerm term.now }
+    ensures { IfOk result (λ rows. AreNumbered postings.now term.now (place_number number.entry)
+        universe.now.ids rows.items) }
+{
+    let _documents = universe.len();
+    let sets = numbers_of(alloc, postings, term, number, universe)?;
+    least_sets(alloc, sets)
+}
+
+/// The documents of the universe by the least rank of the paths in which the term occurs, in order
+/// of the ranks, of which each has a document. The ranks are given by path: a path past their end
+/// has none, and an occurrence in a path without a rank does not count. A term has a word at least,
+/// and a prefix term has just one. Where there is no memory, nothing has changed.
+pub fn documents_by_rank(
+    alloc: Global,
+    postings: &Postings,
+    term: &Term,
+    ranks: &[Option<u16>],
+    universe: &DocSet,
+) -> Result<Vec<(u16, DocSet)>, NoMemory>
+    requires { IsTerm term.now }
+    ensures { IfOk result (λ rows. AreNumbered postings.now term.now (λ place. rank_at ranks.now place.path.0)
+        universe.now.ids rows.items) }
+{
+    documents_by(alloc, postings, term, Number::Rank(ranks), universe)
+}
+
+/// The documents of the universe by the least bucket of the positions at which the term occurs, in
+/// order of the buckets, of which each has a document. A term has a word at least, and a prefix term
+/// has just one. Where there is no memory, nothing has changed.
+pub fn documents_by_bucket(
+    alloc: Global,
+    postings: &Postings,
+    term: &Term,
+    universe: &DocSet,
+) -> Result<Vec<(u16, DocSet)>, NoMemory>
+    requires { IsTerm term.now }
+    ensures { IfOk result (λ rows. AreNumbered postings.now term.now (λ place. Some (bucket_of place.position))
+        universe.now.ids rows.items) }
+{
+    documents_by(alloc, postings, term, Number::Bucket, universe)
+}

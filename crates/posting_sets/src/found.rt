@@ -1,0 +1,168 @@
+ghost use Rattle.std.specs.Prelude.{◌≡◌, ℕ, ◌<◌, true, false, ◌&&◌, ◌||◌, List, [], ◌∷◌, map, length, IfOk, OnOk};
+ghost use Rattle.std.specs.List.{filter};
+ghost use Rattle.doc_sets.specs.Sets.{has, IsIncreasing};
+ghost use Rattle.search_base.specs.Graphs.{IsTerm};
+ghost use Rattle.posting_sets.specs.Found.{has_document, AreInLists, AreOccurring, term_of};
+
+use crate::entry::document_of;
+use crate::lists::lists_of;
+use crate::occurrences::Occurrences;
+use doc_sets::{DocSet, DocSetBuilder};
+use postings::Postings;
+use search_base::{DocId, NoMemory, Term, Word};
+use sorted_pages::SortedPages;
+use std::alloc::Global;
+
+// A list of so many times as many entries as the universe has documents is sought in.
+const MANY: u64 = 16;
+
+// A list with an entry for so many documents of the universe has its documents as bits.
+const FEW: u64 = 128;
+
+// The documents of the places.
+fn documents_of(alloc: Global, occurrences: Occurrences<'_>) -> Result<Vec<DocId>, NoMemory>
+    requires { IsIncreasing occurrences }
+    ensures increasing { IfOk result (λ ids. IsIncreasing (map (λ id. id.0) ids.items)) }
+    ensures each { IfOk result (λ ids. (q : ℕ) → has (map (λ id. id.0) ids.items) q
+        ≡ has_document occurrences.entry q) }
+{
+    let mut ids = Vec::new(alloc);
+    let mut left = occurrences;
+    while let Some(start) = left.next() {
+        let id = document_of(start);
+        ids.push(id)?;
+        left.pass(id);
+    }
+    Ok(ids)
+}
+
+// Adds the documents of the places to a set.
+fn add_documents(builder: &mut DocSetBuilder, occurrences: Occurrences<'_>) -> Result<(), NoMemory>
+    requires { IsIncreasing occurrences }
+    ensures { OnOk result ((q : ℕ) → has builder.new q ≡ (has_document occurrences.entry q || has builder.old q)) }
+{
+    let mut left = occurrences;
+    while let Some(start) = left.next() {
+        let id = document_of(start);
+        builder.add_id(id)?;
+        left.pass(id);
+    }
+    Ok(())
+}
+
+// Adds the documents of all entries of a list to a set.
+fn add_entries(builder: &mut DocSetBuilder, list: &SortedPages) -> Result<(), NoMemory>
+    ensures { OnOk result ((q : ℕ) → has builder.new q ≡ (has_document list.now.entries q || has builder.old q)) }
+{
+    for entry in list.iter() {
+        builder.add_id(document_of(entry))?;
+    }
+    Ok(())
+}
+
+// Adds the documents of a list to a set, maybe with some from outside of the universe.
+fn add_list(
+    builder: &mut DocSetBuilder,
+    list: &SortedPages,
+    universe: &DocSet,
+) -> Result<(), NoMemory>
+    ensures { OnOk result ((q : ℕ) → (has universe.now.ids q && has builder.new q)
+        ≡ (has universe.now.ids q && (has_document list.now.entries q || has builder.old q))) }
+{
+    if universe.len() < list.len() as u64 / MANY {
+        let lists = [list];
+        return add_documents(builder, Occurrences::new(&lists, universe));
+    }
+    add_entries(builder, list)
+}
+
+// The documents of the universe that have an entry in the list.
+fn documents_of_list(
+    alloc: Global,
+    list: &SortedPages,
+    universe: &DocSet,
+) -> Result<DocSet, NoMemory>
+    ensures { IfOk result (λ set. set.ids ≡ filter (has_document list.now.entries) universe.now.ids) }
+{
+    let mut builder = DocSetBuilder::new(alloc, 0)?;
+    add_entries(&mut builder, list)?;
+    let listed = builder.finish(alloc)?;
+    universe.and(alloc, &listed)
+}
+
+// The documents in which the words of these lists stand in a row. A list that is about as long as
+// the universe gives all its documents; otherwise the shorter of the two is walked.
+fn documents_of_lists(
+    alloc: Global,
+    lists: &[&SortedPages],
+    universe: &DocSet,
+) -> Result<DocSet, NoMemory>
+    requires { 0 < length lists.now }
+    ensures { IfOk result (λ set. AreInLists universe.now.ids (map (λ list. list.now.entries) lists.now) set.ids) }
+{
+    let list = lists[0];
+    let entries = list.len() as u64;
+    let documents = universe.len();
+    if lists.len() == 1 && entries / MANY <= documents && documents / FEW <= entries {
+        return documents_of_list(alloc, list, universe);
+    }
+    let ids = documents_of(alloc, Occurrences::new(lists, universe))?;
+    DocSet::from_sorted(alloc, ids.as_slice())
+}
+
+// The documents in which the words stand in a row.
+fn documents_of_words(
+    alloc: Global,
+    postings: &Postings,
+    words: &[Word],
+    universe: &DocSet,
+) -> Result<DocSet, NoMemory>
+    requires words { 0 < length words.now }
+    requires universe { IsIncreasing universe.now.ids }
+    ensures { IfOk result (λ set. AreOccurring postings.now (term_of false words.now) universe.now.ids set.ids) }
+{
+    match lists_of(alloc, postings, words)? {
+        Some(lists) => documents_of_lists(alloc, lists.as_slice(), universe),
+        None => Ok(DocSet::new(alloc)),
+    }
+}
+
+// The documents in which a word stands that begins so.
+fn documents_of_prefix(
+    alloc: Global,
+    postings: &Postings,
+    prefix: &Word,
+    universe: &DocSet,
+) -> Result<DocSet, NoMemory>
+    requires { IsIncreasing universe.now.ids }
+    ensures { IfOk result (λ set. AreOccurring postings.now (term_of true (prefix.now ∷ [])) universe.now.ids set.ids) }
+{
+    let mut builder = DocSetBuilder::new(alloc, 0)?;
+    for (_word, list) in postings.with_prefix(prefix) {
+        add_list(&mut builder, list, universe)?;
+    }
+    let all = builder.finish(alloc)?;
+    universe.and(alloc, &all)
+}
+
+/// The documents of the universe in which the term occurs: its words in a row, or a word that begins
+/// as the word of a prefix term does. A term has a word at least, and a prefix term has just one. The
+/// documents are those that the postings stand for; an id of the universe that none of them has is
+/// not in the answer. It looks at the lists of the term's words alone: a list much longer than the
+/// universe is sought in, and of several words the rarest is walked. Where there is no memory,
+/// nothing has changed.
+pub fn documents(
+    alloc: Global,
+    postings: &Postings,
+    term: &Term,
+    universe: &DocSet,
+) -> Result<DocSet, NoMemory>
+    requires { IsTerm term.now }
+    ensures { IfOk result (λ set. AreOccurring postings.now term.now universe.now.ids set.ids) }
+{
+    let _documents = universe.len();
+    if term.prefix {
+        return documents_of_prefix(alloc, postings, &term.words[0], universe);
+    }
+    documents_of_words(alloc, postings, term.words.as_slice(), universe)
+}

@@ -1,0 +1,25 @@
+ghost use Rattle.std.specs.Prelude.{◌≡◌};
+ghost use Rattle.posting_sets.specs.Entries.{path_of, position_of};
+ghost use Rattle.posting_sets.specs.Gathered.{number_at};
+
+use crate::entry::{path_of, position_of};
+use search_base::bucket;
+
+// What a place is told apart by.
+#[derive(Clone, Copy)]
+pub(crate) enum Number<'a> {
+    // The rank of its path.
+    Rank(&'a [Option<u16>]),
+    // The bucket of its position.
+    Bucket,
+}
+
+// The number of an entry. A path without a rank has none.
+pub(crate) fn number_of(number: Number<'_>, entry: u64) -> Option<u16>
+    ensures { result ≡ number_at number.entry (path_of entry) (position_of entry) }
+{
+    match number {
+        Number::Rank(ranks) => ranks.get(usize::from(path_of(entry))).copied().flatten(),
+        Number::Bucket => Some(u16::from(bucket(position_of(entry)))),
+    }
+}

@@ -1,0 +1,87 @@
+ghost use Rattle.std.specs.Prelude.{◌≡◌, ℕ, ◌≤◌, ◌^◌, ◌==◌, ◌&&◌, ◌||◌, length, IfOk, OnOk};
+ghost use Rattle.std.specs.List.{list_any};
+ghost use Rattle.doc_sets.specs.Sets.{has, IsIncreasing, difference};
+ghost use Rattle.posting_sets.specs.Gathered.{is_numbered, ids_at, AreLeast, AddsRow};
+
+use crate::entry::document_of;
+use crate::number::{Number, number_of};
+use crate::occurrences::Occurrences;
+use doc_sets::{DocSet, DocSetBuilder};
+use search_base::{DocId, NoMemory};
+use std::alloc::Global;
+
+// Adds a document to the set of a number.
+fn add(alloc: Global, sets: &mut Vec<DocSetBuilder>, number: u16, id: DocId) -> Result<(), NoMemory>
+    requires { length sets.old.items ≤ 2 ^ 16 }
+    ensures each { OnOk result ((n q : ℕ) → has (ids_at n sets.new.items) q
+        ≡ ((number == n && id.0 == q) || has (ids_at n sets.old.items) q)) }
+    ensures few { length sets.new.items ≤ 2 ^ 16 }
+{
+    let at = usize::from(number);
+    while sets.len() <= at {
+        let empty = DocSetBuilder::new(alloc, 0)?;
+        sets.push(empty)?;
+    }
+    sets[at].add_id(id)
+}
+
+// Adds the documents of the places to the sets of their numbers.
+pub(crate) fn add_numbered(
+    alloc: Global,
+    sets: &mut Vec<DocSetBuilder>,
+    occurrences: Occurrences<'_>,
+    number: Number<'_>,
+) -> Result<(), NoMemory>
+    requires { length sets.old.items ≤ 2 ^ 16 }
+    ensures each { OnOk result ((n q : ℕ) → has (ids_at n sets.new.items) q
+        ≡ (list_any (is_numbered number.entry n q) occurrences.entry || has (ids_at n sets.old.items) q)) }
+    ensures few { length sets.new.items ≤ 2 ^ 16 }
+{
+    let mut left = occurrences;
+    while let Some(start) = left.next() {
+        if let Some(n) = number_of(number, start) {
+            add(alloc, sets, n, document_of(start))?;
+        }
+    }
+    Ok(())
+}
+
+// Adds the documents of a set that were not seen before, under this number, if there is one.
+fn add_row(
+    alloc: Global,
+    rows: &mut Vec<(u16, DocSet)>,
+    seen: &mut DocSet,
+    number: u16,
+    set: DocSet,
+) -> Result<(), NoMemory>
+    ensures row { OnOk result (AddsRow rows.old.items rows.new.items number (difference set.ids seen.old.ids)) }
+    ensures seen { OnOk result ((id : ℕ) → has seen.new.ids id ≡ (has seen.old.ids id || has set.ids id)) }
+    ensures increasing { OnOk result (IsIncreasing (difference set.ids seen.old.ids)) }
+{
+    let fresh = set.minus(alloc, seen)?;
+    if fresh.len() == 0 {
+        return Ok(());
+    }
+    *seen = seen.or(alloc, &fresh)?;
+    rows.push((number, fresh))?;
+    Ok(())
+}
+
+// Each document once, at the least of the numbers whose sets have it. Empty sets are left out.
+pub(crate) fn least_sets(
+    alloc: Global,
+    sets: Vec<DocSetBuilder>,
+) -> Result<Vec<(u16, DocSet)>, NoMemory>
+    requires { length sets.items ≤ 2 ^ 16 }
+    ensures { IfOk result (λ rows. AreLeast sets.items rows.items) }
+{
+    let mut rows = Vec::new(alloc);
+    let mut seen = DocSet::new(alloc);
+    let mut number: usize = 0;
+    for builder in sets {
+        let set = builder.finish(alloc)?;
+        add_row(alloc, &mut rows, &mut seen, number as u16, set)?;
+        number += 1;
+    }
+    Ok(rows)
+}

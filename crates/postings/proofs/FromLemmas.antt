@@ -1,0 +1,106 @@
+-- The words from a bound on stand in a row.
+use Rattle.std.proofs.Common.{◌≡◌, ℕ, ◌<◌, length, arith, Bool, true, false, ◌&&◌, cond, List, [], ◌∷◌, Option, None, Some, refl, sym, ap, subst, ◌∙◌}
+use Rattle.std.specs.declared.cmp.Ordering.TheVariants.{Less}
+use Rattle.std.specs.declared.ops.Bound.{Bound}
+use Rattle.std.specs.declared.ops.Bound.TheVariants.{Unbounded}
+use Rattle.std.specs.Ordering.{is_eq}
+use Rattle.std.specs.List.{filter, AllByRecursion}
+use Rattle.std.specs.List.Sorted.{IsStrictlySortedBy}
+use Rattle.std.specs.Map.{keys_of}
+use Rattle.std.specs.BTreeMap.{is_at}
+use Rattle.std.specs.BTreeMap.Range.{entries_between, is_from_start, range_contains}
+use Rattle.std.proofs.lemmas.Map.Entries.{lookup-filter-keys}
+use Rattle.std.proofs.lemmas.Map.Keys.{sorted_head, sorted_tail}
+use Rattle.std.proofs.lemmas.List.Kept.{IsStrictlySortedBy-filter}
+use Rattle.sorted_pages.specs.Rooms.{PagesView}
+use Rattle.postings.specs.Dictionary.{word_cmp, value_at}
+use Rattle.postings.specs.Prefixes.{with_list}
+use Rattle.postings.specs.Words.{shown_rows}
+use Rattle.postings.proofs.WordLemmas.{same_word}
+use Rattle.postings.proofs.PrefixLemmas.{shown, row_other, row_here, none_equal}
+
+-- each list that is not empty is shown at its word
+shown_value : (w : List ℕ) (lists : List (List ℕ × PagesView)) → IsStrictlySortedBy word_cmp (keys_of lists)
+    → value_at w (shown_rows lists) ≡ shown (value_at w lists)
+shown_value w [] sorted = refl
+shown_value w (r ∷ rs) sorted =
+    by (is_eq (word_cmp w r.0)) refl (shown_value w rs (sorted_tail word_cmp r.0 (keys_of rs) sorted))
+  where
+    by : (same : Bool) → same ≡ is_eq (word_cmp w r.0) → value_at w (shown_rows rs) ≡ shown (value_at w rs)
+        → value_at w (with_list r.0 r.1.entries (shown_rows rs)) ≡ shown (cond same (Some r.1) (value_at w rs))
+    by true s later = row_here w r.0 r.1.entries (shown_rows rs) (sym s)
+        (later ∙ ap shown (none_equal w r.0 rs (sorted_head word_cmp r.0 (keys_of rs) sorted) (sym s)))
+    by false s later = row_other w r.0 r.1.entries (shown_rows rs) (sym s) ∙ later
+
+all_shown : (word : List ℕ) (lists : List (List ℕ × PagesView)) → AllByRecursion (λ y. word_cmp word y ≡ Less) (keys_of lists)
+    → AllByRecursion (λ y. word_cmp word y ≡ Less) (keys_of (shown_rows lists))
+all_shown word [] above = tt
+all_shown word (r ∷ rs) above = by r.1.entries (all_shown word rs above.1)
+  where
+    by : (entries : List ℕ) → AllByRecursion (λ y. word_cmp word y ≡ Less) (keys_of (shown_rows rs))
+        → AllByRecursion (λ y. word_cmp word y ≡ Less) (keys_of (with_list r.0 entries (shown_rows rs)))
+    by [] later = later
+    by (x ∷ xs) later = (above.0, later)
+
+shown_sorted : (lists : List (List ℕ × PagesView)) → IsStrictlySortedBy word_cmp (keys_of lists)
+    → IsStrictlySortedBy word_cmp (keys_of (shown_rows lists))
+unfolding IsStrictlySortedBy
+shown_sorted [] sorted = tt
+shown_sorted (r ∷ rs) sorted = by r.1.entries (all_shown r.0 rs sorted.0) (shown_sorted rs sorted.1)
+  where
+    by : (entries : List ℕ) → AllByRecursion (λ y. word_cmp r.0 y ≡ Less) (keys_of (shown_rows rs))
+        → IsStrictlySortedBy word_cmp (keys_of (shown_rows rs))
+        → IsStrictlySortedBy word_cmp (keys_of (with_list r.0 entries (shown_rows rs)))
+    by [] above later = later
+    by (x ∷ xs) above later = (above, later)
+
+keys_filter : (p : List ℕ → Bool) (lists : List (List ℕ × PagesView)) → filter p (keys_of lists) ≡ keys_of (filter (λ e. p e.0) lists)
+keys_filter p [] = refl
+keys_filter p (r ∷ rs) = by (p r.0) (keys_filter p rs)
+  where
+    by : (b : Bool) → filter p (keys_of rs) ≡ keys_of (filter (λ e. p e.0) rs)
+        → cond b (r.0 ∷ filter p (keys_of rs)) (filter p (keys_of rs))
+        ≡ keys_of (cond b (r ∷ filter (λ e. p e.0) rs) (filter (λ e. p e.0) rs))
+    by true later = ap (λ ks. r.0 ∷ ks) later
+    by false later = later
+
+-- the entries from a bound on, as a range of the map has them
+abbrev pub from_bound : Bound (List ℕ) → List (List ℕ × PagesView) → List (List ℕ × PagesView)
+from_bound low lists = entries_between word_cmp low Unbounded lists
+
+bound_sorted : (low : Bound (List ℕ)) (lists : List (List ℕ × PagesView)) → IsStrictlySortedBy word_cmp (keys_of lists)
+    → IsStrictlySortedBy word_cmp (keys_of (from_bound low lists))
+bound_sorted low lists sorted = subst (IsStrictlySortedBy word_cmp) (keys_filter (range_contains word_cmp low Unbounded) lists)
+    (IsStrictlySortedBy-filter word_cmp (range_contains word_cmp low Unbounded) (keys_of lists) sorted)
+
+pub from_sorted : (low : Bound (List ℕ)) (lists : List (List ℕ × PagesView)) → IsStrictlySortedBy word_cmp (keys_of lists)
+    → IsStrictlySortedBy word_cmp (keys_of (shown_rows (from_bound low lists)))
+from_sorted low lists sorted = shown_sorted (from_bound low lists) (bound_sorted low lists sorted)
+
+pub shows_from : (low : Bound (List ℕ)) (w : List ℕ) (lists : List (List ℕ × PagesView)) → IsStrictlySortedBy word_cmp (keys_of lists)
+    → value_at w (shown_rows (from_bound low lists)) ≡ cond (is_from_start word_cmp low w) (shown (value_at w lists)) None
+shows_from low w lists sorted = shown_value w (from_bound low lists) (bound_sorted low lists sorted)
+    ∙ ap shown (lookup-filter-keys (is_at (word_cmp w)) (range_contains word_cmp low Unbounded) (range_contains word_cmp low Unbounded w)
+    (λ k same. ap (range_contains word_cmp low Unbounded) (sym (same_word w k same))) lists)
+    ∙ by (is_from_start word_cmp low w) (value_at w lists)
+  where
+    by : (b : Bool) (o : Option PagesView) → shown (cond (b && true) o None) ≡ cond b (shown o) None
+    by true o = refl
+    by false o = refl
+
+-- one row less
+pub shown_found : (word : List ℕ) (pages : PagesView) (rows : List (List ℕ × PagesView)) → 0 < length pages.entries
+    → shown_rows ((word, pages) ∷ rows) ≡ (word, pages.entries) ∷ shown_rows rows
+shown_found word pages rows some = by pages.entries some
+  where
+    by : (entries : List ℕ) → 0 < length entries → with_list word entries (shown_rows rows) ≡ (word, entries) ∷ shown_rows rows
+    by [] h = absurd (omega arith)
+    by (x ∷ xs) h = refl
+
+pub shown_passed : (word : List ℕ) (pages : PagesView) (rows : List (List ℕ × PagesView)) → length pages.entries ≡ 0
+    → shown_rows ((word, pages) ∷ rows) ≡ shown_rows rows
+shown_passed word pages rows none = by pages.entries none
+  where
+    by : (entries : List ℕ) → length entries ≡ 0 → with_list word entries (shown_rows rows) ≡ shown_rows rows
+    by [] h = refl
+    by (x ∷ xs) h = absurd (omega arith)

@@ -1,0 +1,6 @@
+pub mod Members
+pub mod Listing
+pub mod Levels
+pub mod Streaming
+pub mod Within
+pub mod Keys

@@ -1,0 +1,12 @@
+use Rattle.std.proofs.Common.{◌≡◌, ℕ, List, sym, ap, ap₂, ◌∙◌, subst, get_or, unwrap_or}
+use Rattle.std.proofs.lemmas.Option.{unwrap_or-slice_get}
+use Rattle.search_base.specs.declared.rule.Rule.{Rule}
+use Rattle.search_base.specs.declared.rule.Rule.TheVariants.{Words}
+use Rattle.rule_buckets.specs.Entries.{QueryView, entry_in, entry_of, entry_at}
+use Rattle.rule_buckets.specs.Rules.{RulesView, AreTheirs}
+use Rattle.rule_buckets.proofs.rules.RulesRuleSet.open.Goals as goal
+
+pub counted-requires-clause-sets : goal.counted-requires-clause-sets
+counted-requires-clause-sets g c =
+    let rows = g.S.RuleSource.rows in
+    subst (λ (v : RulesView g.row.S.Denot). AreTheirs (rows v.source) v.graph c.in_ok-sets.sets.items) (sym c.self.view_is) c.in_ok-sets.ensures.theirs

@@ -1,0 +1,6 @@
+-- What rules ask of an index, and the buckets that they make of it.
+pub mod Entries
+pub mod Listed
+pub mod Keyed
+pub mod Streams
+pub mod Rules

@@ -1,0 +1,108 @@
+ghost use Rattle.std.specs.Prelude.{◌≡◌, ◌==◌, ◌<◌, ℕ, Bool, List, filter, IfOk};
+ghost use Rattle.std.specs.List.{AllByRecursion};
+ghost use Rattle.std.specs.Option.{option_copied};
+ghost use Rattle.search_base.specs.RowsView.{RowsView};
+ghost use Rattle.search_base.specs.Whole.{whole_cost};
+ghost use Rattle.search_base.specs.declared.cost_key.CostKey.{CostKey as Key};
+ghost use Rattle.condition_graph.specs.Meets.{meets, IsRanked};
+ghost use Rattle.sort_rule.specs.Rows.{AreRows, next_of, is_under};
+ghost use Rattle.rule_buckets.specs.Entries.{sort_entry, missing_entry};
+
+use condition_graph::Condition;
+use doc_sets::DocSet;
+use path_costs::Resolve;
+use search_base::{CostKey, NoMemory, PathId, Word};
+use std::alloc::Global;
+
+/// An index as ranking rules see it. A universe is a set of its documents; each answer is about these alone.
+pub trait RuleSource {
+    // The rows of each document.
+    ghost rows: { Self → ℕ → RowsView };
+
+    // What each rank of a place is below.
+    ghost bound: { Self → ℕ };
+
+    // The entries of a path in a direction, ascending or not.
+    ghost keys: { Self → Bool → ℕ → List Key };
+
+    /// A number above each rank that a place has.
+    fn ranks(&self) -> u16
+        ensures { result ≡ bound self.now };
+
+    /// The documents of the universe that meet a condition.
+    fn meeting(
+        &self,
+        alloc: Global,
+        condition: &Condition,
+        universe: &DocSet,
+    ) -> Result<DocSet, NoMemory>
+        ensures { IfOk result (λ set.
+            set.ids ≡ filter (λ d. meets (rows self.now d).places condition.now) universe.now.ids) };
+
+    /// The documents of the universe that have a path whose words are exactly these (cost 0), or have none such and
+    /// one that begins so (cost 1).
+    fn at_whole_cost(
+        &self,
+        alloc: Global,
+        words: &[Word],
+        cost: u32,
+        universe: &DocSet,
+    ) -> Result<DocSet, NoMemory>
+        requires { cost < 2 }
+        ensures { IfOk result (λ set.
+            set.ids ≡ filter (λ d. whole_cost (rows self.now d).places words.now == cost) universe.now.ids) };
+
+    /// The least entry of the path after the given one, or the least of all without one; none exactly where no entry
+    /// comes after it.
+    fn next_key(
+        &self,
+        alloc: Global,
+        path: PathId,
+        up: bool,
+        after: Option<&CostKey>,
+    ) -> Result<Option<CostKey>, NoMemory>
+        ensures { IfOk result (λ found. found ≡ next_of (keys self.now up path.0) (option_copied after.entry)) };
+
+    /// The documents of the universe that have this entry under the path.
+    fn docs_at(
+        &self,
+        alloc: Global,
+        path: PathId,
+        up: bool,
+        at: &CostKey,
+        universe: &DocSet,
+    ) -> Result<DocSet, NoMemory>
+        ensures { IfOk result (λ set.
+            set.ids ≡ filter (λ d. is_under at.now (sort_entry up path.0 (rows self.now d).leaves)) universe.now.ids) };
+
+    /// Each rank is below `ranks`.
+    ghost ranked: { (source : Self) (d : ℕ) → AllByRecursion (IsRanked (bound source)) (rows source d).places };
+
+    /// Each document has one of the entries of a path, or none.
+    ghost sorted: { (source : Self) (up : Bool) (path : ℕ)
+        → AreRows (keys source up path) (λ d. sort_entry up path (rows source d).leaves) (missing_entry up) };
+}
+
+/// A source as that of a condition graph.
+#[derive(Drop)]
+pub(crate) struct Asked<'a, S: RuleSource> {
+    pub(crate) source: &'a S,
+}
+
+impl<'a, S: RuleSource> Resolve for Asked<'a, S> {
+    ghost use Rattle.std.specs.Prelude.{refl};
+    ghost use Rattle.condition_graph.specs.Meets.{meets as condition_meets};
+
+    ghost meets = { λ asked condition d. condition_meets (S.rows asked.source.now d).places condition };
+
+    ghost free = { λ asked d. refl };
+
+    fn docs(
+        &mut self,
+        alloc: Global,
+        condition: &Condition,
+        universe: &DocSet,
+    ) -> Result<DocSet, NoMemory> {
+        self.source.meeting(alloc, condition, universe)
+    }
+}

@@ -1,0 +1,8 @@
+//! Tests of the keys of facets, the words of posting lists from a bound on, and the facet index.
+//!
+//! They stand in a crate of their own, so that the crates they try are proved once and not twice. The crate has nothing
+//! but tests, and promises nothing.
+#![tactic(auto)]
+
+#[cfg(test)]
+mod facets;

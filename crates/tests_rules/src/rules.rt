@@ -1,0 +1,125 @@
+ghost use Rattle.std.specs.Prelude.{[]};
+ghost use Rattle.search_base.specs.Graphs.{IsGraph};
+
+use bucket_sort::{Bucket, BucketStream, RuleSet};
+use condition_graph::Condition;
+use doc_sets::DocSet;
+use rule_buckets::{RuleSource, Rules};
+use search_base::{CostKey, DocId, Graph, NoMemory, PathId, Rule, SortKey, Steps, Word};
+use std::alloc::Global;
+use std::test::Fail;
+
+struct Counted;
+
+// An index of documents without a word and without a value.
+#[derive(Drop)]
+struct Bare;
+
+impl RuleSource for Bare {
+    ghost use Rattle.tests_rules.specs.Bare.{no_entries};
+
+    ghost rows = { λ bare d. record { places = []; leaves = []; marks = [] } };
+
+    ghost bound = { λ bare. 0 };
+
+    ghost keys = { λ bare up path. [] };
+
+    ghost ranked = { λ bare d. tt };
+
+    ghost sorted = { λ bare up path. no_entries up path };
+
+    fn ranks(&self) -> u16 {
+        0
+    }
+
+    fn meeting(
+        &self,
+        alloc: Global,
+        condition: &Condition,
+        universe: &DocSet,
+    ) -> Result<DocSet, NoMemory> {
+        Err(NoMemory)
+    }
+
+    fn at_whole_cost(
+        &self,
+        alloc: Global,
+        words: &[Word],
+        cost: u32,
+        universe: &DocSet,
+    ) -> Result<DocSet, NoMemory> {
+        Err(NoMemory)
+    }
+
+    fn next_key(
+        &self,
+        alloc: Global,
+        path: PathId,
+        up: bool,
+        after: Option<&CostKey>,
+    ) -> Result<Option<CostKey>, NoMemory> {
+        Ok(None)
+    }
+
+    fn docs_at(
+        &self,
+        alloc: Global,
+        path: PathId,
+        up: bool,
+        at: &CostKey,
+        universe: &DocSet,
+    ) -> Result<DocSet, NoMemory> {
+        Err(NoMemory)
+    }
+}
+
+// The query without words.
+fn empty(alloc: Global) -> Graph
+    ensures { IsGraph result }
+{
+    Graph {
+        levels: Vec::new(alloc),
+        whole: Vec::new(alloc),
+    }
+}
+
+// The entry of the first bucket of a level, with how many documents it has and how many are left behind it.
+fn first_bucket(
+    alloc: Global,
+    rules: &Rules<'_, Bare>,
+    level: usize,
+) -> Result<Option<(CostKey, u64)>, NoMemory> {
+    if level >= rules.levels() {
+        return Ok(None);
+    }
+    let universe = rules.matching().clone()?;
+    let mut openings: Steps<Counted> = Steps::new();
+    let mut stream = rules.open(alloc, level, universe)?;
+    match stream.next_bucket(alloc, &mut openings)? {
+        Some(Bucket { key, docs }) => Ok(Some((key, docs.len()))),
+        None => Ok(None),
+    }
+}
+
+#[test]
+fn a_query_without_words_gives_all_documents_at_once(rt: HostRuntime) -> Result<(), Fail> {
+    let alloc = rt.alloc();
+    let universe = DocSet::from_sorted(alloc, &[DocId(1), DocId(3), DocId(4)])?;
+    let graph = empty(alloc);
+    let list = [
+        Rule::Words,
+        Rule::Proximity,
+        Rule::Whole,
+        Rule::Down(Some(PathId(2))),
+        Rule::Up(None),
+    ];
+    let rules = Rules::new(alloc, &Bare, &graph, &list, &universe)?;
+    assert!(rt; rules.levels() == 5 && rules.matching().len() == 3);
+    for level in 0..3 {
+        assert!(rt; first_bucket(alloc, &rules, level)? == Some((CostKey::Number(0), 3)));
+    }
+    assert!(rt; first_bucket(alloc, &rules, 3)? == Some((CostKey::Down(SortKey::Missing), 3)));
+    assert!(rt; first_bucket(alloc, &rules, 4)? == Some((CostKey::Up(SortKey::Missing), 3)));
+    assert!(rt; first_bucket(alloc, &rules, 5)?.is_none());
+    Ok(())
+}
