@@ -1,13 +1,13 @@
-//! A program for bench/words.py: it reads a text on standard input, cuts it into words or only scans its bytes, as often
-//! as it is told, and prints what it counted.
+//! A program for bench/words.py: it reads a text on standard input, cuts it into words, cuts it in place or only scans
+//! its bytes, as often as it is told, and prints what it counted.
 //!
-//! Its words are `words` or `scan`, and how often. It stands on `token_words`.
+//! Its words are `words`, `spans` (of a text that is ASCII) or `scan`, and how often. It stands on `token_words`.
 #![tactic(auto)]
 
 use std::env;
 use std::io::{self, Read, Write};
 use std::process::ExitCode;
-use token_words::tokens;
+use token_words::{ascii_spans, tokens};
 
 // The words after the program's own name.
 fn words(rt: &HostRuntime) -> io::Result<Vec<String>> {
@@ -24,9 +24,27 @@ fn text(rt: &HostRuntime) -> io::Result<String> {
     Ok(text)
 }
 
+// The bytes of the longest word, where the words are cut out of the text in lower case.
+fn spans(rt: &HostRuntime, text: &str) -> Option<usize> {
+    if !text.is_ascii() {
+        return None;
+    }
+    let Ok(lowered) = text.to_ascii_lowercase(rt.alloc()) else {
+        return None;
+    };
+    let spans = ascii_spans(rt.alloc(), text).ok()?;
+    let mut longest = 0;
+    for span in &spans {
+        longest = longest.max(span.cut(lowered.as_str()).len());
+    }
+    Some(longest)
+}
+
 fn count(rt: &HostRuntime, what: &str, text: &str) -> Option<usize> {
     if what == "words" {
         Some(tokens(rt.alloc(), text).ok()?.len())
+    } else if what == "spans" {
+        spans(rt, text)
     } else {
         Some(text.bytes().filter(|b| *b != b' ').count())
     }

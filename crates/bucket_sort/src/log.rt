@@ -36,13 +36,6 @@ pub trait BucketLog: Drop {
 #[derive(Drop)]
 pub struct SilentLog;
 
-impl SilentLog {
-    /// A log that tells nothing. It takes no memory.
-    pub fn new() -> SilentLog {
-        SilentLog
-    }
-}
-
 impl BucketLog for SilentLog {
     ghost told = { λ _. None };
 

@@ -21,11 +21,6 @@ pub told_map : (o : Option Contents) (P Q : List ℕ → Type 0) → ((xs : List
 told_map None P Q f p = tt
 told_map (Some s) P Q f p = f s.now p
 
--- what stands there once it has succeeded
-pub record Ext (xs bytes c : List ℕ) : Type 0 where
-  pub looks : look c ≡ look xs
-  pub stands : (d : ℕ) → pair_in (alone d c) ≡ grown bytes (pair_in (alone d xs))
-
 module _ (j : Journal) (bytes : List ℕ) (small : j.count < 2 ^ 64) (short : length bytes < 2 ^ 32) where
   abbrev put : List ℕ → List ℕ
   put xs = added j.gate (entry_bytes j.count bytes) xs

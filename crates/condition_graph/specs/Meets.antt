@@ -1,10 +1,9 @@
--- Which conditions a document meets.
+-- Which conditions a document meets. Of the conditions on one number of the same words or term it meets at most one.
 use Rattle.std.specs.Prelude.{ℕ, ◌==◌, ◌<◌, Bool, true, ◌&&◌, List}
-use Rattle.std.specs.List.{list_any}
 use Rattle.search_base.specs.declared.document.Place.{Place}
-use Rattle.search_base.specs.Bucket.{bucket_of}
-use Rattle.search_base.specs.Occurrence.{is_asked, occurs, occurs_at}
-use Rattle.search_base.specs.PairCost.{pair_cost}
+use Rattle.search_base.specs.BlockCosts.{least_rank, least_bucket}
+use Rattle.search_base.specs.Occurrence.{occurs}
+use Rattle.search_base.specs.PairCost.{asked_cost}
 use Rattle.condition_graph.specs.declared.condition.Condition.{Condition}
 use Rattle.condition_graph.specs.declared.condition.Condition.TheVariants.{Free, Occurs, Pair, AtRank, AtBucket}
 
@@ -12,11 +11,9 @@ use Rattle.condition_graph.specs.declared.condition.Condition.TheVariants.{Free,
 abbrev pub meets : List Place → Condition → Bool
 meets places Free = true
 meets places (Occurs term) = occurs places term
-meets places (Pair left right right_prefix cost) =
-    list_any (λ place. is_asked right_prefix right place.word && (pair_cost places left place.word == cost)) places
-meets places (AtRank term rank) = list_any (λ place. occurs_at places term place && (place.rank == rank)) places
-meets places (AtBucket term at) =
-    list_any (λ place. occurs_at places term place && (bucket_of place.position == at)) places
+meets places (Pair left right right_prefix cost) = asked_cost places left right_prefix right == cost
+meets places (AtRank term rank) = occurs places term && (least_rank places term == rank)
+meets places (AtBucket term at) = occurs places term && (least_bucket places term == at)
 
 -- a place in a path whose rank is below this number
 abbrev pub IsRanked : ℕ → Place → Type 0

@@ -11,6 +11,7 @@ use Rattle.facet_index.specs.LeavesView.{LeavesView}
 use Rattle.facet_index.specs.Places.{keyed, IsNarrowDocument, IsIndexOf}
 use Rattle.facet_index.specs.Batches.{has_id, AreApart, document_at, without, after, IsBatch}
 use Rattle.facet_index.proofs.TestLemmas.{any_map}
+use Rattle.facet_index.proofs.KeyLemmas.{all_both}
 
 -- the same lists
 pub index_same : (old new : PostingsView) (documents : List LeavesView) → ((key : List ℕ) → list_at key new ≡ list_at key old)
@@ -28,17 +29,6 @@ index_same old new documents same index = record {
 
 abbrev pub made : ℕ → List Place → Document
 made id places = record { id = id; places = places }
-
-pub document_is : (x : LeavesView) (id : ℕ) (places : List Place) → id ≡ x.id → places ≡ (keyed x).places
-    → ◌≡◌ {A = Document} (record { id = id; places = places }) (keyed x)
-document_is x id places is same = ap₂ made is same
-
-pub drop_before : (xs : List LeavesView) (left : ℕ) (x : LeavesView) → 0 < left → left ≤ length xs → x ≡ get_or xs (left - 1) x
-    → x ∷ drop left xs ≡ drop (left - 1) xs
-drop_before xs left x some inside is =
-    let e : left ≡ suc (left - 1) = omega arith in
-    let low : left - 1 < length xs = omega arith in
-    ap₂ (λ y n. y ∷ drop n xs) is e ∙ sym (drop-cons xs (left - 1) x low)
 
 -- ---- a batch
 
@@ -96,10 +86,6 @@ all_kept P p (x ∷ xs) h = by (p x) (all_kept P p xs h.1)
     by : (b : Bool) → AllByRecursion P (filter p xs) → AllByRecursion P (cond b (x ∷ filter p xs) (filter p xs))
     by true rest = (h.0, rest)
     by false rest = rest
-
-all_both : (P : LeavesView → Type 0) (xs ys : List LeavesView) → AllByRecursion P xs → AllByRecursion P ys → AllByRecursion P (xs ++ ys)
-all_both P [] ys h k = k
-all_both P (x ∷ xs) ys h k = (h.0, all_both P xs ys h.1 k)
 
 pub narrow_after : (gone come documents : List LeavesView) → AllByRecursion IsNarrowDocument come → AllByRecursion IsNarrowDocument documents
     → AllByRecursion IsNarrowDocument (after gone come documents)

@@ -1,6 +1,6 @@
 -- What the lists of keys say of documents.
-use Rattle.std.proofs.Common.{◌≡◌, ℕ, ℤ, pos, negsuc, ◌*◌, ◌/◌, ◌^◌, Bool, true, false, not, ◌&&◌, ◌||◌, ◌==◌, cond, List, [], ◌∷◌, ◌++◌, None, map, int_lt, refl, sym, ap, ap₂, subst, ◌∙◌, arith}
-use Rattle.std.specs.List.{filter, list_any}
+use Rattle.std.proofs.Common.{◌≡◌, ℕ, ℤ, pos, negsuc, ◌*◌, ◌/◌, ◌^◌, Bool, true, false, not, ◌&&◌, ◌||◌, ◌==◌, cond, List, [], ◌∷◌, ◌++◌, Option, None, Some, map, flat_map, append_assoc, int_lt, refl, sym, ap, ap₂, subst, ◌∙◌, arith}
+use Rattle.std.specs.List.{filter, list_any, AllByRecursion}
 use Rattle.std.specs.Str.{bytes_eq}
 use Rattle.std.specs.Ordering.{is_eq}
 use Rattle.std.specs.declared.cmp.Ordering.{Ordering}
@@ -22,24 +22,28 @@ use Rattle.search_base.specs.declared.value.FacetValue.TheVariants as facet
 use Rattle.sorted_pages.specs.Entries.{has}
 use Rattle.postings.specs.Dictionary.{PostingsView, word_cmp, list_at, some_list}
 use Rattle.postings.specs.Documents.{entry_of, is_place, stands}
-use Rattle.facet_keys.specs.Keys.{leaf, mark, key_bytes, IsNarrow}
+use Rattle.facet_keys.specs.Keys.{Facet, leaf, mark, least, greatest, key_bytes, IsNarrow}
 use Rattle.facet_keys.specs.Laws.{AreApart}
 use Rattle.facet_index.specs.LeavesView.{LeavesView}
 use Rattle.facet_index.specs.Documents.{is_same, is_kind, has_value, has_mark, passes_at}
-use Rattle.facet_index.specs.Places.{place_of, leaf_key, mark_key, keys_of, keyed, IsNarrowDocument, IsIndexOf, has_document}
+use Rattle.facet_index.specs.Ends.{first_value, end_facet, if_end, end_at, ends_at, ends_of, paths_of}
+use Rattle.facet_index.specs.Places.{leaf_facets, mark_facets, facets_of, key_of, keys_of, place_of, places_of, keyed, IsNarrowDocument, IsIndexOf, has_document}
 use Rattle.facet_index.proofs.TestLemmas.{same_bool, both, never, any_map, any_where, any_same, any_and, filter_same}
 
 -- ---- the places of a document
 
-pub places_by_kind : (document : LeavesView)
-    → map (λ x. place_of (leaf_key x)) document.leaves ++ map (λ x. place_of (mark_key x)) document.marks ≡ map place_of (keys_of document)
-places_by_kind document =
-    sym (map-append place_of (map leaf_key document.leaves) (map mark_key document.marks)
-    ∙ ap₂ (λ xs ys. xs ++ ys) (twice leaf_key document.leaves) (twice mark_key document.marks))
-  where
-    twice : {X : Type 0} (f : X → List ℕ) (xs : List X) → map place_of (map f xs) ≡ map (λ x. place_of (f x)) xs
-    twice f [] = refl
-    twice f (x ∷ xs) = ap (λ rest. place_of (f x) ∷ rest) (twice f xs)
+pub places_by_kind : (xs ys zs : List (ℕ × Facet)) → (places_of xs ++ places_of ys) ++ places_of zs ≡ places_of (xs ++ (ys ++ zs))
+places_by_kind xs ys zs =
+    append_assoc (places_of xs) (places_of ys) (places_of zs)
+    ∙ sym (map-append (λ x. place_of (key_of x)) xs (ys ++ zs) ∙ ap (λ ps. places_of xs ++ ps) (map-append (λ x. place_of (key_of x)) ys zs))
+
+pub all_both : {X : Type 0} (P : X → Type 0) (xs ys : List X) → AllByRecursion P xs → AllByRecursion P ys → AllByRecursion P (xs ++ ys)
+all_both P [] ys h k = k
+all_both P (x ∷ xs) ys h k = (h.0, all_both P xs ys h.1 k)
+
+map_twice : {X Y Z : Type 0} (f : Y → Z) (g : X → Y) (xs : List X) → map f (map g xs) ≡ map (λ x. f (g x)) xs
+map_twice f g [] = refl
+map_twice f g (x ∷ xs) = ap (λ rest. f (g x) ∷ rest) (map_twice f g xs)
 
 -- ---- entries
 
@@ -69,7 +73,8 @@ entry_is id d key = let e : entry_of id (place_of key) ≡ id * 2 ^ 32 = omega a
 stands_at : (key : List ℕ) (d : ℕ) (documents : List LeavesView) → stands key (d * 2 ^ 32) (map keyed documents) ≡ passes_at (has_key key) documents d
 stands_at key d [] = refl
 stands_at key d (document ∷ documents) = ap₂ (λ a b. a || b)
-    (any_map place_of (is_place key (d * 2 ^ 32) document.id) (keys_of document)
+    (ap (list_any (is_place key (d * 2 ^ 32) document.id)) (sym (map_twice place_of key_of (facets_of document)))
+    ∙ any_map place_of (is_place key (d * 2 ^ 32) document.id) (keys_of document)
     ∙ any_same _ (λ k. bytes_eq k key && (document.id == d)) (keys_of document) (λ k. ap (λ v. bytes_eq k key && v) (entry_is document.id d k))
     ∙ any_and (document.id == d) (λ k. bytes_eq k key) (keys_of document))
     (stands_at key d documents)
@@ -77,18 +82,18 @@ stands_at key d (document ∷ documents) = ap₂ (λ a b. a || b)
 -- an entry is of a document as a whole
 round : (key : List ℕ) (entry : ℕ) (documents : List LeavesView) → stands key entry (map keyed documents) ≡ true → (id : ℕ) × (entry ≡ id * 2 ^ 32)
 round key entry [] h = absurd (cc)
-round key entry (document ∷ documents) h = here (round key entry documents) (keys_of document) h
+round key entry (document ∷ documents) h = here (round key entry documents) (facets_of document) h
   where
-    here : (stands key entry (map keyed documents) ≡ true → (id : ℕ) × (entry ≡ id * 2 ^ 32)) → (keys : List (List ℕ)) → (list_any (is_place key entry document.id) (map place_of keys) || stands key entry (map keyed documents)) ≡ true
+    here : (stands key entry (map keyed documents) ≡ true → (id : ℕ) × (entry ≡ id * 2 ^ 32)) → (facets : List (ℕ × Facet)) → (list_any (is_place key entry document.id) (places_of facets) || stands key entry (map keyed documents)) ≡ true
         → (id : ℕ) × (entry ≡ id * 2 ^ 32)
     here later [] h = later h
-    here later (k ∷ keys) h = by (here later keys) (bytes_eq k key) (entry_of document.id (place_of k) == entry) refl h
+    here later (x ∷ facets) h = by (here later facets) (bytes_eq (key_of x) key) (entry_of document.id (place_of (key_of x)) == entry) refl h
       where
-        by : ((list_any (is_place key entry document.id) (map place_of keys) || stands key entry (map keyed documents)) ≡ true
-            → (id : ℕ) × (entry ≡ id * 2 ^ 32)) → (b same : Bool) → same ≡ (entry_of document.id (place_of k) == entry)
-            → (((b && same) || list_any (is_place key entry document.id) (map place_of keys)) || stands key entry (map keyed documents)) ≡ true
+        by : ((list_any (is_place key entry document.id) (places_of facets) || stands key entry (map keyed documents)) ≡ true
+            → (id : ℕ) × (entry ≡ id * 2 ^ 32)) → (b same : Bool) → same ≡ (entry_of document.id (place_of (key_of x)) == entry)
+            → (((b && same) || list_any (is_place key entry document.id) (places_of facets)) || stands key entry (map keyed documents)) ≡ true
             → (id : ℕ) × (entry ≡ id * 2 ^ 32)
-        by rest true true s h = (document.id, let e : entry_of document.id (place_of k) ≡ entry = eqb-true _ _ (sym s) in omega arith)
+        by rest true true s h = (document.id, let e : entry_of document.id (place_of (key_of x)) ≡ entry = eqb-true _ _ (sym s) in omega arith)
         by rest true false s h = rest h
         by rest false same s h = rest h
 
@@ -115,7 +120,7 @@ has_at view documents key d index =
 
 -- ---- which key
 
-same_value : (v w : FacetValue) → is_same v w ≡ true → v ≡ w
+pub same_value : (v w : FacetValue) → is_same v w ≡ true → v ≡ w
 same_value (facet.Number m) (facet.Number n) h = ap facet.Number (int_ranked m n Equal (by (int_lt m n) (int_lt n m) h))
   where
     by : (a b : Bool) → (not a && not b) ≡ true → Equal ≡ cond a Less (cond b Greater Equal)
@@ -126,23 +131,13 @@ same_value (facet.Number m) (facet.Text w) h = absurd (cc)
 same_value (facet.Text v) (facet.Number n) h = absurd (cc)
 same_value (facet.Text v) (facet.Text w) h = ap facet.Text (bytes_same v w h)
 
-value_itself : (v : FacetValue) → is_same v v ≡ true
+pub value_itself : (v : FacetValue) → is_same v v ≡ true
 value_itself (facet.Number n) = ap (λ b. not b && not b) (not_less n)
   where
     not_less : (n : ℤ) → int_lt n n ≡ false
     not_less (pos n) = grind (arith, nat_tests)
     not_less (negsuc n) = grind (arith, nat_tests)
 value_itself (facet.Text w) = bytes_itself w
-
-leaf_test : AreApart → (x : Leaf) (path : ℕ) (v : FacetValue) → IsNarrow x.path.0 (leaf x.value) → IsNarrow path (leaf v)
-    → bytes_eq (leaf_key x) (key_bytes path (leaf v)) ≡ ((x.path.0 == path) && is_same v x.value)
-leaf_test apart x path v narrow asked = same_bool _ _
-    (λ h. let one : (x.path.0 ≡ path) × (leaf x.value ≡ leaf v) = apart x.path.0 path (leaf x.value) (leaf v) narrow asked (bytes_same _ _ h) in
-    let same : x.value ≡ v = cc in
-    ap₂ (λ a b. a && b) (eq-eqb x.path.0 path one.0) (ap (is_same v) same ∙ value_itself v))
-    (λ h. let one = both (x.path.0 == path) (is_same v x.value) h in
-    subst (λ key. bytes_eq (leaf_key x) key ≡ true) (ap₂ (λ p w. key_bytes p (leaf w)) (eqb-true x.path.0 path one.0) (sym (same_value v x.value one.1)))
-    (bytes_itself (leaf_key x)))
 
 kind_same : (a b : MarkKind) → is_kind a b ≡ true → a ≡ b
 kind_same Exists Exists h = refl
@@ -160,60 +155,124 @@ kind_itself Exists = refl
 kind_itself Null = refl
 kind_itself Empty = refl
 
-mark_test : AreApart → (x : Mark) (path : ℕ) (kind : MarkKind) → IsNarrow x.path.0 (mark x.kind) → IsNarrow path (mark kind)
-    → bytes_eq (mark_key x) (key_bytes path (mark kind)) ≡ ((x.path.0 == path) && is_kind kind x.kind)
-mark_test apart x path kind narrow asked = same_bool _ _
-    (λ h. let one : (x.path.0 ≡ path) × (mark x.kind ≡ mark kind) = apart x.path.0 path (mark x.kind) (mark kind) narrow asked (bytes_same _ _ h) in
-    let same : x.kind ≡ kind = cc in
-    ap₂ (λ a b. a && b) (eq-eqb x.path.0 path one.0) (ap (is_kind kind) same ∙ kind_itself kind))
-    (λ h. let one = both (x.path.0 == path) (is_kind kind x.kind) h in
-    subst (λ key. bytes_eq (mark_key x) key ≡ true) (ap₂ (λ p k. key_bytes p (mark k)) (eqb-true x.path.0 path one.0) (sym (kind_same kind x.kind one.1)))
-    (bytes_itself (mark_key x)))
+-- whether two facets are one
+abbrev pub is_facet : Facet → Facet → Bool
+is_facet (leaf v) (leaf w) = is_same v w
+is_facet (mark a) (mark b) = is_kind a b
+is_facet (least v) (least w) = is_same v w
+is_facet (greatest v) (greatest w) = is_same v w
+is_facet _ _ = false
 
-no_mark : AreApart → (x : Mark) (path : ℕ) (v : FacetValue) → IsNarrow x.path.0 (mark x.kind) → IsNarrow path (leaf v)
-    → bytes_eq (mark_key x) (key_bytes path (leaf v)) ≡ false
-no_mark apart x path v narrow asked = never _
-    (λ h. let one : (x.path.0 ≡ path) × (mark x.kind ≡ leaf v) = apart x.path.0 path (mark x.kind) (leaf v) narrow asked (bytes_same _ _ h) in cc)
+facet_same : (f g : Facet) → is_facet f g ≡ true → f ≡ g
+facet_same (leaf v) (leaf w) h = ap leaf (same_value v w h)
+facet_same (leaf v) (mark b) h = absurd (cc)
+facet_same (leaf v) (least w) h = absurd (cc)
+facet_same (leaf v) (greatest w) h = absurd (cc)
+facet_same (mark a) (leaf w) h = absurd (cc)
+facet_same (mark a) (mark b) h = ap mark (kind_same a b h)
+facet_same (mark a) (least w) h = absurd (cc)
+facet_same (mark a) (greatest w) h = absurd (cc)
+facet_same (least v) (leaf w) h = absurd (cc)
+facet_same (least v) (mark b) h = absurd (cc)
+facet_same (least v) (least w) h = ap least (same_value v w h)
+facet_same (least v) (greatest w) h = absurd (cc)
+facet_same (greatest v) (leaf w) h = absurd (cc)
+facet_same (greatest v) (mark b) h = absurd (cc)
+facet_same (greatest v) (least w) h = absurd (cc)
+facet_same (greatest v) (greatest w) h = ap greatest (same_value v w h)
 
-no_leaf : AreApart → (x : Leaf) (path : ℕ) (kind : MarkKind) → IsNarrow x.path.0 (leaf x.value) → IsNarrow path (mark kind)
-    → bytes_eq (leaf_key x) (key_bytes path (mark kind)) ≡ false
-no_leaf apart x path kind narrow asked = never _
-    (λ h. let one : (x.path.0 ≡ path) × (leaf x.value ≡ mark kind) = apart x.path.0 path (leaf x.value) (mark kind) narrow asked (bytes_same _ _ h) in cc)
+pub facet_itself : (f : Facet) → is_facet f f ≡ true
+facet_itself (leaf v) = value_itself v
+facet_itself (mark a) = kind_itself a
+facet_itself (least v) = value_itself v
+facet_itself (greatest v) = value_itself v
 
--- a test of keys that says something of leaves and of marks
-pub keys_say : (test : List ℕ → Bool) (p : Leaf → Bool) (q : Mark → Bool) (document : LeavesView) → IsNarrowDocument document
-    → ((x : Leaf) → IsNarrow x.path.0 (leaf x.value) → test (leaf_key x) ≡ p x)
-    → ((x : Mark) → IsNarrow x.path.0 (mark x.kind) → test (mark_key x) ≡ q x)
-    → list_any test (keys_of document) ≡ (list_any p document.leaves || list_any q document.marks)
-keys_say test p q document narrow leaves marks =
-    list_any-append test (map leaf_key document.leaves) (map mark_key document.marks)
-    ∙ ap₂ (λ a b. a || b)
-    (any_map leaf_key test document.leaves
-    ∙ any_where (λ x. IsNarrow x.path.0 (leaf x.value)) _ p document.leaves narrow.0 leaves)
-    (any_map mark_key test document.marks
-    ∙ any_where (λ x. IsNarrow x.path.0 (mark x.kind)) _ q document.marks narrow.1 marks)
+-- whether a document has the facet under the path
+abbrev pub has_facet : ℕ → Facet → LeavesView → Bool
+has_facet path f document = list_any (λ x. (x.0 == path) && is_facet f x.1) (facets_of document)
 
-pub nothing : {X : Type 0} (xs : List X) → list_any (λ x. false) xs ≡ false
-nothing [] = refl
-nothing (x ∷ xs) = nothing xs
+facet_test : AreApart → (x : ℕ × Facet) (path : ℕ) (f : Facet) → IsNarrow x.0 x.1 → IsNarrow path f
+    → bytes_eq (key_of x) (key_bytes path f) ≡ ((x.0 == path) && is_facet f x.1)
+facet_test apart x path f narrow asked = same_bool _ _
+    (λ h. let one : (x.0 ≡ path) × (x.1 ≡ f) = apart x.0 path x.1 f narrow asked (bytes_same _ _ h) in
+    ap₂ (λ a b. a && b) (eq-eqb x.0 path one.0) (ap (is_facet f) one.1 ∙ facet_itself f))
+    (λ h. let one = both (x.0 == path) (is_facet f x.1) h in
+    subst (λ key. bytes_eq (key_of x) key ≡ true) (ap₂ key_bytes (eqb-true x.0 path one.0) (sym (facet_same f x.1 one.1)))
+    (bytes_itself (key_of x)))
+
+pub facet_key : AreApart → (path : ℕ) (f : Facet) (document : LeavesView) → IsNarrow path f → IsNarrowDocument document
+    → has_key (key_bytes path f) document ≡ has_facet path f document
+facet_key apart path f document asked narrow =
+    any_map key_of (λ k. bytes_eq k (key_bytes path f)) (facets_of document)
+    ∙ any_where (λ x. IsNarrow x.0 x.1) _ (λ x. (x.0 == path) && is_facet f x.1) (facets_of document) narrow
+    (λ x each. facet_test apart x path f each asked)
+
+-- ---- the facets of a document, by kind
+
+pub facets_say : (p : ℕ × Facet → Bool) (document : LeavesView) → list_any p (facets_of document)
+    ≡ (list_any (λ x. p (x.path.0, leaf x.value)) document.leaves
+    || (list_any (λ x. p (x.path.0, mark x.kind)) document.marks || list_any p (ends_of document.leaves)))
+facets_say p document =
+    list_any-append p (leaf_facets document.leaves) (mark_facets document.marks ++ ends_of document.leaves)
+    ∙ ap₂ (λ a b. a || b) (any_map (λ x. (x.path.0, leaf x.value)) p document.leaves)
+    (list_any-append p (mark_facets document.marks) (ends_of document.leaves)
+    ∙ ap (λ a. a || list_any p (ends_of document.leaves)) (any_map (λ x. (x.path.0, mark x.kind)) p document.marks))
+
+pub any_never : {X : Type 0} (p : X → Bool) (xs : List X) → ((x : X) → p x ≡ false) → list_any p xs ≡ false
+any_never p [] none = refl
+any_never p (x ∷ xs) none = ap₂ (λ a b. a || b) (none x) (any_never p xs none)
+
+pub any_flat : {X Y : Type 0} (p : Y → Bool) (f : X → List Y) (xs : List X) → list_any p (flat_map f xs) ≡ list_any (λ x. list_any p (f x)) xs
+any_flat p f [] = refl
+any_flat p f (x ∷ xs) = list_any-append p (f x) (flat_map f xs) ∙ ap (λ b. list_any p (f x) || b) (any_flat p f xs)
+
+pub ends_none : (p : ℕ × Facet → Bool) (leaves : List Leaf) → ((up : Bool) (path : ℕ) (v : FacetValue) → p (path, end_facet up v) ≡ false)
+    → list_any p (ends_of leaves) ≡ false
+ends_none p leaves none =
+    any_flat p (ends_at leaves) (paths_of leaves)
+    ∙ any_never (λ path. list_any p (ends_at leaves path)) (paths_of leaves)
+    (λ path. list_any-append p (end_at true path leaves) (end_at false path leaves)
+    ∙ ap₂ (λ a b. a || b) (at true path (first_value true path leaves)) (at false path (first_value false path leaves)))
+  where
+    at : (up : Bool) (path : ℕ) (o : Option FacetValue) → list_any p (if_end up path o) ≡ false
+    at up path None = refl
+    at up path (Some v) = ap (λ b. b || false) (none up path v)
+
+pub and_false : (b : Bool) → (b && false) ≡ false
+and_false true = refl
+and_false false = refl
 
 pub or_false : (b : Bool) → (b || false) ≡ b
 or_false true = refl
 or_false false = refl
 
+no_end : (f : Facet) → ((up : Bool) (v : FacetValue) → is_facet f (end_facet up v) ≡ false) → (path : ℕ) (leaves : List Leaf)
+    → list_any (λ x. (x.0 == path) && is_facet f x.1) (ends_of leaves) ≡ false
+no_end f none path leaves = ends_none (λ x. (x.0 == path) && is_facet f x.1) leaves
+    (λ up q v. ap (λ b. (q == path) && b) (none up v) ∙ and_false (q == path))
+
 value_key : AreApart → (path : ℕ) (v : FacetValue) (document : LeavesView) → IsNarrow path (leaf v) → IsNarrowDocument document
     → has_key (key_bytes path (leaf v)) document ≡ has_value v path document
 value_key apart path v document asked narrow =
-    keys_say (λ k. bytes_eq k (key_bytes path (leaf v))) (λ x. (x.path.0 == path) && is_same v x.value) (λ x. false) document narrow
-    (λ x each. leaf_test apart x path v each asked) (λ x each. no_mark apart x path v each asked)
-    ∙ ap (λ b. has_value v path document || b) (nothing document.marks) ∙ or_false (has_value v path document)
+    facet_key apart path (leaf v) document asked narrow ∙ facets_say (λ x. (x.0 == path) && is_facet (leaf v) x.1) document
+    ∙ ap (λ b. has_value v path document || b) (ap₂ (λ a b. a || b)
+    (any_never (λ x. (x.path.0 == path) && false) document.marks (λ x. and_false (x.path.0 == path))) (no_end (leaf v) other path document.leaves))
+    ∙ or_false (has_value v path document)
+  where
+    other : (up : Bool) (w : FacetValue) → is_facet (leaf v) (end_facet up w) ≡ false
+    other true w = refl
+    other false w = refl
 
 kind_key : AreApart → (path : ℕ) (kind : MarkKind) (document : LeavesView) → IsNarrow path (mark kind) → IsNarrowDocument document
     → has_key (key_bytes path (mark kind)) document ≡ has_mark kind path document
 kind_key apart path kind document asked narrow =
-    keys_say (λ k. bytes_eq k (key_bytes path (mark kind))) (λ x. false) (λ x. (x.path.0 == path) && is_kind kind x.kind) document narrow
-    (λ x each. no_leaf apart x path kind each asked) (λ x each. mark_test apart x path kind each asked)
-    ∙ ap (λ b. b || has_mark kind path document) (nothing document.leaves)
+    facet_key apart path (mark kind) document asked narrow ∙ facets_say (λ x. (x.0 == path) && is_facet (mark kind) x.1) document
+    ∙ ap₂ (λ a b. a || b) (any_never (λ x. (x.path.0 == path) && false) document.leaves (λ x. and_false (x.path.0 == path)))
+    (ap (λ b. has_mark kind path document || b) (no_end (mark kind) other path document.leaves) ∙ or_false (has_mark kind path document))
+  where
+    other : (up : Bool) (w : FacetValue) → is_facet (mark kind) (end_facet up w) ≡ false
+    other true w = refl
+    other false w = refl
 
 -- ---- answers
 
@@ -226,7 +285,7 @@ none_found [] universe h = empty universe
 none_found (x ∷ xs) universe h = absurd (cc)
 
 -- the documents of a key
-documents_at_key : (view : PostingsView) (documents : List LeavesView) (key : List ℕ) (test : LeavesView → Bool) (universe : List ℕ) → IsIndexOf view documents
+pub documents_at_key : (view : PostingsView) (documents : List LeavesView) (key : List ℕ) (test : LeavesView → Bool) (universe : List ℕ) → IsIndexOf view documents
     → ((document : LeavesView) → IsNarrowDocument document → has_key key document ≡ test document)
     → filter (λ d. has_document d (list_at key view)) universe ≡ filter (passes_at test documents) universe
 documents_at_key view documents key test universe index says = filter_same _ (passes_at test documents) universe

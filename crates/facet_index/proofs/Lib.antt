@@ -4,3 +4,9 @@ pub mod BatchLemmas
 pub mod AnswerLemmas
 pub mod RowLemmas
 pub mod RangeLemmas
+pub mod EndLemmas
+pub mod SortLemmas
+pub mod NextLemmas
+pub mod StepLemmas
+pub mod SortDocLemmas
+pub mod SortRowLemmas

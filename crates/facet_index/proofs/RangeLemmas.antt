@@ -1,9 +1,10 @@
 -- Numbers between two ends.
-use Rattle.std.proofs.Common.{◌≡◌, ℕ, ℤ, pos, negsuc, ◌<◌, Bool, true, false, not, ◌&&◌, ◌||◌, ◌==◌, int_lt, List, Result, Ok, Err, refl, sym, ap, ap₂, subst, ◌∙◌, arith}
+use Rattle.std.proofs.Common.{◌≡◌, ℕ, ℤ, pos, negsuc, ◌<◌, Bool, true, false, not, ◌&&◌, ◌||◌, ◌==◌, int_lt, List, [], ◌∷◌, ◌++◌, Result, Ok, Err, refl, sym, ap, ap₂, subst, ◌∙◌, arith}
 use Rattle.std.specs.declared.cmp.Ordering.{Ordering}
 use Rattle.std.specs.declared.cmp.Ordering.TheVariants.{Less, Equal, Greater}
 use Rattle.std.specs.Ordering.{is_le, nat_cmp, int_cmp, ordering_then, ordering_reverse, MatchOrdering}
-use Rattle.std.specs.List.{filter, list_any}
+use Rattle.std.specs.List.{filter, list_any, AllByRecursion}
+use Rattle.search_base.specs.declared.document.Leaf.{Leaf}
 use Rattle.std.specs.Result.{IfOk}
 use Rattle.std.specs.Str.{bytes_eq}
 use Rattle.std.specs.Int.{w128}
@@ -21,10 +22,11 @@ use Rattle.facet_keys.specs.Keys.{Facet, leaf, mark, key_bytes, facet_bytes, IsN
 use Rattle.facet_keys.specs.Laws.{AreInOrder}
 use Rattle.facet_index.specs.LeavesView.{LeavesView}
 use Rattle.facet_index.specs.Documents.{is_number_that, is_between, has_number_that, passes_at}
-use Rattle.facet_index.specs.Places.{keys_of, IsNarrowDocument, IsIndexOf}
+use Rattle.facet_index.specs.Ends.{end_facet, ends_of}
+use Rattle.facet_index.specs.Places.{leaf_facets, mark_facets, facets_of, key_of, keys_of, AreNarrow, IsNarrowDocument, IsIndexOf}
 use Rattle.facet_index.specs.Ranges.{is_inside, PassesInside}
-use Rattle.facet_index.proofs.TestLemmas.{both, any_where, any_implies, any_witness}
-use Rattle.facet_index.proofs.KeyLemmas.{has_key, has_at, keys_say, nothing, or_false, bytes_same, bytes_itself}
+use Rattle.facet_index.proofs.TestLemmas.{both, any_map, any_where, any_implies, any_witness}
+use Rattle.facet_index.proofs.KeyLemmas.{has_key, has_at, facets_say, any_never, ends_none, and_false, or_false, bytes_same, bytes_itself}
 
 -- ---- the order of keys
 
@@ -74,17 +76,33 @@ mark_between low high Empty = refl
 abbrev pub end_of : ℕ → ℤ → List ℕ
 end_of path n = key_bytes path (leaf (facet.Number n))
 
-key_between : AreInOrder → (path : ℕ) (low high : ℤ) → IsNarrow path (leaf (facet.Number low)) → IsNarrow path (leaf (facet.Number high))
-    → (q : ℕ) (x : Facet) → IsNarrow q x
-    → is_inside (end_of path low) (end_of path high) (key_bytes q x)
-    ≡ ((q == path) && (is_le (word_cmp (facet_bytes (leaf (facet.Number low))) (facet_bytes x)) && is_le (word_cmp (facet_bytes x) (facet_bytes (leaf (facet.Number high))))))
-key_between order path low high l h q x narrow =
-    ap₂ (λ a b. is_le a && is_le b) (order.paths path q (leaf (facet.Number low)) x l narrow) (order.paths q path x (leaf (facet.Number high)) narrow h)
-    ∙ path_between path q (word_cmp (facet_bytes (leaf (facet.Number low))) (facet_bytes x)) (word_cmp (facet_bytes x) (facet_bytes (leaf (facet.Number high))))
+pub facet_between : AreInOrder → (path : ℕ) (low high : Facet) → IsNarrow path low → IsNarrow path high → (q : ℕ) (x : Facet) → IsNarrow q x
+    → is_inside (key_bytes path low) (key_bytes path high) (key_bytes q x)
+    ≡ ((q == path) && (is_le (word_cmp (facet_bytes low) (facet_bytes x)) && is_le (word_cmp (facet_bytes x) (facet_bytes high))))
+facet_between order path low high l h q x narrow =
+    ap₂ (λ a b. is_le a && is_le b) (order.paths path q low x l narrow) (order.paths q path x high narrow h)
+    ∙ path_between path q (word_cmp (facet_bytes low) (facet_bytes x)) (word_cmp (facet_bytes x) (facet_bytes high))
 
-and_false : (b : Bool) → (b && false) ≡ false
-and_false true = refl
-and_false false = refl
+end_between : (low high : ℤ) (up : Bool) (v : FacetValue)
+    → (is_le (word_cmp (facet_bytes (leaf (facet.Number low))) (facet_bytes (end_facet up v))) && is_le (word_cmp (facet_bytes (end_facet up v)) (facet_bytes (leaf (facet.Number high)))))
+    ≡ false
+end_between low high true (facet.Number n) = refl
+end_between low high true (facet.Text text) = refl
+end_between low high false (facet.Number n) = refl
+end_between low high false (facet.Text text) = refl
+
+-- whether the bytes of a facet are between those of two numbers
+abbrev inside_ends : ℤ → ℤ → Facet → Bool
+inside_ends low high x =
+    is_le (word_cmp (facet_bytes (leaf (facet.Number low))) (facet_bytes x)) && is_le (word_cmp (facet_bytes x) (facet_bytes (leaf (facet.Number high))))
+
+pub leaves_narrow : (leaves : List Leaf) → AreNarrow (leaf_facets leaves) → AllByRecursion (λ x. IsNarrow x.path.0 (leaf x.value)) leaves
+leaves_narrow [] all = tt
+leaves_narrow (x ∷ xs) all = (all.0, leaves_narrow xs all.1)
+
+pub first_part : (xs ys : List (ℕ × Facet)) → AreNarrow (xs ++ ys) → AreNarrow xs
+first_part [] ys all = tt
+first_part (x ∷ xs) ys all = (all.0, first_part xs ys all.1)
 
 -- whether one of a document's keys is between the ends
 abbrev has_inside : List ℕ → List ℕ → LeavesView → Bool
@@ -94,12 +112,18 @@ document_between : AreInOrder → (path : ℕ) (low high : ℤ) → IsNarrow pat
     → (document : LeavesView) → IsNarrowDocument document
     → has_inside (end_of path low) (end_of path high) document ≡ has_number_that (is_between low high) path document
 document_between order path low high l h document narrow =
-    keys_say (is_inside (end_of path low) (end_of path high)) (λ x. (x.path.0 == path) && is_number_that (is_between low high) x.value) (λ x. false) document narrow
-    (λ x each. key_between order path low high l h x.path.0 (leaf x.value) each
-    ∙ ap (λ b. (x.path.0 == path) && b) (value_between order low high x.value l.1 h.1 each.1))
-    (λ x each. key_between order path low high l h x.path.0 (mark x.kind) each
-    ∙ ap (λ b. (x.path.0 == path) && b) (mark_between low high x.kind) ∙ and_false (x.path.0 == path))
-    ∙ ap (λ b. has_number_that (is_between low high) path document || b) (nothing document.marks)
+    any_map key_of (is_inside (end_of path low) (end_of path high)) (facets_of document)
+    ∙ any_where (λ x. IsNarrow x.0 x.1) _ (λ x. (x.0 == path) && inside_ends low high x.1) (facets_of document) narrow (λ x each. facet_between order path (leaf (facet.Number low)) (leaf (facet.Number high)) l h x.0 x.1 each)
+    ∙ facets_say (λ x. (x.0 == path) && inside_ends low high x.1) document
+    ∙ ap₂ (λ a b. a || b)
+    (any_where (λ x. IsNarrow x.path.0 (leaf x.value)) _ (λ x. (x.path.0 == path) && is_number_that (is_between low high) x.value) document.leaves
+    (leaves_narrow document.leaves (first_part (leaf_facets document.leaves) (mark_facets document.marks ++ ends_of document.leaves) narrow))
+    (λ x each. ap (λ b. (x.path.0 == path) && b) (value_between order low high x.value l.1 h.1 each.1)))
+    (ap₂ (λ a b. a || b)
+    (any_never (λ x. (x.path.0 == path) && inside_ends low high (mark x.kind)) document.marks
+    (λ x. ap (λ b. (x.path.0 == path) && b) (mark_between low high x.kind) ∙ and_false (x.path.0 == path)))
+    (ends_none (λ x. (x.0 == path) && inside_ends low high x.1) document.leaves
+    (λ up q v. ap (λ b. (q == path) && b) (end_between low high up v) ∙ and_false (q == path))))
     ∙ or_false (has_number_that (is_between low high) path document)
 
 -- the documents of keys between two ends

@@ -63,7 +63,7 @@ later_sorted key list rows sorted = sorted_tail word_cmp key (keys_of rows) sort
 
 -- ---- which documents are listed
 
-value_here : (r : List ℕ × List ℕ) (rows : List (List ℕ × List ℕ)) → value_at r.0 (r ∷ rows) ≡ Some r.1
+pub value_here : (r : List ℕ × List ℕ) (rows : List (List ℕ × List ℕ)) → value_at r.0 (r ∷ rows) ≡ Some r.1
 value_here r rows = cond-true _ _ _ ((eq_by_cmp_equiv nat_list_cmp_total).refl r.0)
 
 value_later : (w key : List ℕ) (list : List ℕ) (rows : List (List ℕ × List ℕ)) → word_cmp key w ≡ Less → value_at w ((key, list) ∷ rows) ≡ value_at w rows

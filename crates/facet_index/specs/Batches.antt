@@ -1,7 +1,7 @@
 -- Documents that go and come.
 use Rattle.std.specs.Prelude.{◌≡◌, ℕ, Bool, false, not, ◌==◌, List, [], ◌∷◌, ◌++◌, map, Option, None, Some, if◌then◌else◌, ⊤}
 use Rattle.std.specs.List.{filter, list_any, AllByRecursion}
-use Rattle.postings.specs.Changes.{ChangeView, IsPreparedOf}
+use Rattle.postings.specs.Changes.{ChangeView, IsChangeOf, IsPreparedOf}
 use Rattle.facet_index.specs.LeavesView.{LeavesView}
 use Rattle.facet_index.specs.Places.{keyed, IsNarrowDocument}
 
@@ -34,6 +34,11 @@ pub record IsBatch (gone come documents : List LeavesView) : Type 0 where
   pub free : AllByRecursion (λ document. has_id document.id (without gone documents) ≡ false) come
 
 -- what goes are the keys of some documents, and what comes those of others
+pub record IsChangeFor (change : ChangeView) (gone come : List LeavesView) : Type 0 where
+  pub keys : IsChangeOf change (map keyed gone) (map keyed come)
+  pub narrow : AllByRecursion IsNarrowDocument come
+
+-- the same, where what comes need not go
 pub record IsPreparedFor (change : ChangeView) (gone come : List LeavesView) : Type 0 where
   pub keys : IsPreparedOf change (map keyed gone) (map keyed come)
   pub narrow : AllByRecursion IsNarrowDocument come

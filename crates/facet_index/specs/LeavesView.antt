@@ -8,3 +8,6 @@ pub record LeavesView : Type 0 where
   pub id : ℕ
   pub leaves : List Leaf
   pub marks : List Mark
+
+abbrev pub leaves_at : ℕ → List Leaf → List Mark → LeavesView
+leaves_at id leaves marks = record { id = id; leaves = leaves; marks = marks }

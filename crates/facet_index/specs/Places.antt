@@ -1,4 +1,4 @@
--- The keys of a document as places of posting lists.
+-- The facets of a document as places of posting lists.
 use Rattle.std.specs.Prelude.{ℕ, ◌/◌, ◌^◌, ◌==◌, Bool, List, map, ◌++◌}
 use Rattle.std.specs.List.{list_any, AllByRecursion}
 use Rattle.search_base.specs.declared.document.Leaf.{Leaf}
@@ -7,31 +7,43 @@ use Rattle.search_base.specs.declared.document.Place.{Place}
 use Rattle.postings.specs.Dictionary.{PostingsView}
 use Rattle.postings.specs.Documents.{Document}
 use Rattle.postings.specs.Fresh.{StandsFor}
-use Rattle.facet_keys.specs.Keys.{leaf, mark, key_bytes, IsNarrow}
+use Rattle.facet_keys.specs.Keys.{Facet, leaf, mark, key_bytes, IsNarrow}
 use Rattle.facet_index.specs.LeavesView.{LeavesView}
+use Rattle.facet_index.specs.Ends.{ends_of}
+
+abbrev pub leaf_facets : List Leaf → List (ℕ × Facet)
+leaf_facets leaves = map (λ x. (x.path.0, leaf x.value)) leaves
+
+abbrev pub mark_facets : List Mark → List (ℕ × Facet)
+mark_facets marks = map (λ x. (x.path.0, mark x.kind)) marks
+
+-- the facets of a document under their paths: its values, its marks, and under each path the values that come first
+abbrev pub facets_of : LeavesView → List (ℕ × Facet)
+facets_of document = leaf_facets document.leaves ++ (mark_facets document.marks ++ ends_of document.leaves)
+
+abbrev pub key_of : ℕ × Facet → List ℕ
+key_of x = key_bytes x.0 x.1
+
+abbrev pub keys_of : LeavesView → List (List ℕ)
+keys_of document = map key_of (facets_of document)
 
 -- a key stands once in a document, at the first place there
 abbrev pub place_of : List ℕ → Place
 place_of key = record { path = record { 0 = 0 }; rank = 0; position = 0; word = key }
 
-abbrev pub leaf_key : Leaf → List ℕ
-leaf_key x = key_bytes x.path.0 (leaf x.value)
-
-abbrev pub mark_key : Mark → List ℕ
-mark_key x = key_bytes x.path.0 (mark x.kind)
-
--- the keys of a document: those of its leaves and of its marks
-abbrev pub keys_of : LeavesView → List (List ℕ)
-keys_of document = map leaf_key document.leaves ++ map mark_key document.marks
+abbrev pub places_of : List (ℕ × Facet) → List Place
+places_of facets = map (λ x. place_of (key_of x)) facets
 
 -- a document as posting lists know it
 abbrev pub keyed : LeavesView → Document
-keyed document = record { id = document.id; places = map place_of (keys_of document) }
+keyed document = record { id = document.id; places = places_of (facets_of document) }
 
 -- paths and numbers are in their ranges
+abbrev pub AreNarrow : List (ℕ × Facet) → Type 0
+AreNarrow facets = AllByRecursion (λ x. IsNarrow x.0 x.1) facets
+
 abbrev pub IsNarrowDocument : LeavesView → Type 0
-IsNarrowDocument document = AllByRecursion (λ x. IsNarrow x.path.0 (leaf x.value)) document.leaves
-    × AllByRecursion (λ x. IsNarrow x.path.0 (mark x.kind)) document.marks
+IsNarrowDocument document = AreNarrow (facets_of document)
 
 -- the posting lists are those of the documents
 pub record IsIndexOf (view : PostingsView) (documents : List LeavesView) : Type 0 where

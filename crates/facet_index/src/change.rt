@@ -1,15 +1,26 @@
-ghost use Rattle.std.specs.Prelude.{◌≡◌, List, [], map, IfOk, OnOk};
-ghost use Rattle.std.specs.List.{AllByRecursion};
-ghost use Rattle.postings.specs.Documents.{Document};
-ghost use Rattle.postings.specs.Changes.{IsChangeOf};
-ghost use Rattle.facet_index.specs.Places.{keyed, IsNarrowDocument};
+ghost use Rattle.std.specs.Prelude.{List, [], ◌∷◌, OnOk};
+ghost use Rattle.facet_index.specs.LeavesView.{LeavesView, leaves_at};
+ghost use Rattle.facet_index.specs.Batches.{IsChangeFor};
 
-use crate::documents::DocLeaves;
 use crate::places::places_of;
 use postings::{Change, Prepared};
-use search_base::NoMemory;
+use search_base::{DocId, Leaf, Mark, NoMemory};
 use std::alloc::Global;
 use std::marker::Model;
+
+/// Whole documents that go from the facet index, and others that come. One that is replaced goes and comes.
+#[derive(Drop)]
+pub struct FacetChange {
+    pub(crate) keys: Change,
+}
+
+impl Model for FacetChange {
+    ghost use Rattle.postings.specs.Changes.{ChangeView};
+
+    ghost Value = { ChangeView };
+
+    ghost view = { λ change. change.keys };
+}
 
 /// A change of the facet index whose memory was taken.
 #[derive(Drop)]
@@ -25,48 +36,45 @@ impl Model for PreparedFacets {
     ghost view = { λ prepared. prepared.keys };
 }
 
-// What the keys of documents that go and come lose and gain.
-pub(crate) fn change_of(
-    alloc: Global,
-    gone: &[DocLeaves],
-    come: &[DocLeaves],
-) -> Result<Change, NoMemory>
-    ensures keys { IfOk result (λ change. IsChangeOf change (map keyed gone.now) (map keyed come.now)) }
-    ensures narrow { OnOk result (AllByRecursion IsNarrowDocument come.now) }
-{
-    let mut change = Change::new(alloc);
-    take_all_out(alloc, &mut change, gone)?;
-    put_all_in(alloc, &mut change, come)?;
-    Ok(change)
-}
-
-// Has these documents go, from the last to the first, where none has gone before.
-fn take_all_out(alloc: Global, change: &mut Change, gone: &[DocLeaves]) -> Result<(), NoMemory>
-    ensures { OnOk result ((come : List Document) → IsChangeOf change.old [] come
-        → IsChangeOf change.new (map keyed gone.now) come) }
-{
-    let mut left = gone.len();
-    while left > 0 {
-        left -= 1;
-        let document = &gone[left];
-        let places = places_of(alloc, document)?;
-        change.take_out(alloc, document.id, places.as_slice())?;
+impl FacetChange {
+    /// A change of no document. Takes no memory.
+    pub fn new(alloc: Global) -> FacetChange
+        ensures { IsChangeFor result [] [] }
+    {
+        FacetChange {
+            keys: Change::new(alloc),
+        }
     }
-    Ok(())
-}
 
-// Has these documents come, from the last to the first, where none has come before.
-fn put_all_in(alloc: Global, change: &mut Change, come: &[DocLeaves]) -> Result<(), NoMemory>
-    ensures keys { OnOk result ((gone : List Document) → IsChangeOf change.old gone []
-        → IsChangeOf change.new gone (map keyed come.now)) }
-    ensures narrow { OnOk result (AllByRecursion IsNarrowDocument come.now) }
-{
-    let mut left = come.len();
-    while left > 0 {
-        left -= 1;
-        let document = &come[left];
-        let places = places_of(alloc, document)?;
-        change.put_in(alloc, document.id, places.as_slice())?;
+    /// A document goes, with all the leaves and marks that it has. After a refusal the change is of no use.
+    pub fn take_out(
+        &mut self,
+        alloc: Global,
+        id: DocId,
+        leaves: &[Leaf],
+        marks: &[Mark],
+    ) -> Result<(), NoMemory>
+        ensures { OnOk result ((gone come : List LeavesView) → IsChangeFor self.old gone come
+            → IsChangeFor self.new (leaves_at id.0 leaves.now marks.now ∷ gone) come) }
+    {
+        let places = places_of(alloc, leaves, marks)?;
+        self.keys.take_out(alloc, id, places.as_slice())?;
+        Ok(())
     }
-    Ok(())
+
+    /// A document comes, with these leaves and marks. After a refusal the change is of no use.
+    pub fn put_in(
+        &mut self,
+        alloc: Global,
+        id: DocId,
+        leaves: &[Leaf],
+        marks: &[Mark],
+    ) -> Result<(), NoMemory>
+        ensures { OnOk result ((gone come : List LeavesView) → IsChangeFor self.old gone come
+            → IsChangeFor self.new gone (leaves_at id.0 leaves.now marks.now ∷ come)) }
+    {
+        let places = places_of(alloc, leaves, marks)?;
+        self.keys.put_in(alloc, id, places.as_slice())?;
+        Ok(())
+    }
 }

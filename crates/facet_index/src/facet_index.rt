@@ -3,10 +3,9 @@ ghost use Rattle.postings.specs.Dictionary.{list_at, HasRooms, IsTight, none};
 ghost use Rattle.facet_index.specs.LeavesView.{LeavesView};
 ghost use Rattle.facet_index.specs.Documents.{has_value, has_mark, has_number_that, is_between, passes_at};
 ghost use Rattle.facet_index.specs.Places.{IsIndexOf};
-ghost use Rattle.facet_index.specs.Batches.{IsBatch, IsPreparedFor, after};
+ghost use Rattle.facet_index.specs.Batches.{IsBatch, IsChangeFor, IsPreparedFor, after};
 
-use crate::change::{PreparedFacets, change_of};
-use crate::documents::DocLeaves;
+use crate::change::{FacetChange, PreparedFacets};
 use crate::lists::documents_at;
 use crate::ranges::documents_between;
 use doc_sets::DocSet;
@@ -19,7 +18,7 @@ use std::marker::Model;
 /// For each facet the documents that have it.
 #[derive(Drop)]
 pub struct FacetIndex {
-    keys: Postings,
+    pub(crate) keys: Postings,
 }
 
 impl Model for FacetIndex {
@@ -92,24 +91,23 @@ impl FacetIndex {
         documents_between(alloc, &self.keys, &first, &last, universe)
     }
 
-    /// Takes all memory that a change needs: some documents go, as they stand, and others come. Each
-    /// answer stays as it was, whatever the result, and after a refusal no room is left behind.
+    /// Takes all memory that the change needs, in proportion to the change. Each answer stays as it
+    /// was, whatever the result, and after a refusal no room is left behind.
     pub fn prepare(
         &mut self,
         alloc: Global,
-        gone: &[DocLeaves],
-        come: &[DocLeaves],
+        change: FacetChange,
     ) -> Result<PreparedFacets, NoMemory>
         ensures lists { (key : List ℕ) → list_at key self.new ≡ list_at key self.old }
         ensures same { (documents : List LeavesView) → IsIndexOf self.old documents → IsIndexOf self.new documents }
-        ensures made { IfOk result (λ prepared. IsPreparedFor prepared gone.now come.now) }
+        ensures made { IfOk result (λ prepared. (gone come : List LeavesView) → IsChangeFor change gone come
+            → IsPreparedFor prepared gone come) }
         ensures room { IfOk result (λ prepared. HasRooms self.new.lists prepared.words) }
         ensures tight { IsTight none self.old.lists
             → MatchResult result (λ prepared. IsTight prepared.words self.new.lists)
             (λ _. IsTight none self.new.lists) }
     {
-        let change = change_of(alloc, gone, come)?;
-        let keys = self.keys.prepare(alloc, change)?;
+        let keys = self.keys.prepare(alloc, change.keys)?;
         Ok(PreparedFacets { keys })
     }
 

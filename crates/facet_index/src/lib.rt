@@ -1,19 +1,23 @@
-//! The facet index: which documents have a value, a number of a range, or a mark under a path.
+//! The facet index: which documents have a value, a number of a range, or a mark under a path, and in which order they
+//! are sorted by its values.
 //!
-//! It stands on posting lists whose words are the keys of facets, so it is changed as they are:
-//! whole documents go and come, `prepare` takes all memory and leaves every answer, and `commit`
-//! and `release` take none and cannot be refused. After any changes each answer is that of the
-//! leaves and marks of the documents as they stand, inside a universe of documents. The crate
-//! stands on `search_base`, `doc_sets`, `sorted_pages`, `postings` and `facet_keys`.
+//! It stands on posting lists whose words are the keys of facets, so it is changed as they are: whole documents go and
+//! come, `prepare` takes all memory and leaves every answer, and `commit` and `release` take none and cannot be refused.
+//! After any changes each answer is that of the leaves and marks of the documents as they stand, inside a universe of
+//! documents. A document stands once more at the key of its least value under each path, and at that of its greatest, so
+//! that the entry that comes next is one step in the keys; `sort_buckets` gives the documents of a universe by it. The
+//! crate stands on `search_base`, `doc_sets`, `bucket_sort`, `sort_rule`, `sorted_pages`, `postings` and `facet_keys`.
 #![tactic(auto)]
 
 mod change;
-mod documents;
+mod ends;
 mod facet_index;
 mod lists;
 mod places;
 mod ranges;
+mod rows;
+mod sorts;
 
-pub use change::PreparedFacets;
-pub use documents::DocLeaves;
+pub use change::{FacetChange, PreparedFacets};
 pub use facet_index::FacetIndex;
+pub use rows::{Indexed, SortRows, entries_are_in_rows, sort_buckets};

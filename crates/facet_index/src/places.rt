@@ -1,28 +1,33 @@
-ghost use Rattle.std.specs.Prelude.{◌≡◌, ◌++◌, map, IfOk, OnOk};
-ghost use Rattle.std.specs.List.{AllByRecursion};
-ghost use Rattle.facet_keys.specs.Keys.{leaf, mark, IsNarrow};
-ghost use Rattle.facet_index.specs.Places.{keyed, place_of, leaf_key, mark_key, IsNarrowDocument};
+ghost use Rattle.std.specs.Prelude.{◌≡◌, ℕ, ◌++◌, IfOk, OnOk};
+ghost use Rattle.facet_index.specs.LeavesView.{leaves_at};
+ghost use Rattle.facet_index.specs.Places.{keyed, place_of, places_of as places_in, leaf_facets, mark_facets, AreNarrow, IsNarrowDocument};
 
-use crate::documents::DocLeaves;
+use crate::ends::add_ends;
 use facet_keys::{mark_key, value_key};
 use search_base::{Leaf, Mark, NoMemory, PathId, Place, Word};
 use std::alloc::Global;
 
 // The places of a document's keys.
-pub(crate) fn places_of(alloc: Global, document: &DocLeaves) -> Result<Vec<Place>, NoMemory>
-    ensures places { IfOk result (λ places. places.items ≡ (keyed document.now).places) }
-    ensures narrow { OnOk result (IsNarrowDocument document.now) }
+pub(crate) fn places_of(
+    alloc: Global,
+    leaves: &[Leaf],
+    marks: &[Mark],
+) -> Result<Vec<Place>, NoMemory>
+    ensures places { IfOk result (λ places. (id : ℕ)
+        → places.items ≡ (keyed (leaves_at id leaves.now marks.now)).places) }
+    ensures narrow { OnOk result ((id : ℕ) → IsNarrowDocument (leaves_at id leaves.now marks.now)) }
 {
     let mut places = Vec::new(alloc);
-    add_leaves(alloc, &mut places, document.leaves.as_slice())?;
-    add_marks(alloc, &mut places, document.marks.as_slice())?;
+    add_leaves(alloc, &mut places, leaves)?;
+    add_marks(alloc, &mut places, marks)?;
+    add_ends(alloc, &mut places, leaves)?;
     Ok(places)
 }
 
 // Adds the places of the keys of some leaves.
 fn add_leaves(alloc: Global, places: &mut Vec<Place>, leaves: &[Leaf]) -> Result<(), NoMemory>
-    ensures places { OnOk result (places.new.items ≡ places.old.items ++ map (λ x. place_of (leaf_key x)) leaves.now) }
-    ensures narrow { OnOk result (AllByRecursion (λ x. IsNarrow x.path.0 (leaf x.value)) leaves.now) }
+    ensures places { OnOk result (places.new.items ≡ places.old.items ++ places_in (leaf_facets leaves.now)) }
+    ensures narrow { OnOk result (AreNarrow (leaf_facets leaves.now)) }
 {
     for leaf in leaves {
         let key = value_key(alloc, leaf.path, &leaf.value)?;
@@ -33,8 +38,8 @@ fn add_leaves(alloc: Global, places: &mut Vec<Place>, leaves: &[Leaf]) -> Result
 
 // Adds the places of the keys of some marks.
 fn add_marks(alloc: Global, places: &mut Vec<Place>, marks: &[Mark]) -> Result<(), NoMemory>
-    ensures places { OnOk result (places.new.items ≡ places.old.items ++ map (λ x. place_of (mark_key x)) marks.now) }
-    ensures narrow { OnOk result (AllByRecursion (λ x. IsNarrow x.path.0 (mark x.kind)) marks.now) }
+    ensures places { OnOk result (places.new.items ≡ places.old.items ++ places_in (mark_facets marks.now)) }
+    ensures narrow { OnOk result (AreNarrow (mark_facets marks.now)) }
 {
     for mark in marks {
         let key = mark_key(alloc, mark.path, mark.kind)?;
@@ -43,8 +48,8 @@ fn add_marks(alloc: Global, places: &mut Vec<Place>, marks: &[Mark]) -> Result<(
     Ok(())
 }
 
-// The place of a key.
-fn place_of(key: Word) -> Place
+/// The place of a key.
+pub(crate) fn place_of(key: Word) -> Place
     ensures { result ≡ place_of key }
 {
     Place {

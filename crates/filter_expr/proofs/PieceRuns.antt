@@ -18,9 +18,6 @@ pub one_step : (o : Option Machine) (m : Machine) → then (run []) o ≡ Some m
 one_step None m e = e
 one_step (Some n) m e = e
 
-pub is_taken : (o : Option Machine) (m : Machine) → o ≡ Some m → is_some o ≡ true
-is_taken o m e = ap is_some e
-
 pub letter_is : (b : ℕ) → is_letter b ≡ true → class_of b ≡ letter
 letter_is b h = by_class (class_of b) refl h
   where

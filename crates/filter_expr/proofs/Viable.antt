@@ -161,14 +161,6 @@ closing_cut [] = tt
 closing_cut (under_not ∷ o) = closing_cut o
 closing_cut (bracket os ns ∷ o) = (refl, tt, closing_cut o)
 
-blank_cut : (ps : List Piece) → AreCut ps [] → AreCut (blank 32 ∷ ps) []
-unfolding class_of
-blank_cut ps h = (refl, tt, h)
-
-word_cut : (w : List ℕ) (ps : List Piece) → is_word w ≡ true → AreCut ps [] → AreCut (word w ∷ blank 32 ∷ ps) []
-unfolding class_of
-word_cut w ps e h = (e, refl, (refl, tt, h))
-
 finishing_cut : (s : State) (ps : List Piece) → AreCut ps [] → AreCut (finishing s ++ ps) []
 unfolding class_of
 finishing_cut start ps h = (refl, tt, (refl, refl, (refl, tt, (refl, refl, (refl, tt, h)))))

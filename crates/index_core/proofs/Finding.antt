@@ -173,12 +173,6 @@ part-read st s kept ids offset limit h is =
     ∙ reads-all s.rows (take limit (drop offset s.rows)) (rows-take (IsThere s.rows) limit (drop offset s.rows) (rows-drop (IsThere s.rows) offset s.rows (rows-there s h.sound)))
     ∙ sym (ap (take limit) (drop-map (λ r. r.document) offset s.rows) ∙ take-map (λ r. r.document) limit (drop offset s.rows))
 
-same-lengths : {A B : Type 0} (f : A → ℕ) (g : B → ℕ) (xs : List A) (ys : List B) → map f xs ≡ map g ys → length xs ≡ length ys
-same-lengths f g [] [] e = refl
-same-lengths f g [] (y ∷ ys) e = absurd (cc)
-same-lengths f g (x ∷ xs) [] e = absurd (cc)
-same-lengths f g (x ∷ xs) (y ∷ ys) e = let rest : map f xs ≡ map g ys = cc in ap suc (same-lengths f g xs ys rest)
-
 -- ---- hits are documents that are there
 
 -- a document that matches, as a search collects it
@@ -328,6 +322,3 @@ finds index call passing graph rules slots start end bound total ranked facets h
 
 pub kept-of : (st : SettingsView) (s : Store) (kept : List KeptRows) → AreKept kept st s → AreOf kept s
 kept-of st s kept h = ap (map (λ (k : KeptRows). k.id.0)) h.same ∙ kept-ids st s s.rows
-
-pub length-kept : (s : Store) (kept : List KeptRows) → AreOf kept s → length kept ≡ length s.rows
-length-kept s kept of = same-lengths (λ k. k.id.0) (λ r. r.id) kept s.rows of

@@ -83,20 +83,6 @@ pub keyed-tried : {A E : Type 0} (r : Result A E) (key : Option (List ℕ)) (wor
 keyed-tried (Ok x) key work s now done stays h w back = keyed-after key work s now h w back done
 keyed-tried (Err e) key work s now done stays h w back = subst (λ (t : Store). IsKeyed key t.rows) (sym stays) h
 
--- ---- another key
-
-abbrev no_rows : List Row
-no_rows = []
-
-none-at-all : (key : Option (List ℕ)) → NoneWithout key no_rows
-none-at-all None = refl
-none-at-all (Some key) = tt
-
--- the key of a plan takes the place of none, and then there are no documents
-pub keyed-anew : (old key : Option (List ℕ)) (rows : List Row) → IsKeyed old rows → Keeps old key → IsPrimaryKey key → IsKeyed key rows
-keyed-anew (Some own) key rows h keeps given = subst (λ k. IsKeyed k rows) (sym keeps) h
-keyed-anew None key rows h keeps given = subst (IsKeyed key) (sym h.none) (record { given = given; none = none-at-all key; ids = tt })
-
 -- ---- plans
 
 long-name : (ms : Members) (name : List ℕ) → only (candidates ms) ≡ Ok name → AllByRecursion (λ n. 0 < length n) (candidates ms) → 0 < length name

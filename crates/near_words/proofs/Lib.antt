@@ -5,3 +5,4 @@ pub mod CostLemmas
 pub mod StandLemmas
 pub mod CursorLemmas
 pub mod InsideLemmas
+pub mod NarrowLemmas

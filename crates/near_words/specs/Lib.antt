@@ -3,3 +3,4 @@ pub mod EntryCost
 pub mod ByCost
 pub mod Inside
 pub mod Cursors
+pub mod Narrowed

@@ -8,12 +8,14 @@ ghost use Rattle.postings.specs.Dictionary.{list_at};
 ghost use Rattle.postings.specs.Fresh.{StandsFor};
 ghost use Rattle.near_words.specs.ByCost.{ids_by_cost};
 ghost use Rattle.near_words.specs.Inside.{inside, stands_by};
+ghost use Rattle.near_words.specs.Narrowed.{AreNarrowed};
 
 use crate::costs::documents_by_cost;
 use crate::cursor::Cursor;
 use doc_sets::DocSet;
+use posting_sets::documents;
 use postings::Postings;
-use search_base::{NoMemory, Word};
+use search_base::{NoMemory, Term, Word};
 use sorted_pages::SortedPages;
 use std::alloc::Global;
 
@@ -93,12 +95,8 @@ fn list_with_prefix(
     Ok(list)
 }
 
-/// The documents of the universe by the pair cost of two words, where the postings are those of some documents: a set
-/// for each cost from 0 to 6, in this order. A document in which the words do not stand near each other is in none.
-///
-/// With `prefix` the right word stands for each word that begins with it; the places of these inside the universe are
-/// collected and sorted first. An error is want of memory, which is in proportion to the universe and to those places.
-pub fn documents_by_pair_cost(
+// The documents of the universe by the pair cost of two words. Each document of the universe is gone over.
+fn costs_of(
     alloc: Global,
     universe: &DocSet,
     postings: &Postings,
@@ -119,4 +117,67 @@ pub fn documents_by_pair_cost(
         let rights = list_of(postings, right, &none);
         documents_by_cost(alloc, universe, lefts, rights)
     }
+}
+
+// How many places the word has.
+fn place_count(postings: &Postings, word: &Word) -> u64 {
+    match postings.list(word) {
+        Some(list) => list.len() as u64,
+        None => 0,
+    }
+}
+
+// The same word, which shares its text.
+fn copy_word(word: &Word) -> Result<Word, NoMemory>
+    ensures { IfOk result (λ copy. copy ≡ word.now) }
+{
+    Ok(word.clone()?)
+}
+
+// The documents of the universe in which the word stands, where it has fewer places than the universe has documents,
+// and else the whole universe.
+fn narrowed(
+    alloc: Global,
+    universe: &DocSet,
+    postings: &Postings,
+    word: &Word,
+) -> Result<DocSet, NoMemory>
+    ensures { IfOk result (λ set. AreNarrowed postings.now word.now universe.now.ids set.ids) }
+{
+    if universe.len() <= place_count(postings, word) {
+        let all = universe.clone()?;
+        return Ok(all);
+    }
+    let copy = copy_word(word)?;
+    let term = Term {
+        words: Vec::from_array(alloc, [copy])?,
+        prefix: false,
+    };
+    documents(alloc, postings, &term, universe)
+}
+
+/// The documents of the universe by the pair cost of two words, where the postings are those of some documents: a set
+/// for each cost from 0 to 6, in this order. A document in which the words do not stand near each other is in none.
+///
+/// Where a word has fewer places than the universe has documents, only its documents are gone over. With `prefix` the
+/// right word stands for each word that begins with it; the places of these inside the universe are collected and sorted
+/// first. An error is want of memory, which is in proportion to the universe and to those places.
+pub fn documents_by_pair_cost(
+    alloc: Global,
+    universe: &DocSet,
+    postings: &Postings,
+    left: &Word,
+    prefix: bool,
+    right: &Word,
+) -> Result<Vec<DocSet>, NoMemory>
+    ensures { IfOk result (λ sets. (documents : List Document) → StandsFor postings.now documents
+        → map (λ set. set.ids) sets.items
+        ≡ ids_by_cost (λ id. asked_cost (places_of id documents) left.now prefix right.now) universe.now.ids) }
+{
+    let near = narrowed(alloc, universe, postings, left)?;
+    if prefix {
+        return costs_of(alloc, &near, postings, left, prefix, right);
+    }
+    let nearer = narrowed(alloc, &near, postings, right)?;
+    costs_of(alloc, &nearer, postings, left, prefix, right)
 }

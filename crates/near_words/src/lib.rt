@@ -4,7 +4,8 @@
 //! a distance backwards is one more. `pair_cost` finds it from the entries of one document's places, and goes over both
 //! lists once. `documents_by_pair_cost` finds the documents of a universe by it: each list is read by a cursor that
 //! only moves on, and is searched by halving where the next document is far. Contracts say the cost by its definition
-//! over the places of documents. The crate stands on `search_base`, `doc_sets`, `sorted_pages` and `postings`.
+//! over the places of documents. The crate stands on `search_base`, `doc_sets`, `sorted_pages`, `postings` and
+//! `posting_sets`.
 #![tactic(auto)]
 
 mod asked;

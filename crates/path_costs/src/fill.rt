@@ -58,6 +58,7 @@ fn edge_at(links: &Links, _node: u64, at: usize) -> &ConditionEdge
     &links.edges[at]
 }
 
+// The edge at an index.
 fn condition_at(links: &Links, at: usize) -> &ConditionEdge
     requires { at < length links.now.edges.items }
     ensures { slice_get links.now.edges.items at ≡ Some result.now }
@@ -74,6 +75,7 @@ fn resolve<R: Resolve>(
     met: &mut Vec<Option<DocSet>>,
     edge: usize,
 ) -> Result<(), NoMemory>
+    requires links { IsLinks links.now }
     requires edge { edge < length links.now.edges.items }
     requires len { length met.old.items ≡ length links.now.edges.items }
     requires right { AreMet (R.meets source.old) links.now.edges.items universe.now.ids met.old.items }
@@ -126,6 +128,7 @@ fn add_met<R: Resolve>(
     rest: &DocSet,
     docs: DocSet,
 ) -> Result<DocSet, NoMemory>
+    requires links { IsLinks links.now }
     requires edge { edge < length links.now.edges.items }
     requires len { length met.old.items ≡ length links.now.edges.items }
     requires right { AreMet (R.meets source.old) links.now.edges.items universe.now.ids met.old.items }

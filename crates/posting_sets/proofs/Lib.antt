@@ -10,3 +10,4 @@ pub mod NumberLemmas
 pub mod LeastLemmas
 pub mod ByNumberLemmas
 pub mod BlockLemmas
+pub mod BeginningLemmas

@@ -1,5 +1,5 @@
 -- Documents by number, while they are gathered.
-use Rattle.std.specs.Prelude.{◌≡◌, ℕ, nat_eq, ◌<◌, Bool, not, ◌==◌, ◌&&◌, Option, Some, ⊤}
+use Rattle.std.specs.Prelude.{◌≡◌, ℕ, nat_eq, ◌<◌, Bool, not, ◌==◌, ◌&&◌, Option, None, Some, if◌then◌else◌, ⊤}
 use Rattle.std.specs.Prelude.{List, [], ◌∷◌, ◌++◌, take, get_or}
 use Rattle.std.specs.Option.{option_eq}
 use Rattle.std.specs.List.{list_any}
@@ -13,7 +13,7 @@ use Rattle.postings.specs.Documents.{Document, places_of}
 use Rattle.postings.specs.Dictionary.{PostingsView}
 use Rattle.postings.specs.Fresh.{StandsFor}
 use Rattle.posting_sets.specs.declared.number.Number.{Number}
-use Rattle.posting_sets.specs.declared.number.Number.TheVariants.{Rank, Bucket}
+use Rattle.posting_sets.specs.declared.number.Number.TheVariants.{Rank, Bucket, Beginning}
 use Rattle.posting_sets.specs.Entries.{document_of, path_of, position_of}
 use Rattle.posting_sets.specs.Numbers.{rank_at, set_at, NumbersIncrease, NoneEmpty}
 
@@ -21,6 +21,7 @@ use Rattle.posting_sets.specs.Numbers.{rank_at, set_at, NumbersIncrease, NoneEmp
 abbrev pub number_at : Number → ℕ → ℕ → Option ℕ
 number_at (Rank ranks) path position = rank_at ranks.now path
 number_at Bucket path position = Some (bucket_of position)
+number_at Beginning path position = if position == 0 then Some path else None
 
 -- the number of a place
 abbrev pub place_number : Number → Place → Option ℕ

@@ -1,14 +1,15 @@
-ghost use Rattle.std.specs.Prelude.{◌≡◌, ◌<◌, ◌≤◌, ◌^◌, true, false, [], ◌∷◌, length, Some, Option, IfOk};
+ghost use Rattle.std.specs.Prelude.{◌≡◌, ◌<◌, ◌≤◌, ◌^◌, true, false, [], ◌∷◌, map, length, Some, Option, IfOk};
 ghost use Rattle.doc_sets.specs.Sets.{IsIncreasing};
 ghost use Rattle.search_base.specs.Bucket.{bucket_of};
 ghost use Rattle.search_base.specs.Graphs.{IsTerm};
 ghost use Rattle.posting_sets.specs.Found.{term_of};
 ghost use Rattle.posting_sets.specs.Numbers.{rank_at, AreNumbered};
 ghost use Rattle.posting_sets.specs.Gathered.{place_number, AreOfNumbers};
+ghost use Rattle.posting_sets.specs.Beginnings.{AreBeginning};
 
 use crate::lists::lists_of;
 use crate::number::Number;
-use crate::numbered::{add_numbered, least_sets};
+use crate::numbered::{add_numbered, finished, least_sets};
 use crate::occurrences::Occurrences;
 use doc_sets::{DocSet, DocSetBuilder};
 use postings::Postings;
@@ -126,4 +127,24 @@ pub fn documents_by_bucket(
         universe.now.ids rows.items) }
 {
     documents_by(alloc, postings, term, Number::Bucket, universe)
+}
+
+/// For each path the documents of the universe in which it begins with these words: they stand at its positions 0, 1 and
+/// so on. There is a word at least. The set of a path is at its number, and behind the last set no document begins so.
+/// It goes over the list of the rarest word, as far as this is in the universe. Where there is no memory, nothing has
+/// changed.
+pub fn documents_by_beginning(
+    alloc: Global,
+    postings: &Postings,
+    words: &[Word],
+    universe: &DocSet,
+) -> Result<Vec<DocSet>, NoMemory>
+    requires { 0 < length words.now }
+    ensures sets { IfOk result (λ sets. AreBeginning postings.now words.now universe.now.ids
+        (map (λ set. set.ids) sets.items)) }
+    ensures few { IfOk result (λ sets. length sets.items ≤ 2 ^ 16) }
+{
+    let _documents = universe.len();
+    let sets = numbers_of_words(alloc, postings, words, Number::Beginning, universe)?;
+    finished(alloc, sets)
 }

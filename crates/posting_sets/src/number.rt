@@ -12,14 +12,24 @@ pub(crate) enum Number<'a> {
     Rank(&'a [Option<u16>]),
     // The bucket of its position.
     Bucket,
+    // Its path, where it is the beginning of that.
+    Beginning,
 }
 
-// The number of an entry. A path without a rank has none.
+// The number of an entry. A path without a rank has none, nor has a place behind the beginning of its path where these
+// are asked for.
 pub(crate) fn number_of(number: Number<'_>, entry: u64) -> Option<u16>
     ensures { result ≡ number_at number.entry (path_of entry) (position_of entry) }
 {
     match number {
         Number::Rank(ranks) => ranks.get(usize::from(path_of(entry))).copied().flatten(),
         Number::Bucket => Some(u16::from(bucket(position_of(entry)))),
+        Number::Beginning => {
+            if position_of(entry) == 0 {
+                Some(path_of(entry))
+            } else {
+                None
+            }
+        }
     }
 }

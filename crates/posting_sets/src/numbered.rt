@@ -1,5 +1,5 @@
-ghost use Rattle.std.specs.Prelude.{◌≡◌, ℕ, ◌≤◌, ◌^◌, ◌==◌, ◌&&◌, ◌||◌, length, IfOk, OnOk};
-ghost use Rattle.std.specs.List.{list_any};
+ghost use Rattle.std.specs.Prelude.{◌≡◌, ℕ, ◌≤◌, ◌^◌, ◌==◌, ◌&&◌, ◌||◌, map, length, IfOk, OnOk};
+ghost use Rattle.std.specs.List.{list_any, AllByRecursion};
 ghost use Rattle.doc_sets.specs.Sets.{has, IsIncreasing, difference};
 ghost use Rattle.posting_sets.specs.Gathered.{is_numbered, ids_at, AreLeast, AddsRow};
 
@@ -84,4 +84,18 @@ pub(crate) fn least_sets(
         number += 1;
     }
     Ok(rows)
+}
+
+// The same sets, as sets of documents.
+pub(crate) fn finished(alloc: Global, sets: Vec<DocSetBuilder>) -> Result<Vec<DocSet>, NoMemory>
+    ensures same { IfOk result (λ made. map (λ set. set.ids) made.items ≡ sets.items) }
+    ensures increasing { IfOk result (λ made. AllByRecursion (λ set. IsIncreasing set.ids) made.items) }
+{
+    let mut made = Vec::new(alloc);
+    for builder in sets {
+        let set = builder.finish(alloc)?;
+        let _documents = set.len();
+        made.push(set)?;
+    }
+    Ok(made)
 }

@@ -20,7 +20,7 @@ use Rattle.postings.proofs.WordLemmas.{same_word}
 use Rattle.postings.proofs.PrefixLemmas.{shown, row_other, row_here, none_equal}
 
 -- each list that is not empty is shown at its word
-shown_value : (w : List ℕ) (lists : List (List ℕ × PagesView)) → IsStrictlySortedBy word_cmp (keys_of lists)
+pub shown_value : (w : List ℕ) (lists : List (List ℕ × PagesView)) → IsStrictlySortedBy word_cmp (keys_of lists)
     → value_at w (shown_rows lists) ≡ shown (value_at w lists)
 shown_value w [] sorted = refl
 shown_value w (r ∷ rs) sorted =
@@ -42,7 +42,7 @@ all_shown word (r ∷ rs) above = by r.1.entries (all_shown word rs above.1)
     by [] later = later
     by (x ∷ xs) later = (above.0, later)
 
-shown_sorted : (lists : List (List ℕ × PagesView)) → IsStrictlySortedBy word_cmp (keys_of lists)
+pub shown_sorted : (lists : List (List ℕ × PagesView)) → IsStrictlySortedBy word_cmp (keys_of lists)
     → IsStrictlySortedBy word_cmp (keys_of (shown_rows lists))
 unfolding IsStrictlySortedBy
 shown_sorted [] sorted = tt
@@ -54,7 +54,7 @@ shown_sorted (r ∷ rs) sorted = by r.1.entries (all_shown r.0 rs sorted.0) (sho
     by [] above later = later
     by (x ∷ xs) above later = (above, later)
 
-keys_filter : (p : List ℕ → Bool) (lists : List (List ℕ × PagesView)) → filter p (keys_of lists) ≡ keys_of (filter (λ e. p e.0) lists)
+pub keys_filter : (p : List ℕ → Bool) (lists : List (List ℕ × PagesView)) → filter p (keys_of lists) ≡ keys_of (filter (λ e. p e.0) lists)
 keys_filter p [] = refl
 keys_filter p (r ∷ rs) = by (p r.0) (keys_filter p rs)
   where

@@ -5,3 +5,4 @@ pub mod FreshLemmas
 pub mod PrefixLemmas
 pub mod TightLemmas
 pub mod FromLemmas
+pub mod BackLemmas

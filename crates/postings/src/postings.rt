@@ -1,4 +1,4 @@
-ghost use Rattle.std.specs.Prelude.{◌≡◌, ℕ, List, [], not, ◌&&◌, ◌||◌, IfOk, MatchResult, None, nat_eq, if◌then◌else◌};
+ghost use Rattle.std.specs.Prelude.{◌≡◌, ℕ, List, [], not, ◌&&◌, ◌||◌, IfOk, IfSome, IfNone, MatchResult, None, nat_eq, if◌then◌else◌};
 ghost use Rattle.std.specs.List.{starts_with};
 ghost use Rattle.std.specs.List.Sorted.{IsStrictlySortedBy};
 ghost use Rattle.std.specs.Map.{keys_of};
@@ -12,12 +12,13 @@ ghost use Rattle.postings.specs.Changes.{named, IsChangeOf, IsPreparedOf};
 ghost use Rattle.postings.specs.declared.change.Side.TheVariants.{Goes, Comes};
 ghost use Rattle.postings.specs.Fresh.{StandsFor};
 ghost use Rattle.postings.specs.Prefixes.{rows_left};
+ghost use Rattle.postings.specs.Words.{IsLast, HasNone};
 
 use crate::change::{Change, Prepared};
 use crate::dictionary::{Lists, change_words, drop_all_spent, reserve_words};
 use crate::prefix::PrefixLists;
 use crate::settled::settle;
-use crate::words::WordLists;
+use crate::words::{WordLists, last_shown};
 use search_base::{NoMemory, Word};
 use sorted_pages::SortedPages;
 use std::alloc::Global;
@@ -89,6 +90,18 @@ impl Postings {
         WordLists {
             lists: self.lists.range((low, Bound::Unbounded)),
         }
+    }
+
+    /// The last word up to a bound that has a place, with the list of its places. Takes no memory, and looks at no
+    /// word that has a place after the bound or before that word.
+    pub fn last_up_to<'a>(&'a self, high: Bound<&'a Word>) -> Option<(&'a Word, &'a SortedPages)>
+        ensures some { IfSome result (λ row.
+            IsLast (bound_map (λ w. w.now) high.entry) self.now row.0.now row.1.now.entries) }
+        ensures none { IfNone result (HasNone (bound_map (λ w. w.now) high.entry) self.now) }
+    {
+        let _words = self.lists.len();
+        let mut lists = self.lists.range((Bound::Unbounded, high));
+        last_shown(&mut lists)
     }
 
     /// Takes all memory that the change needs, in proportion to the change. Each list stays as it

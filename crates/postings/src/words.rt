@@ -1,5 +1,5 @@
 ghost use Rattle.std.specs.Iterator.{YieldsFirstBy, item_count};
-ghost use Rattle.std.specs.Prelude.{◌≡◌, [], ◌∷◌, IfSome, IfNone};
+ghost use Rattle.std.specs.Prelude.{◌≡◌, [], ◌∷◌, ◌++◌, IfSome, IfNone};
 ghost use Rattle.postings.specs.Words.{shown_rows};
 
 use search_base::Word;
@@ -41,6 +41,22 @@ fn next_shown<'a>(lists: &mut Range<'a, Word, SortedPages>) -> Option<(&'a Word,
     ensures none { IfNone result ((shown_rows lists.old ≡ []) × (shown_rows lists.new ≡ [])) }
 {
     while let Some((word, list)) = lists.next() {
+        if !list.is_empty() {
+            return Some((word, list));
+        }
+    }
+    None
+}
+
+/// The last word of the dictionary that has a place. Those with an empty list are passed over.
+pub(crate) fn last_shown<'a>(
+    lists: &mut Range<'a, Word, SortedPages>,
+) -> Option<(&'a Word, &'a SortedPages)>
+    ensures some { IfSome result (λ row. shown_rows lists.old
+        ≡ shown_rows lists.new ++ (row.0.now, row.1.now.entries) ∷ []) }
+    ensures none { IfNone result (shown_rows lists.old ≡ []) }
+{
+    while let Some((word, list)) = lists.next_back() {
         if !list.is_empty() {
             return Some((word, list));
         }

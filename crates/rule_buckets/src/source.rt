@@ -5,6 +5,7 @@ ghost use Rattle.search_base.specs.RowsView.{RowsView};
 ghost use Rattle.search_base.specs.Whole.{whole_cost};
 ghost use Rattle.search_base.specs.declared.cost_key.CostKey.{CostKey as Key};
 ghost use Rattle.condition_graph.specs.Meets.{meets, IsRanked};
+ghost use Rattle.condition_graph.specs.Promise.{IsCondition};
 ghost use Rattle.sort_rule.specs.Rows.{AreRows, next_of, is_under};
 ghost use Rattle.rule_buckets.specs.Entries.{sort_entry, missing_entry};
 
@@ -29,13 +30,14 @@ pub trait RuleSource {
     fn ranks(&self) -> u16
         ensures { result ≡ bound self.now };
 
-    /// The documents of the universe that meet a condition.
+    /// The documents of the universe that meet a condition, which is one of a condition graph's.
     fn meeting(
         &self,
         alloc: Global,
         condition: &Condition,
         universe: &DocSet,
     ) -> Result<DocSet, NoMemory>
+        requires { IsCondition condition.now }
         ensures { IfOk result (λ set.
             set.ids ≡ filter (λ d. meets (rows self.now d).places condition.now) universe.now.ids) };
 

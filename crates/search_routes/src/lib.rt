@@ -18,8 +18,6 @@ mod machine;
 mod performing;
 mod reads;
 mod redoing;
-#[cfg(test)]
-mod tests;
 
 pub use asking::{Asked, ask};
 pub use laws::{none_answers_503, what_is_accepted_is_counted};

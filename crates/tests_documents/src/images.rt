@@ -1,79 +1,59 @@
 mod images;
 
-use change_payloads::ImageFault;
+use crate::checks::{check, check_text};
+use crate::hex::{bytes_of, fault_text};
 use index_image::{ImageRows, decode, encode};
-use std::alloc::{AllocError, Global};
-use std::test::Fail;
-
-fn bytes_of(alloc: Global, hex: &str) -> Result<Vec<u8>, AllocError> {
-    let mut bytes = Vec::new(alloc);
-    let mut high = None;
-    for digit in hex.as_bytes() {
-        let value = match *digit {
-            b'0'..=b'9' => digit.wrapping_sub(b'0'),
-            _ => digit.wrapping_sub(b'a').wrapping_add(10),
-        };
-        match high {
-            None => high = Some(value),
-            Some(sixteens) => {
-                let sixteens: u8 = sixteens;
-                bytes.push(sixteens.wrapping_mul(16).wrapping_add(value))?;
-                high = None;
-            }
-        }
-    }
-    Ok(bytes)
-}
-
-fn fault_line(alloc: Global, fault: ImageFault) -> Result<String, AllocError> {
-    match fault {
-        ImageFault::NoMemory => "no memory".to_string(alloc),
-        ImageFault::Damaged { place, found } => match found {
-            None => format!(in alloc; "damaged {place} end"),
-            Some(byte) => format!(in alloc; "damaged {place} {byte}"),
-        },
-    }
-}
+use std::alloc::Global;
+use std::process::Abort;
 
 // What decoding an image gives: whole, where the state has these bytes again.
-fn state_line(alloc: Global, bytes: &[u8]) -> Result<String, Fail> {
+fn state_text(rt: &impl Abort, alloc: Global, bytes: &[u8]) -> String {
     match decode(alloc, bytes) {
-        Ok(rows) => {
-            let again = encode(alloc, &rows)?;
-            let line = if again.as_slice() == bytes {
-                "whole"
-            } else {
-                "another"
-            };
-            Ok(line.to_string(alloc)?)
-        }
-        Err(fault) => Ok(fault_line(alloc, fault)?),
+        Ok(rows) => again_text(rt, alloc, &rows, bytes),
+        Err(fault) => fault_text(rt, alloc, fault),
+    }
+}
+
+fn again_text(rt: &impl Abort, alloc: Global, rows: &ImageRows, bytes: &[u8]) -> String {
+    let again = encode(alloc, rows).expect(rt, "memory");
+    let text = if again.as_slice() == bytes {
+        "whole"
+    } else {
+        "another"
+    };
+    String::from_str(alloc, text).expect(rt, "memory")
+}
+
+fn check_state(rt: &impl Abort, alloc: Global, bytes: &[u8], wanted: &str, row: &str) {
+    let found = state_text(rt, alloc, bytes);
+    check_text(rt, &found, wanted, row);
+}
+
+// Each row is an image in hexadecimal, and what decoding it gives.
+fn check_table(rt: &impl Abort, alloc: Global, table: &str) {
+    for row in table.lines() {
+        let (hex, wanted) = row.split_once(',').unwrap_or((row, ""));
+        let bytes = bytes_of(rt, alloc, hex);
+        check_state(rt, alloc, &bytes, wanted, row);
     }
 }
 
 #[test]
-fn images_as_the_other_machine_says(rt: HostRuntime) -> Result<(), Fail> {
-    let alloc = rt.alloc();
-    for line in images::TABLE.lines() {
-        let mut parts = line.split(',');
-        let bytes = bytes_of(alloc, parts.next().unwrap_or(""))?;
-        let found = state_line(alloc, &bytes)?;
-        assert_eq!(rt; found.as_str(), parts.next().unwrap_or(""), "{line}");
-    }
-    Ok(())
+fn images_as_the_other_machine_says(rt: HostRuntime) {
+    check_table(&rt, rt.alloc(), images::TABLE);
 }
 
+const EMPTY_IMAGE: &[u8] = b"\x01\0\0\0\0\0\0\0\0\0\0\0\0";
+
 #[test]
-fn the_empty_state_takes_thirteen_bytes(rt: HostRuntime) -> Result<(), Fail> {
+fn the_empty_state_takes_thirteen_bytes(rt: HostRuntime) {
     let alloc = rt.alloc();
     let rows = ImageRows {
         changes: 0,
         indexes: Vec::new(alloc),
     };
-    let bytes = encode(alloc, &rows)?;
-    let expected = b"\x01\0\0\0\0\0\0\0\0\0\0\0\0".as_slice();
-    assert_eq!(rt; bytes.as_slice(), expected);
-    assert_eq!(rt; state_line(alloc, &bytes)?.as_str(), "whole");
-    assert_eq!(rt; state_line(alloc, b"\x03")?.as_str(), "damaged 0 3");
-    Ok(())
+    let bytes = encode(alloc, &rows).expect(&rt, "memory");
+    check(&rt, bytes.as_slice() == EMPTY_IMAGE, "thirteen bytes");
+    check_state(&rt, alloc, &bytes, "whole", "the empty state");
+    check_state(&rt, alloc, b"\x03", "damaged 0 3", "3");
 }

@@ -5,6 +5,10 @@
 #![tactic(auto)]
 
 #[cfg(test)]
+mod checks;
+#[cfg(test)]
+mod hex;
+#[cfg(test)]
 mod images;
 #[cfg(test)]
 mod packed;

@@ -1,10 +1,8 @@
+use crate::checks::{add, check, check_text, document_of, word};
 use doc_rows::{PathUse, rows};
-use doc_values::Document;
-use search_base::{DocRows, FacetValue, Word};
-use serde_json::Value;
+use search_base::{DocRows, FacetValue, Leaf, Place, Word};
 use std::alloc::Global;
 use std::process::Abort;
-use std::test::Fail;
 
 // A document, the registry with the rank of each path and `f` where it is faceted, and the rows: words as
 // `path rank position word`, leaves as `path=number` or `path~normal form` and the spelling, marks as `path kind`.
@@ -20,75 +18,106 @@ const DOCUMENTS: &str = r#"{"a":[{"b":"x y"},{"b":"z"}]}|a:0 a.b:1|1 1 0 x;1 1 1
 {"a":[{"b":null},{"b":""},{"b":null}]}|a:0:f a.b:1:f|1~ ;0 Exists;1 Exists;1 Null;1 Empty;
 {"c":{},"d":[null]}|c:2:f d:-:f|0 Exists;0 Empty;1 Exists;"#;
 
-fn found(rt: &impl Abort, alloc: Global, document: &str, registry: &str) -> Result<DocRows, Fail> {
-    let value = Value::from_str(alloc, document).expect(rt, "JSON");
-    let document = Document::from_json(alloc, value).expect(rt, "a document");
+// The paths of a registry.
+fn paths(rt: &impl Abort, alloc: Global, registry: &str) -> Vec<Word> {
     let mut paths = Vec::new(alloc);
+    for entry in registry.split(' ') {
+        let (path, _) = entry.split_once(':').unwrap_or((entry, ""));
+        paths.push(word(rt, alloc, path)).expect(rt, "memory");
+    }
+    paths
+}
+
+// The rank of each path of a registry, and whether it is faceted.
+fn uses(rt: &impl Abort, alloc: Global, registry: &str) -> Vec<PathUse> {
     let mut uses = Vec::new(alloc);
-    for path in registry.split(' ') {
-        let mut parts = path.split(':');
-        paths.push(Word::new(alloc, parts.next().unwrap_or(""))?)?;
+    for entry in registry.split(' ') {
+        let mut parts = entry.split(':').skip(1);
         let rank = parts.next().unwrap_or("").parse::<u16>().ok();
         let faceted = parts.next() == Some("f");
-        uses.push(PathUse { rank, faceted })?;
+        uses.push(PathUse { rank, faceted }).expect(rt, "memory");
     }
+    uses
+}
+
+fn found(rt: &impl Abort, alloc: Global, document: &str, registry: &str) -> DocRows {
+    let document = document_of(rt, alloc, document);
+    let paths = paths(rt, alloc, registry);
+    let uses = uses(rt, alloc, registry);
     let (paths, uses) = (paths.as_slice(), uses.as_slice());
     assert!(rt; paths.len() <= 1000 && uses.len() == paths.len());
-    Ok(rows(alloc, &document, paths, uses)?)
+    rows(alloc, &document, paths, uses).expect(rt, "memory")
 }
 
-fn told(alloc: Global, rows: &DocRows) -> Result<String, Fail> {
-    let mut told = String::new(alloc);
+fn tell_place(rt: &impl Abort, place: &Place, text: &mut String) {
+    let (path, rank, position) = (place.path.0, place.rank, place.position);
+    let word = place.word.as_str();
+    write!(text, "{path} {rank} {position} {word};").expect(rt, "memory");
+}
+
+fn tell_leaf(rt: &impl Abort, leaf: &Leaf, text: &mut String) {
+    let (path, shown) = (leaf.path.0, leaf.shown.as_str());
+    match &leaf.value {
+        FacetValue::Number(number) => {
+            write!(text, "{path}={number} {shown};").expect(rt, "memory");
+        }
+        FacetValue::Text(form) => {
+            write!(text, "{path}~{} {shown};", form.as_str()).expect(rt, "memory");
+        }
+    }
+}
+
+fn told(rt: &impl Abort, alloc: Global, rows: &DocRows) -> String {
+    let mut text = String::new(alloc);
     for place in &rows.places {
-        let word = place.word.as_str();
-        let (path, rank, position) = (place.path.0, place.rank, place.position);
-        let line = format!(in alloc; "{path} {rank} {position} {word};")?;
-        told.push_str(line.as_str())?;
+        tell_place(rt, place, &mut text);
     }
     for leaf in &rows.leaves {
-        let (path, shown) = (leaf.path.0, leaf.shown.as_str());
-        let line = match &leaf.value {
-            FacetValue::Number(number) => format!(in alloc; "{path}={number} {shown};")?,
-            FacetValue::Text(text) => {
-                let text = text.as_str();
-                format!(in alloc; "{path}~{text} {shown};")?
-            }
-        };
-        told.push_str(line.as_str())?;
+        tell_leaf(rt, leaf, &mut text);
     }
     for mark in &rows.marks {
-        let (path, kind) = (mark.path.0, mark.kind);
-        let line = format!(in alloc; "{path} {kind:?};")?;
-        told.push_str(line.as_str())?;
+        write!(text, "{} {:?};", mark.path.0, mark.kind).expect(rt, "memory");
     }
-    Ok(told)
+    text
+}
+
+fn check_row(rt: &impl Abort, alloc: Global, row: &str) {
+    let mut parts = row.split('|');
+    let document = parts.next().unwrap_or("");
+    let registry = parts.next().unwrap_or("");
+    let rows = found(rt, alloc, document, registry);
+    let text = told(rt, alloc, &rows);
+    check_text(rt, &text, parts.next().unwrap_or(""), document);
+}
+
+fn check_table(rt: &impl Abort, alloc: Global, table: &str) {
+    for row in table.lines() {
+        check_row(rt, alloc, row);
+    }
 }
 
 #[test]
-fn documents_have_these_rows(rt: HostRuntime) -> Result<(), Fail> {
-    for row in DOCUMENTS.lines() {
-        let mut parts = row.split('|');
-        let document = parts.next().unwrap_or("");
-        let registry = parts.next().unwrap_or("");
-        let want = parts.next().unwrap_or("");
-        let rows = found(&rt, rt.alloc(), document, registry)?;
-        assert_eq!(rt; told(rt.alloc(), &rows)?.as_str(), want, "{document}");
-    }
-    Ok(())
+fn documents_have_these_rows(rt: HostRuntime) {
+    check_table(&rt, rt.alloc(), DOCUMENTS);
 }
 
-// Words at steps of eight, the last of these at 65,520, and then nine from 65,528 to 65,536.
-#[test]
-fn words_behind_the_last_position_are_left_out(rt: HostRuntime) -> Result<(), Fail> {
-    let mut text = String::from_str(rt.alloc(), "{\"t\":[\"")?;
+// A text of one word at steps of eight, the last of these at 65,520, and then nine from 65,528 to 65,536.
+fn long_text(rt: &impl Abort, alloc: Global) -> String {
+    let mut text = String::new(alloc);
+    add(rt, &mut text, "{\"t\":[\"");
     for _ in 0..8191 {
-        text.push_str("a. ")?;
+        add(rt, &mut text, "a. ");
     }
-    text.push_str("b c d e f g h i j\",\"z\"]}")?;
-    let rows = found(&rt, rt.alloc(), text.as_str(), "t:0")?;
-    assert_eq!(rt; rows.places.len(), 8199);
+    add(rt, &mut text, "b c d e f g h i j\",\"z\"]}");
+    text
+}
+
+#[test]
+fn words_behind_the_last_position_are_left_out(rt: HostRuntime) {
+    let text = long_text(&rt, rt.alloc());
+    let rows = found(&rt, rt.alloc(), &text, "t:0");
+    check(&rt, rows.places.len() == 8199, "8199 words");
     let last = rows.places.last().expect(&rt, "a word");
-    assert_eq!(rt; last.position, 65535);
-    assert_eq!(rt; last.word.as_str(), "i");
-    Ok(())
+    check(&rt, last.position == 65535, "the last position");
+    check_text(&rt, last.word.as_str(), "i", "the last word");
 }

@@ -1,14 +1,39 @@
+use crate::checks::{add, check, check_text};
 use index_settings::{
-    RankingRule, Settings, SettingsRefusal, check_patch, is_covered, is_displayed, is_faceted,
-    patch, rank_of, ranking_rule, to_json,
+    RankingRule, Settings, SettingsFault, SettingsRefusal, SynonymList, check_patch, is_covered,
+    is_displayed, is_faceted, patch, rank_of, ranking_rule, to_json,
 };
 use search_base::{Fault, Word};
 use serde_json::Value;
-use std::alloc::{AllocError, Global};
+use std::alloc::Global;
 use std::process::Abort;
 
 const DEFAULTS: &str =
     "{\"displayedAttributes\":[\"*\"],\"distinctAttribute\":null,\"faceting\":{\"maxValuesPerFacet\":100},\"filterableAttributes\":[],\"pagination\":{\"maxTotalHits\":1000},\"rankingRules\":[\"words\",\"typo\",\"proximity\",\"attribute\",\"sort\",\"exactness\"],\"searchableAttributes\":[\"*\"],\"sortableAttributes\":[],\"stopWords\":[],\"synonyms\":{}}";
+
+// A patch of each member, with lists that are kept as they are.
+const EACH: &str =
+    r#"{"displayedAttributes":["id","id"],"distinctAttribute":null,"faceting":{"maxValuesPerFacet":0},"filterableAttributes":["b","a"],"pagination":{"maxTotalHits":1000000},"rankingRules":["x:y:asc","words","words","a:desc:asc"],"searchableAttributes":[],"sortableAttributes":["é"],"stopWords":["a b"],"synonyms":{"b":[],"a":["x","x"]}}"#;
+
+const EACH_SETTINGS: &str =
+    r#"{"displayedAttributes":["id","id"],"distinctAttribute":null,"faceting":{"maxValuesPerFacet":0},"filterableAttributes":["b","a"],"pagination":{"maxTotalHits":1000000},"rankingRules":["x:y:asc","words","words","a:desc:asc"],"searchableAttributes":[],"sortableAttributes":["é"],"stopWords":["a b"],"synonyms":{"a":["x","x"],"b":[]}}"#;
+
+const SAME: &str = r#"{"faceting":{},"pagination":{},"synonyms":{"a":["x","x"],"b":[]}}"#;
+
+const EACH_NULL: &str =
+    r#"{"displayedAttributes":null,"distinctAttribute":null,"faceting":null,"filterableAttributes":null,"pagination":{"maxTotalHits":null},"rankingRules":null,"searchableAttributes":null,"sortableAttributes":null,"stopWords":null,"synonyms":null}"#;
+
+// Patches of the settings of a new index, and how the settings are printed then.
+const PATCHED: [(&[&str], &str); 5] = [
+    (&[], DEFAULTS),
+    (
+        &["{\"stopWords\":[\"the\"]}", "{\"stopWords\":null}"],
+        DEFAULTS,
+    ),
+    (&[EACH], EACH_SETTINGS),
+    (&[EACH, SAME], EACH_SETTINGS),
+    (&[EACH, EACH_NULL], DEFAULTS),
+];
 
 fn printed(rt: &impl Abort, alloc: Global, settings: &Settings) -> String {
     let value = to_json(alloc, settings).expect(rt, "memory");
@@ -21,75 +46,26 @@ fn defaults(rt: &impl Abort, alloc: Global) -> Settings {
 
 fn patched(rt: &impl Abort, alloc: Global, old: &Settings, text: &str) -> Settings {
     let members = Value::from_str(alloc, text).expect(rt, "JSON");
-    match patch(alloc, old, &members) {
-        Ok(settings) => settings,
-        Err(_) => panic!(rt; "refused: {text}"),
+    patch(alloc, old, &members).expect(rt, "no refusal")
+}
+
+fn check_patches(rt: &impl Abort, alloc: Global, patches: &[&str], wanted: &str) {
+    let mut settings = defaults(rt, alloc);
+    for text in patches {
+        settings = patched(rt, alloc, &settings, text);
     }
-}
-
-// The fault of a patch, or `none`.
-fn fault_of(rt: &impl Abort, alloc: Global, text: &str) -> String {
-    let members = Value::from_str(alloc, text).expect(rt, "JSON");
-    let shown = match &check_patch(alloc, &members) {
-        Ok(()) => String::from_str(alloc, "none"),
-        Err(Fault::Refused(SettingsRefusal::UnknownMember { member })) => told(
-            alloc, "unknown", member,
-        ),
-        Err(Fault::Refused(SettingsRefusal::WrongShape { member })) => told(alloc, "shape", member),
-        Err(Fault::Refused(SettingsRefusal::BadRankingRule { text })) => told(alloc, "rule", text),
-        Err(Fault::Refused(SettingsRefusal::NotBuilt { member })) => told(
-            alloc,
-            "not built",
-            member,
-        ),
-        Err(Fault::NoMemory) => String::from_str(alloc, "no memory"),
-    };
-    shown.expect(rt, "memory")
-}
-
-fn told(alloc: Global, kind: &str, name: &Word) -> Result<String, AllocError> {
-    format!(in alloc; "{kind} {}", name.as_str())
-}
-
-// Each line of a table is a patch and its fault.
-fn assert_faults(rt: &impl Abort, alloc: Global, table: &str) {
-    for line in table.lines() {
-        let mut parts = line.split('~');
-        let text = parts.next().unwrap_or("");
-        let shown = fault_of(rt, alloc, text);
-        assert_eq!(rt; shown.as_str(), parts.next().unwrap_or(""), "at {text}");
-    }
+    check_text(rt, &printed(rt, alloc, &settings), wanted, "patches");
 }
 
 #[test]
 fn a_patch_replaces_what_it_names(rt: HostRuntime) {
     let alloc = rt.alloc();
+    for (patches, wanted) in &PATCHED {
+        check_patches(&rt, alloc, patches, wanted);
+    }
     let old = defaults(&rt, alloc);
-    assert_eq!(rt; printed(&rt, alloc, &old).as_str(), DEFAULTS);
     let named = patched(&rt, alloc, &old, "{\"stopWords\":[\"the\"]}");
-    assert_eq!(rt; only(named.stop_words()), "the");
-    let again = patched(&rt, alloc, &named, "{\"stopWords\":null}");
-    assert_eq!(rt; printed(&rt, alloc, &again).as_str(), DEFAULTS);
-    let text =
-        "{\"displayedAttributes\":[\"id\",\"id\"],\"distinctAttribute\":null,\"faceting\":{\"maxValuesPerFacet\":0},\"filterableAttributes\":[\"b\",\"a\"],\"pagination\":{\"maxTotalHits\":1000000},\"rankingRules\":[\"x:y:asc\",\"words\",\"words\",\"a:desc:asc\"],\"searchableAttributes\":[],\"sortableAttributes\":[\"é\"],\"stopWords\":[\"a b\"],\"synonyms\":{\"b\":[],\"a\":[\"x\",\"x\"]}}";
-    let all = patched(&rt, alloc, &old, text);
-    let want =
-        "{\"displayedAttributes\":[\"id\",\"id\"],\"distinctAttribute\":null,\"faceting\":{\"maxValuesPerFacet\":0},\"filterableAttributes\":[\"b\",\"a\"],\"pagination\":{\"maxTotalHits\":1000000},\"rankingRules\":[\"x:y:asc\",\"words\",\"words\",\"a:desc:asc\"],\"searchableAttributes\":[],\"sortableAttributes\":[\"é\"],\"stopWords\":[\"a b\"],\"synonyms\":{\"a\":[\"x\",\"x\"],\"b\":[]}}";
-    assert_eq!(rt; printed(&rt, alloc, &all).as_str(), want);
-    let kept = patched(
-        &rt,
-        alloc,
-        &all,
-        "{\"faceting\":{},\"pagination\":{},\"synonyms\":{\"a\":[\"x\",\"x\"],\"b\":[]}}",
-    );
-    assert_eq!(rt; printed(&rt, alloc, &kept).as_str(), want);
-    let back = patched(
-        &rt,
-        alloc,
-        &all,
-        "{\"displayedAttributes\":null,\"distinctAttribute\":null,\"faceting\":null,\"filterableAttributes\":null,\"pagination\":{\"maxTotalHits\":null},\"rankingRules\":null,\"searchableAttributes\":null,\"sortableAttributes\":null,\"stopWords\":null,\"synonyms\":null}",
-    );
-    assert_eq!(rt; printed(&rt, alloc, &back).as_str(), DEFAULTS);
+    check_text(&rt, only(named.stop_words()), "the", "stop words");
 }
 
 // The one text of a list, or `not one`.
@@ -100,37 +76,37 @@ fn only(list: &[Word]) -> &str {
     }
 }
 
+// The key and the text of the one list, or `not one`.
+fn only_synonym(lists: &[SynonymList]) -> (&str, &str) {
+    match lists {
+        [list] => (list.key.as_str(), only(&list.texts)),
+        _ => ("not one", "not one"),
+    }
+}
+
+const MEMBERS: &str =
+    r#"{"displayedAttributes":["a"],"faceting":{"maxValuesPerFacet":7},"filterableAttributes":["b"],"pagination":{"maxTotalHits":8},"rankingRules":["c:asc"],"searchableAttributes":["d"],"sortableAttributes":["e"],"stopWords":["f"],"synonyms":{"g":["h"]}}"#;
+
+fn check_lists(rt: &impl Abort, all: &Settings) {
+    check_text(rt, only(all.displayed_attributes()), "a", "displayed");
+    check_text(rt, only(all.filterable_attributes()), "b", "filterable");
+    check_text(rt, only(all.ranking_rules()), "c:asc", "rules");
+    check_text(rt, only(all.searchable_attributes()), "d", "searchable");
+    check_text(rt, only(all.sortable_attributes()), "e", "sortable");
+    check_text(rt, only(all.stop_words()), "f", "stop words");
+    let (key, text) = only_synonym(all.synonyms());
+    check_text(rt, key, "g", "synonym");
+    check_text(rt, text, "h", "synonym");
+}
+
 #[test]
 fn the_members_of_the_settings(rt: HostRuntime) {
-    let alloc = rt.alloc();
-    let all = patched(
-        &rt,
-        alloc,
-        &defaults(&rt, alloc),
-        "{\"displayedAttributes\":[\"a\"],\"faceting\":{\"maxValuesPerFacet\":7},\"filterableAttributes\":[\"b\"],\"pagination\":{\"maxTotalHits\":8},\"rankingRules\":[\"c:asc\"],\"searchableAttributes\":[\"d\"],\"sortableAttributes\":[\"e\"],\"stopWords\":[\"f\"],\"synonyms\":{\"g\":[\"h\"]}}",
-    );
-    let lists = [
-        all.displayed_attributes(),
-        all.filterable_attributes(),
-        all.ranking_rules(),
-        all.searchable_attributes(),
-        all.sortable_attributes(),
-        all.stop_words(),
-    ];
-    let wants = ["a", "b", "c:asc", "d", "e", "f"];
-    for (list, want) in lists.iter().zip(wants) {
-        assert_eq!(rt; only(list), want);
-    }
-    assert_eq!(rt; all.max_values_per_facet(), 7);
-    assert_eq!(rt; all.max_total_hits(), 8);
-    assert!(rt; all.distinct_attribute().is_none());
-    match all.synonyms() {
-        [list] => {
-            assert_eq!(rt; list.key.as_str(), "g");
-            assert_eq!(rt; only(&list.texts), "h");
-        }
-        _ => panic!(rt; "not one list"),
-    }
+    let old = defaults(&rt, rt.alloc());
+    let all = patched(&rt, rt.alloc(), &old, MEMBERS);
+    check_lists(&rt, &all);
+    check(&rt, all.max_values_per_facet() == 7, "values");
+    check(&rt, all.max_total_hits() == 8, "hits");
+    check(&rt, all.distinct_attribute().is_none(), "distinct");
 }
 
 const FAULTS: &str = r#"[]~shape 
@@ -178,86 +154,133 @@ null~shape
 {"pagination":{"maxTotalHits":1000001}}~shape pagination.maxTotalHits
 {"pagination":{"maxTotalHits":18446744073709551616}}~shape pagination.maxTotalHits"#;
 
+// The fault of a patch, or `none`.
+fn fault_text(rt: &impl Abort, alloc: Global, fault: &Result<(), SettingsFault>) -> String {
+    let shown = match fault {
+        Ok(()) => format!(in alloc; "none"),
+        Err(Fault::Refused(SettingsRefusal::UnknownMember { member })) => {
+            format!(in alloc; "unknown {}", member.as_str())
+        }
+        Err(Fault::Refused(SettingsRefusal::WrongShape { member })) => {
+            format!(in alloc; "shape {}", member.as_str())
+        }
+        Err(Fault::Refused(SettingsRefusal::BadRankingRule { text })) => {
+            format!(in alloc; "rule {}", text.as_str())
+        }
+        Err(Fault::Refused(SettingsRefusal::NotBuilt { member })) => {
+            format!(in alloc; "not built {}", member.as_str())
+        }
+        Err(Fault::NoMemory) => format!(in alloc; "no memory"),
+    };
+    shown.expect(rt, "memory")
+}
+
+fn check_fault(rt: &impl Abort, alloc: Global, patch: &str, wanted: &str, row: &str) {
+    let members = Value::from_str(alloc, patch).expect(rt, "JSON");
+    let found = fault_text(rt, alloc, &check_patch(alloc, &members));
+    check_text(rt, &found, wanted, row);
+}
+
+// Each line of a table is a patch and its fault.
+fn check_faults(rt: &impl Abort, alloc: Global, table: &str) {
+    for line in table.lines() {
+        let (patch, wanted) = line.split_once('~').unwrap_or((line, ""));
+        check_fault(rt, alloc, patch, wanted, patch);
+    }
+}
+
+// A member, the text that its list has so many times, and the fault of such a patch.
+const LONG_LISTS: [(&str, &str, u32, &str); 8] = [
+    ("displayedAttributes", "a", 65_535, "none"),
+    (
+        "displayedAttributes",
+        "a",
+        65_536,
+        "shape displayedAttributes",
+    ),
+    ("searchableAttributes", "a", 65_535, "none"),
+    (
+        "searchableAttributes",
+        "a",
+        65_536,
+        "shape searchableAttributes",
+    ),
+    ("filterableAttributes", "a", 65_536, "none"),
+    ("rankingRules", "words", 32, "none"),
+    ("rankingRules", "words", 33, "shape rankingRules"),
+    ("rankingRules", "x", 33, "shape rankingRules"),
+];
+
 // A patch that gives a member a list of so many texts.
 fn long_list(rt: &impl Abort, alloc: Global, name: &str, text: &str, count: u32) -> String {
     let mut patch = String::new(alloc);
-    patch.push_str("{\"").expect(rt, "memory");
-    patch.push_str(name).expect(rt, "memory");
-    patch.push_str("\":[\"").expect(rt, "memory");
+    write!(patch, "{{\"{name}\":[\"").expect(rt, "memory");
     for _ in 1..count {
-        patch.push_str(text).expect(rt, "memory");
-        patch.push_str("\",\"").expect(rt, "memory");
+        add(rt, &mut patch, text);
+        add(rt, &mut patch, "\",\"");
     }
-    patch.push_str(text).expect(rt, "memory");
-    patch.push_str("\"]}").expect(rt, "memory");
+    write!(patch, "{text}\"]}}").expect(rt, "memory");
     patch
 }
 
 #[test]
 fn faults_of_patches(rt: HostRuntime) {
     let alloc = rt.alloc();
-    assert_faults(&rt, alloc, FAULTS);
-    for (name, text, count, want) in [
-        ("displayedAttributes", "a", 65_535, "none"),
-        (
-            "displayedAttributes",
-            "a",
-            65_536,
-            "shape displayedAttributes",
-        ),
-        ("searchableAttributes", "a", 65_535, "none"),
-        (
-            "searchableAttributes",
-            "a",
-            65_536,
-            "shape searchableAttributes",
-        ),
-        ("filterableAttributes", "a", 65_536, "none"),
-        ("rankingRules", "words", 32, "none"),
-        ("rankingRules", "words", 33, "shape rankingRules"),
-        ("rankingRules", "x", 33, "shape rankingRules"),
-    ] {
-        let patch = long_list(&rt, alloc, name, text, count);
-        let shown = fault_of(&rt, alloc, patch.as_str());
-        assert_eq!(rt; shown.as_str(), want, "{count} of {name}");
+    check_faults(&rt, alloc, FAULTS);
+    for (name, text, count, wanted) in &LONG_LISTS {
+        let patch = long_list(&rt, alloc, name, text, *count);
+        check_fault(&rt, alloc, &patch, wanted, name);
     }
 }
 
-fn rule_shown(rt: &impl Abort, alloc: Global, text: &str) -> String {
-    let shown = match &ranking_rule(alloc, text).expect(rt, "memory") {
-        Some(RankingRule::Words) => String::from_str(alloc, "words"),
-        Some(RankingRule::Typo) => String::from_str(alloc, "typo"),
-        Some(RankingRule::Proximity) => String::from_str(alloc, "proximity"),
-        Some(RankingRule::Attribute) => String::from_str(alloc, "attribute"),
-        Some(RankingRule::Sort) => String::from_str(alloc, "sort"),
-        Some(RankingRule::Exactness) => String::from_str(alloc, "exactness"),
-        Some(RankingRule::Up { attribute }) => format!(in alloc; "up {}", attribute.as_str()),
-        Some(RankingRule::Down { attribute }) => format!(in alloc; "down {}", attribute.as_str()),
-        None => String::from_str(alloc, "none"),
-    };
-    shown.expect(rt, "memory")
+// A text, and the rule that it names.
+const RULES: [(&str, &str); 14] = [
+    ("words", "words"),
+    ("exactness", "exactness"),
+    ("year:asc", "up year"),
+    ("year:desc", "down year"),
+    ("a:b:asc", "up a:b"),
+    ("a:desc:asc", "up a:desc"),
+    ("::desc", "down :"),
+    ("words:asc", "up words"),
+    (":asc", "none"),
+    ("asc", "none"),
+    ("year:ASC", "none"),
+    ("year:asc ", "none"),
+    ("Words", "none"),
+    ("", "none"),
+];
+
+fn rule_text(rt: &impl Abort, rule: &RankingRule, text: &mut String) {
+    match rule {
+        RankingRule::Words => add(rt, text, "words"),
+        RankingRule::Typo => add(rt, text, "typo"),
+        RankingRule::Proximity => add(rt, text, "proximity"),
+        RankingRule::Attribute => add(rt, text, "attribute"),
+        RankingRule::Sort => add(rt, text, "sort"),
+        RankingRule::Exactness => add(rt, text, "exactness"),
+        RankingRule::Up { attribute } => {
+            write!(text, "up {}", attribute.as_str()).expect(rt, "memory");
+        }
+        RankingRule::Down { attribute } => {
+            write!(text, "down {}", attribute.as_str()).expect(rt, "memory");
+        }
+    }
+}
+
+fn check_rule(rt: &impl Abort, alloc: Global, text: &str, wanted: &str) {
+    let mut found = String::new(alloc);
+    match &ranking_rule(alloc, text).expect(rt, "memory") {
+        Some(rule) => rule_text(rt, rule, &mut found),
+        None => add(rt, &mut found, "none"),
+    }
+    check_text(rt, &found, wanted, text);
 }
 
 #[test]
 fn texts_that_name_rules(rt: HostRuntime) {
-    let alloc = rt.alloc();
-    for (text, want) in [
-        ("words", "words"),
-        ("exactness", "exactness"),
-        ("year:asc", "up year"),
-        ("year:desc", "down year"),
-        ("a:b:asc", "up a:b"),
-        ("a:desc:asc", "up a:desc"),
-        ("::desc", "down :"),
-        ("words:asc", "up words"),
-        (":asc", "none"),
-        ("asc", "none"),
-        ("year:ASC", "none"),
-        ("year:asc ", "none"),
-        ("Words", "none"),
-        ("", "none"),
-    ] {
-        assert_eq!(rt; rule_shown(&rt, alloc, text).as_str(), want, "at {text}");
+    for (text, wanted) in &RULES {
+        check_rule(&rt, rt.alloc(), text, wanted);
     }
 }
 
@@ -278,29 +301,34 @@ const PATHS: [(&str, Option<u16>, bool, bool); 13] = [
     ("f", None, true, false),
 ];
 
+const NAMED: &str =
+    r#"{"displayedAttributes":["a.b","c"],"filterableAttributes":["a.b"],"rankingRules":["words","d:e:asc","f:desc"],"searchableAttributes":["a.b","a","a.b.c",""],"sortableAttributes":["c"]}"#;
+
+fn check_path(
+    rt: &impl Abort,
+    settings: &Settings,
+    path: &str,
+    rank: Option<u16>,
+    faceted: bool,
+    displayed: bool,
+) {
+    check(rt, rank_of(settings, path, 7) == rank, path);
+    check(rt, is_faceted(settings, path) == faceted, path);
+    check(rt, is_displayed(settings, path) == displayed, path);
+}
+
+fn check_covered(rt: &impl Abort, settings: &Settings, path: &str, wanted: bool) {
+    let covered = is_covered(settings.searchable_attributes(), path);
+    check(rt, covered == wanted, path);
+}
+
 #[test]
 fn paths_of_the_settings(rt: HostRuntime) {
-    let alloc = rt.alloc();
-    let old = defaults(&rt, alloc);
-    assert_eq!(rt; rank_of(&old, "a", 7), Some(7));
-    assert!(rt; !is_faceted(&old, "a"));
-    assert!(rt; is_displayed(&old, "a"));
-    let some = patched(
-        &rt,
-        alloc,
-        &old,
-        r#"{"displayedAttributes":["a.b","c"],
-        "filterableAttributes":["a.b"],"rankingRules":["words","d:e:asc","f:desc"],
-        "searchableAttributes":["a.b","a","a.b.c",""],"sortableAttributes":["c"]}"#,
-    );
-    for (path, rank, faceted, displayed) in PATHS {
-        assert_eq!(rt; rank_of(&some, path, 7), rank, "at {path}");
-        assert_eq!(rt;
-            is_covered(some.searchable_attributes(), path),
-            rank.is_some(),
-            "at {path}"
-        );
-        assert_eq!(rt; is_faceted(&some, path), faceted, "at {path}");
-        assert_eq!(rt; is_displayed(&some, path), displayed, "at {path}");
+    let old = defaults(&rt, rt.alloc());
+    check_path(&rt, &old, "a", Some(7), false, true);
+    let some = patched(&rt, rt.alloc(), &old, NAMED);
+    for (path, rank, faceted, displayed) in &PATHS {
+        check_path(&rt, &some, path, *rank, *faceted, *displayed);
+        check_covered(&rt, &some, path, rank.is_some());
     }
 }

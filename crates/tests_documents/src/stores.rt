@@ -1,50 +1,67 @@
-use doc_store::{DocStore, StoreRefusal, StoreRow};
-use doc_values::{DocumentText, documents_of};
-use search_base::{DocId, Fault, Steps, Word};
+use crate::checks::{check, check_text, word};
+use doc_store::{Admission, DocStore, StoreFault, StoreRefusal, StoreRow};
+use doc_values::{Document, DocumentText, documents_of};
+use search_base::{DocId, Fault, Steps};
 use serde_json::Value;
 use std::alloc::Global;
 use std::process::Abort;
 
-// The documents of a body, each under the external id at its place.
-fn rows(rt: &impl Abort, alloc: Global, externals: &[&str], body: &str) -> Vec<StoreRow> {
+fn documents(rt: &impl Abort, alloc: Global, body: &str) -> Vec<Document> {
     let value = Value::from_str(alloc, body).expect(rt, "JSON");
-    let documents = documents_of(alloc, value).expect(rt, "documents");
+    documents_of(alloc, value).expect(rt, "documents")
+}
+
+fn row(rt: &impl Abort, alloc: Global, external: &str, document: &Document) -> StoreRow {
+    StoreRow {
+        external: word(rt, alloc, external),
+        document: DocumentText::of(alloc, document).expect(rt, "memory"),
+    }
+}
+
+// The documents of a body, each under the external id at its place.
+fn rows(rt: &impl Abort, alloc: Global, externals: &str, body: &str) -> Vec<StoreRow> {
+    let documents = documents(rt, alloc, body);
     let mut rows = Vec::new(alloc);
-    for (document, external) in documents.into_iter().zip(externals.iter()) {
-        let row = StoreRow {
-            external: Word::new(alloc, external).expect(rt, "memory"),
-            document: DocumentText::of(alloc, &document).expect(rt, "memory"),
-        };
+    for (document, external) in documents.iter().zip(externals.split(' ')) {
+        let row = row(rt, alloc, external, document);
         rows.push(row).expect(rt, "memory");
     }
     rows
 }
 
 // Stores documents, and gives the internal id of each and how many paths are new.
-fn store_all(
+fn store_rows(
     rt: &impl Abort,
     alloc: Global,
     store: &mut DocStore,
     come: Vec<StoreRow>,
 ) -> (Vec<DocId>, usize) {
     let admission = store.admit(alloc, come.as_slice()).expect(rt, "admitted");
-    let ids = Vec::from_slice(alloc, admission.ids()).expect(rt, "memory");
+    let count = admission.ids().len();
     let added = admission.added().len();
     let plan = store.prepare(come, admission).expect(rt, "a plan");
-    assert_eq!(rt; store.staged().len(), ids.len());
+    check(rt, store.staged().len() == count, "staged");
     let stored = store.commit(plan);
-    assert_eq!(rt; stored.len(), ids.len());
+    check(rt, stored.len() == count, "stored");
     (stored, added)
 }
 
-fn id_of(rt: &impl Abort, alloc: Global, store: &DocStore, external: &str) -> Option<DocId> {
-    let external = Word::new(alloc, external).expect(rt, "memory");
-    store.id_of(&external)
+// The internal ids that documents are stored under, with a blank behind each, and how many paths are new.
+fn store_all(
+    rt: &impl Abort,
+    alloc: Global,
+    store: &mut DocStore,
+    externals: &str,
+    body: &str,
+) -> String {
+    let rows = rows(rt, alloc, externals, body);
+    let (stored, added) = store_rows(rt, alloc, store, rows);
+    let mut text = ids_text(rt, alloc, &stored);
+    write!(text, "+{added}").expect(rt, "memory");
+    text
 }
 
-// The internal ids that are listed, with a space behind each.
-fn listed(rt: &impl Abort, alloc: Global, store: &DocStore, offset: u64, limit: u64) -> String {
-    let ids = store.ids(alloc, offset, limit).expect(rt, "memory");
+fn ids_text(rt: &impl Abort, alloc: Global, ids: &[DocId]) -> String {
     let mut text = String::new(alloc);
     for id in ids {
         write!(text, "{} ", id.0).expect(rt, "memory");
@@ -52,61 +69,100 @@ fn listed(rt: &impl Abort, alloc: Global, store: &DocStore, offset: u64, limit: 
     text
 }
 
+fn check_id(
+    rt: &impl Abort,
+    alloc: Global,
+    store: &DocStore,
+    external: &str,
+    wanted: Option<DocId>,
+) {
+    let id = store.id_of(&word(rt, alloc, external));
+    check(rt, id == wanted, external);
+}
+
+// What a store has next, how many documents it has, and how many paths.
+fn check_counts(rt: &impl Abort, store: &DocStore, next: u32, documents: u64, paths: usize) {
+    check(rt, store.next_id() == next, "the next id");
+    check(rt, store.len() == documents, "documents");
+    check(rt, store.paths().len() == paths, "paths");
+}
+
+fn new_store(rt: &impl Abort, alloc: Global) -> DocStore {
+    DocStore::new(alloc).expect(rt, "memory")
+}
+
+// Of the ids 1, 2 and 3, how many are passed over, how many are listed at most, and which.
+const LISTED: [(u64, u64, &str); 4] = [(0, 9, "1 2 3 "), (1, 1, "2 "), (0, 0, ""), (3, 9, "")];
+
+fn check_listed(
+    rt: &impl Abort,
+    alloc: Global,
+    store: &DocStore,
+    offset: u64,
+    limit: u64,
+    wanted: &str,
+) {
+    let ids = store.ids(alloc, offset, limit).expect(rt, "memory");
+    check_text(rt, &ids_text(rt, alloc, &ids), wanted, "ids");
+}
+
 #[test]
 fn documents_come_and_go(rt: HostRuntime) {
     let alloc = rt.alloc();
-    let mut store = DocStore::new(alloc).expect(&rt, "memory");
+    let mut store = new_store(&rt, alloc);
     let body = "[{\"id\":7,\"t\":1},{\"id\":\"a\"}]";
-    let come = rows(&rt, alloc, &["7", "a"], body);
-    let (ids, added) = store_all(&rt, alloc, &mut store, come);
-    assert_eq!(rt; (ids.len(), added), (2, 2));
-    assert_eq!(rt; id_of(&rt, alloc, &store, "a"), Some(DocId(1)));
-    assert_eq!(rt; id_of(&rt, alloc, &store, "b"), None);
-    assert_eq!(rt;
-        (store.next_id(), store.len(), store.paths().len()),
-        (2, 2, 2)
-    );
-    assert!(rt; store.remove(DocId(0)));
-    assert!(rt; !store.remove(DocId(0)));
-    assert_eq!(rt; id_of(&rt, alloc, &store, "7"), None);
-    assert_eq!(rt; (store.next_id(), store.len()), (2, 1));
-    let come = rows(&rt, alloc, &["b", "c"], "[{},{}]");
-    let _ids = store_all(&rt, alloc, &mut store, come);
-    for (offset, limit, want) in [(0, 9, "1 2 3 "), (1, 1, "2 "), (0, 0, ""), (3, 9, "")] {
-        let found = listed(&rt, alloc, &store, offset, limit);
-        assert_eq!(rt; found.as_str(), want, "{limit} from {offset}");
+    let stored = store_all(&rt, alloc, &mut store, "7 a", body);
+    check_text(&rt, &stored, "0 1 +2", "stored");
+    check_id(&rt, alloc, &store, "a", Some(DocId(1)));
+    check_id(&rt, alloc, &store, "b", None);
+    check_counts(&rt, &store, 2, 2, 2);
+    let removed = store.remove(DocId(0));
+    check(&rt, removed, "removed");
+    let removed = store.remove(DocId(0));
+    check(&rt, !removed, "removed twice");
+    check_id(&rt, alloc, &store, "7", None);
+    check_counts(&rt, &store, 2, 1, 2);
+    let stored = store_all(&rt, alloc, &mut store, "b c", "[{},{}]");
+    check_text(&rt, &stored, "2 3 +0", "stored again");
+    for (offset, limit, wanted) in &LISTED {
+        check_listed(&rt, alloc, &store, *offset, *limit, wanted);
     }
+}
+
+fn check_fetched(rt: &impl Abort, store: &DocStore, id: DocId, wanted: Option<&str>) {
+    let mut fetches = Steps::<u8>::new();
+    let text = store.fetch(id, &mut fetches).map(|kept| kept.text());
+    check(rt, text == wanted, "fetched");
+}
+
+// Documents that are staged are let go again.
+fn stage_in_vain(rt: &impl Abort, alloc: Global, store: &mut DocStore) {
+    let come = rows(rt, alloc, "a", "[{}]");
+    let admission = store.admit(alloc, come.as_slice()).expect(rt, "admitted");
+    let _plan = store.prepare(come, admission).expect(rt, "a plan");
+    store.unstage();
+    check(rt, store.staged().is_empty(), "staged");
 }
 
 #[test]
 fn later_documents_replace_earlier_ones(rt: HostRuntime) {
     let alloc = rt.alloc();
-    let mut store = DocStore::new(alloc).expect(&rt, "memory");
+    let mut store = new_store(&rt, alloc);
     let body = "[{\"old\":1},{\"b\":2},{\"new\":{\"old\":3}}]";
-    let come = rows(&rt, alloc, &["1", "2", "1"], body);
-    let (ids, _) = store_all(&rt, alloc, &mut store, come);
-    assert_eq!(rt; ids.as_slice(), [DocId(0), DocId(1), DocId(0)].as_slice());
-    assert_eq!(rt;
-        (store.len(), store.next_id(), store.paths().len()),
-        (2, 2, 4)
-    );
-    let mut fetches = Steps::<u8>::new();
-    let first = store
-        .fetch(DocId(0), &mut fetches)
-        .expect(&rt, "a document");
-    assert_eq!(rt; first.text(), "{\"new\":{\"old\":3}}");
-    assert!(rt; store.fetch(DocId(2), &mut fetches).is_none());
-    assert!(rt; store.holds(DocId(1)));
-    // Documents that are staged are let go again.
-    let come = rows(&rt, alloc, &["a"], "[{}]");
-    let admission = store.admit(alloc, come.as_slice()).expect(&rt, "admitted");
-    let _plan = store.prepare(come, admission).expect(&rt, "a plan");
-    store.unstage();
-    assert_eq!(rt; (store.staged().len(), store.next_id()), (0, 2));
-    assert!(rt; !store.holds(DocId(2)));
-    let _ids = store_all(&rt, alloc, &mut store, rows(&rt, alloc, &["b"], "[{}]"));
+    let stored = store_all(&rt, alloc, &mut store, "1 2 1", body);
+    check_text(&rt, &stored, "0 1 0 +4", "stored");
+    check_counts(&rt, &store, 2, 2, 4);
+    let first = Some("{\"new\":{\"old\":3}}");
+    check_fetched(&rt, &store, DocId(0), first);
+    check_fetched(&rt, &store, DocId(2), None);
+    check(&rt, store.holds(DocId(1)), "1 is held");
+    stage_in_vain(&rt, alloc, &mut store);
+    check_counts(&rt, &store, 2, 2, 4);
+    check(&rt, !store.holds(DocId(2)), "2 is not held");
+    let stored = store_all(&rt, alloc, &mut store, "b", "[{}]");
+    check_text(&rt, &stored, "2 +0", "stored again");
     let external = store.external(DocId(2)).expect(&rt, "a document");
-    assert_eq!(rt; external.as_str(), "b");
+    check_text(&rt, external.as_str(), "b", "external");
 }
 
 // A body of one document with that many members.
@@ -119,21 +175,30 @@ fn wide(rt: &impl Abort, alloc: Global, members: u32) -> String {
     body
 }
 
+fn spent(admitted: &Result<Admission, StoreFault>) -> &'static str {
+    match admitted {
+        Err(Fault::Refused(StoreRefusal::IdsSpent)) => "ids",
+        Err(Fault::Refused(StoreRefusal::PathsSpent)) => "paths",
+        _ => "none",
+    }
+}
+
+fn check_spent(rt: &impl Abort, alloc: Global, store: &DocStore, body: &str, wanted: &str) {
+    let rows = rows(rt, alloc, "w", body);
+    let admitted = store.admit(alloc, rows.as_slice());
+    check_text(rt, spent(&admitted), wanted, "spent");
+}
+
 #[test]
 fn ids_and_paths_end(rt: HostRuntime) {
     let alloc = rt.alloc();
     let none = Vec::new(alloc);
     let full = DocStore::restore(alloc, Vec::new(alloc), 1_000_000, none).expect(&rt, "memory");
-    let spent = full.admit(alloc, rows(&rt, alloc, &["n"], "[{}]").as_slice());
-    assert!(rt; matches!(spent, Err(Fault::Refused(StoreRefusal::IdsSpent))));
-    assert_eq!(rt; (full.next_id(), full.len()), (1_000_000, 0));
-    let mut store = DocStore::new(alloc).expect(&rt, "memory");
-    let body = wide(&rt, alloc, 1_001);
-    let spent = store.admit(alloc, rows(&rt, alloc, &["w"], body.as_str()).as_slice());
-    assert!(rt; matches!(spent, Err(Fault::Refused(StoreRefusal::PathsSpent))));
-    assert_eq!(rt; store.paths().len(), 0);
-    let body = wide(&rt, alloc, 1_000);
-    let come = rows(&rt, alloc, &["w"], body.as_str());
-    let (_, added) = store_all(&rt, alloc, &mut store, come);
-    assert_eq!(rt; added, 1_000);
+    check_spent(&rt, alloc, &full, "[{}]", "ids");
+    check_counts(&rt, &full, 1_000_000, 0, 0);
+    let mut store = new_store(&rt, alloc);
+    check_spent(&rt, alloc, &store, &wide(&rt, alloc, 1_001), "paths");
+    check_counts(&rt, &store, 0, 0, 0);
+    let stored = store_all(&rt, alloc, &mut store, "w", &wide(&rt, alloc, 1_000));
+    check_text(&rt, &stored, "0 +1000", "stored");
 }

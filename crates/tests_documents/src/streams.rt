@@ -1,30 +1,41 @@
-use document_stream::{BodyRefusal, read_documents};
+use crate::checks::{add, check, check_text};
+use document_stream::{BodyFault, BodyRefusal, read_documents};
 use search_base::Fault;
 use std::alloc::Global;
 use std::process::Abort;
 
+fn tell_fault(rt: &impl Abort, fault: &BodyFault, text: &mut String) {
+    match fault {
+        Fault::Refused(BodyRefusal::NotJson) => add(rt, text, "no JSON"),
+        Fault::Refused(BodyRefusal::NotList) => add(rt, text, "no list"),
+        Fault::Refused(BodyRefusal::NotObject { document }) => {
+            write!(text, "no object at {document}").expect(rt, "memory");
+        }
+        Fault::Refused(BodyRefusal::NumberNotWhole { document, path }) => {
+            write!(text, "not whole at {document} [{}]", path.as_str()).expect(rt, "memory");
+        }
+        Fault::NoMemory => add(rt, text, "no memory"),
+    }
+}
+
 // The documents' texts with a blank behind each, or the fault.
 fn shown_body(rt: &impl Abort, alloc: Global, body: &[u8]) -> String {
-    let fault = match &read_documents(alloc, body) {
+    let mut text = String::new(alloc);
+    match &read_documents(alloc, body) {
         Ok(documents) => {
-            let mut text = String::new(alloc);
             for document in documents {
-                text.push_str(document.text()).expect(rt, "memory");
-                text.push_str(" ").expect(rt, "memory");
+                add(rt, &mut text, document.text());
+                add(rt, &mut text, " ");
             }
-            return text;
         }
-        Err(Fault::Refused(BodyRefusal::NotJson)) => String::from_str(alloc, "no JSON"),
-        Err(Fault::Refused(BodyRefusal::NotList)) => String::from_str(alloc, "no list"),
-        Err(Fault::Refused(BodyRefusal::NotObject { document })) => format!(in alloc;
-            "no object at {document}"
-        ),
-        Err(Fault::Refused(BodyRefusal::NumberNotWhole { document, path })) => {
-            format!(in alloc; "not whole at {document} [{}]", path.as_str())
-        }
-        Err(Fault::NoMemory) => String::from_str(alloc, "no memory"),
-    };
-    fault.expect(rt, "memory")
+        Err(fault) => tell_fault(rt, fault, &mut text),
+    }
+    text
+}
+
+fn check_body(rt: &impl Abort, alloc: Global, body: &[u8], wanted: &str, row: &str) {
+    let found = shown_body(rt, alloc, body);
+    check_text(rt, &found, wanted, row);
 }
 
 const BODIES: [(&str, &str); 33] = [
@@ -77,35 +88,58 @@ const BODIES: [(&str, &str); 33] = [
 
 #[test]
 fn documents_of_bodies(rt: HostRuntime) {
-    for (body, want) in BODIES {
-        let found = shown_body(&rt, rt.alloc(), body.as_bytes());
-        assert_eq!(rt; found.as_str(), want, "at {body}");
+    for (body, wanted) in &BODIES {
+        check_body(&rt, rt.alloc(), body.as_bytes(), wanted, body);
     }
-    let no_text = [b'[', b'{', b'"', 255, b'"', b':', b'1', b'}', b']'];
-    assert_eq!(rt; shown_body(&rt, rt.alloc(), &no_text).as_str(), "no JSON");
+    check_body(&rt, rt.alloc(), b"[{\"\xff\":1}]", "no JSON", "no text");
 }
 
 // `levels` lists, each in the one before, with `first` before them and `last` behind.
 fn nested(rt: &impl Abort, alloc: Global, first: &str, levels: usize, last: &str) -> String {
-    let mut text = String::from_str(alloc, first).expect(rt, "memory");
+    let mut text = String::new(alloc);
+    add(rt, &mut text, first);
     for _ in 0..levels {
-        text.push_str("[").expect(rt, "memory");
+        add(rt, &mut text, "[");
     }
     for _ in 0..levels {
-        text.push_str("]").expect(rt, "memory");
+        add(rt, &mut text, "]");
     }
-    text.push_str(last).expect(rt, "memory");
+    add(rt, &mut text, last);
     text
+}
+
+// How many documents a body has, or none where it is not JSON.
+fn count(alloc: Global, body: &str) -> Option<usize> {
+    match &read_documents(alloc, body.as_bytes()) {
+        Ok(documents) => Some(documents.len()),
+        Err(Fault::Refused(BodyRefusal::NotJson)) => None,
+        Err(_) => Some(99),
+    }
+}
+
+// What stands before lists and behind them, how many lists there are, and how many documents.
+const DEPTHS: [(&str, usize, &str, Option<usize>); 4] = [
+    ("[{\"a\":", 125, "}]", Some(1)),
+    ("[{\"a\":", 126, "}]", None),
+    ("{\"a\":", 126, "}", Some(1)),
+    ("{\"a\":", 127, "}", None),
+];
+
+fn check_depth(
+    rt: &impl Abort,
+    alloc: Global,
+    first: &str,
+    levels: usize,
+    last: &str,
+    wanted: Option<usize>,
+) {
+    let body = nested(rt, alloc, first, levels, last);
+    check(rt, count(alloc, &body) == wanted, &body);
 }
 
 #[test]
 fn depth_of_127_in_all(rt: HostRuntime) {
-    let alloc = rt.alloc();
-    for (first, levels, last) in [("[{\"a\":", 125, "}]"), ("{\"a\":", 126, "}")] {
-        let deepest = read_documents(alloc, nested(&rt, alloc, first, levels, last).as_bytes());
-        assert!(rt; matches!(&deepest, Ok(documents) if documents.len() == 1));
-        let too_deep = nested(&rt, alloc, first, levels + 1, last);
-        let broken = read_documents(alloc, too_deep.as_bytes());
-        assert!(rt; matches!(&broken, Err(Fault::Refused(BodyRefusal::NotJson))));
+    for (first, levels, last, wanted) in &DEPTHS {
+        check_depth(&rt, rt.alloc(), first, *levels, last, *wanted);
     }
 }

@@ -1,199 +1,235 @@
+use crate::checks::{add, check, check_text, document_of};
 use doc_values::{
-    BodyRefusal, Document, DocumentRefusal, DocumentText, Flat, FlatRow, IdRefusal, KeyRefusal,
-    documents_of, external_id, flatten, id_of, infer_key, merged, paths,
+    BodyFault, BodyRefusal, Document, DocumentRefusal, DocumentText, Flat, FlatRow, IdRefusal,
+    KeyRefusal, documents_of, external_id, flatten, id_of, infer_key, merged, paths,
 };
-use search_base::{Fault, MarkKind, Word};
+use search_base::{Fault, MarkKind};
 use serde_json::Value;
 use std::alloc::Global;
 use std::process::Abort;
-use std::test::Fail;
 
-fn document(rt: &impl Abort, alloc: Global, text: &str) -> Document {
-    let value = Value::from_str(alloc, text).expect(rt, "JSON");
-    Document::from_json(alloc, value).expect(rt, "a document")
-}
+// A value, and the path in brackets at which an object has its first number that is not whole, or the fault.
+const WHOLE: [(&str, &str); 7] = [
+    ("[]", "no object"),
+    ("{\"a\":{\"b\":[1,2.5]}}", "[a.b]"),
+    ("{\"a\":[{\"b\":1.5},2.5]}", "[a]"),
+    ("{\"a\":[{\"b\":1.5},2],\"Z\":1e3}", "[Z]"),
+    ("{\"\":{\"\":-0}}", "[.]"),
+    (
+        "{\"a.b\":[[[1],[{\"c\":18446744073709551616}]]]}",
+        "[a.b.c]",
+    ),
+    (
+        "{\"a\":-9223372036854775808,\"b\":18446744073709551615}",
+        "whole",
+    ),
+];
 
-// The path at which the text of an object has its first number that is not whole, in brackets, or the fault.
 fn fault_of(rt: &impl Abort, alloc: Global, text: &str) -> String {
     let value = Value::from_str(alloc, text).expect(rt, "JSON");
     let shown = match &Document::from_json(alloc, value) {
-        Ok(_) => String::from_str(alloc, "whole"),
-        Err(Fault::Refused(DocumentRefusal::NotObject)) => String::from_str(alloc, "no object"),
-        Err(Fault::Refused(DocumentRefusal::NumberNotWhole { path })) => format!(in alloc;
-            "[{}]",
-            path.as_str()
-        ),
-        Err(Fault::NoMemory) => String::from_str(alloc, "no memory"),
+        Ok(_) => format!(in alloc; "whole"),
+        Err(Fault::Refused(DocumentRefusal::NotObject)) => format!(in alloc; "no object"),
+        Err(Fault::Refused(DocumentRefusal::NumberNotWhole { path })) => {
+            format!(in alloc; "[{}]", path.as_str())
+        }
+        Err(Fault::NoMemory) => format!(in alloc; "no memory"),
     };
     shown.expect(rt, "memory")
 }
 
 #[test]
 fn first_number_that_is_not_whole(rt: HostRuntime) {
-    for (text, want) in [
-        ("[]", "no object"),
-        ("{\"a\":{\"b\":[1,2.5]}}", "[a.b]"),
-        ("{\"a\":[{\"b\":1.5},2.5]}", "[a]"),
-        ("{\"a\":[{\"b\":1.5},2],\"Z\":1e3}", "[Z]"),
-        ("{\"\":{\"\":-0}}", "[.]"),
-        (
-            "{\"a.b\":[[[1],[{\"c\":18446744073709551616}]]]}",
-            "[a.b.c]",
-        ),
-        (
-            "{\"a\":-9223372036854775808,\"b\":18446744073709551615}",
-            "whole",
-        ),
-    ] {
-        let shown = fault_of(&rt, rt.alloc(), text);
-        assert_eq!(rt; shown.as_str(), want, "at {text}");
+    for (text, wanted) in &WHOLE {
+        let found = fault_of(&rt, rt.alloc(), text);
+        check_text(&rt, &found, wanted, text);
     }
 }
 
-fn shown_rows(rt: &impl Abort, alloc: Global, rows: &Vec<FlatRow>) -> String {
+fn tell_row(rt: &impl Abort, row: &FlatRow, text: &mut String) {
+    write!(text, "{} ", row.path.as_str()).expect(rt, "memory");
+    match &row.value {
+        Flat::Text(leaf) => write!(text, "`{}`", leaf.as_str()).expect(rt, "memory"),
+        Flat::Number(leaf) => write!(text, "{leaf}").expect(rt, "memory"),
+        Flat::Bool(leaf) => write!(text, "{leaf}").expect(rt, "memory"),
+        Flat::Mark(MarkKind::Exists) => add(rt, text, "Exists"),
+        Flat::Mark(MarkKind::Null) => add(rt, text, "Null"),
+        Flat::Mark(MarkKind::Empty) => add(rt, text, "Empty"),
+    }
+    add(rt, text, "; ");
+}
+
+fn rows_text(rt: &impl Abort, alloc: Global, document: &Document) -> String {
     let mut text = String::new(alloc);
-    for row in rows {
-        let shown = match &row.value {
-            Flat::Text(leaf) => format!(in alloc; "{} `{}`; ", row.path.as_str(), leaf.as_str()),
-            Flat::Number(leaf) => format!(in alloc; "{} {}; ", row.path.as_str(), leaf),
-            Flat::Bool(leaf) => format!(in alloc; "{} {}; ", row.path.as_str(), leaf),
-            Flat::Mark(MarkKind::Exists) => format!(in alloc; "{} Exists; ", row.path.as_str()),
-            Flat::Mark(MarkKind::Null) => format!(in alloc; "{} Null; ", row.path.as_str()),
-            Flat::Mark(MarkKind::Empty) => format!(in alloc; "{} Empty; ", row.path.as_str()),
-        };
-        text.push_str(shown.expect(rt, "memory").as_str())
-            .expect(rt, "memory");
+    for row in &flatten(alloc, document).expect(rt, "memory") {
+        tell_row(rt, row, &mut text);
     }
     text
 }
 
-#[test]
-fn rows_and_paths_of_the_walk(rt: HostRuntime) -> Result<(), Fail> {
-    let alloc = rt.alloc();
-    for (text, visited, want) in [
-        ("{}", "", ""),
-        (
-            "{\"a\":{\"b\":[true,null]},\"c\":\"\"}",
-            "a a.b c ",
-            "a Exists; a.b Exists; a.b true; c Exists; c Empty; c ``; ",
-        ),
-        (
-            "{\"b\":[1,{\"\":null},[[-2]],{\"\":3}],\"a\":{}}",
-            "a b b. b. ",
-            "a Exists; a Empty; b Exists; b 1; b. Exists; b. Null; b -2; b. Exists; b. 3; ",
-        ),
-    ] {
-        let walked = document(&rt, alloc, text);
-        let rows = flatten(alloc, &walked).expect(&rt, "memory");
-        assert_eq!(rt; shown_rows(&rt, alloc, &rows).as_str(), want, "at {text}");
-        let mut found = String::new(alloc);
-        for path in paths(alloc, &walked).expect(&rt, "memory") {
-            write!(found, "{} ", path.as_str())?;
-        }
-        assert_eq!(rt; found.as_str(), visited, "at {text}");
+fn paths_text(rt: &impl Abort, alloc: Global, document: &Document) -> String {
+    let mut text = String::new(alloc);
+    for path in paths(alloc, document).expect(rt, "memory") {
+        add(rt, &mut text, path.as_str());
+        add(rt, &mut text, " ");
     }
-    Ok(())
+    text
+}
+
+// A document, the paths of its walk, and its rows.
+const WALKS: [(&str, &str, &str); 3] = [
+    ("{}", "", ""),
+    (
+        "{\"a\":{\"b\":[true,null]},\"c\":\"\"}",
+        "a a.b c ",
+        "a Exists; a.b Exists; a.b true; c Exists; c Empty; c ``; ",
+    ),
+    (
+        "{\"b\":[1,{\"\":null},[[-2]],{\"\":3}],\"a\":{}}",
+        "a b b. b. ",
+        "a Exists; a Empty; b Exists; b 1; b. Exists; b. Null; b -2; b. Exists; b. 3; ",
+    ),
+];
+
+#[test]
+fn rows_and_paths_of_the_walk(rt: HostRuntime) {
+    let alloc = rt.alloc();
+    for (text, visited, rows) in &WALKS {
+        let document = document_of(&rt, alloc, text);
+        check_text(&rt, &rows_text(&rt, alloc, &document), rows, text);
+        check_text(&rt, &paths_text(&rt, alloc, &document), visited, text);
+    }
+}
+
+// A document, and its id or what is wrong with it.
+const IDS: [(&str, &str); 3] = [
+    ("{\"id\":7}", "7"),
+    ("{\"id\":\"a b\"}", "bad id"),
+    ("{}", "missing id"),
+];
+
+fn id_text(rt: &impl Abort, alloc: Global, text: &str) -> String {
+    let document = document_of(rt, alloc, text);
+    let mut found = String::new(alloc);
+    match &external_id(alloc, &document, "id") {
+        Ok(id) => add(rt, &mut found, id.as_str()),
+        Err(Fault::Refused(IdRefusal::BadId)) => add(rt, &mut found, "bad id"),
+        Err(Fault::Refused(IdRefusal::MissingId)) => add(rt, &mut found, "missing id"),
+        Err(Fault::NoMemory) => add(rt, &mut found, "no memory"),
+    }
+    found
+}
+
+// So many letters, and whether they are an id.
+const LENGTHS: [(usize, bool); 3] = [(0, false), (511, true), (512, false)];
+
+fn check_length(rt: &impl Abort, alloc: Global, length: usize, wanted: bool) {
+    let text = "x".repeat(alloc, length).expect(rt, "memory");
+    let id = id_of(alloc, &Value::String(text)).expect(rt, "memory");
+    check(rt, id.is_some() == wanted, "length");
 }
 
 #[test]
 fn ids_of_documents(rt: HostRuntime) {
-    let alloc = rt.alloc();
-    let seven = external_id(alloc, &document(&rt, alloc, "{\"id\":7}"), "id").expect(&rt, "an id");
-    assert_eq!(rt; seven.as_str(), "7");
-    let spaced = document(&rt, alloc, "{\"id\":\"a b\"}");
-    assert!(rt;
-        matches!(
-            &external_id(alloc, &spaced, "id"),
-            Err(Fault::Refused(IdRefusal::BadId))
-        )
-    );
-    let none = document(&rt, alloc, "{}");
-    assert!(rt;
-        matches!(
-            &external_id(alloc, &none, "id"),
-            Err(Fault::Refused(IdRefusal::MissingId))
-        )
-    );
-    for (length, want) in [(0, false), (511, true), (512, false)] {
-        let mut text = String::new(alloc);
-        for _ in 0..length {
-            text.push('x').expect(&rt, "memory");
-        }
-        let id = id_of(alloc, &Value::String(text)).expect(&rt, "memory");
-        assert_eq!(rt; id.is_some(), want, "at {length}");
+    for (text, wanted) in &IDS {
+        check_text(&rt, &id_text(&rt, rt.alloc(), text), wanted, text);
+    }
+    for (length, wanted) in &LENGTHS {
+        check_length(&rt, rt.alloc(), *length, *wanted);
     }
 }
 
-// The key that a document gives, or the number of candidates in brackets.
+// A document, and the key that it gives or the number of candidates in brackets.
+const KEYS: [(&str, &str); 4] = [
+    ("{\"movieId\":1}", "movieId"),
+    ("{\"t\":1}", "[0]"),
+    ("{\"ID\":1,\"pid\":2}", "[2]"),
+    ("{\"i\":{\"id\":1},\"id \":2,\"iD\":3}", "iD"),
+];
+
 fn shown_key(rt: &impl Abort, alloc: Global, text: &str) -> String {
-    let shown = match &infer_key(alloc, &document(rt, alloc, text)) {
-        Ok(key) => String::from_str(alloc, key.as_str()),
-        Err(Fault::Refused(KeyRefusal::NoCandidate)) => String::from_str(alloc, "[0]"),
-        Err(Fault::Refused(KeyRefusal::SeveralCandidates { count })) => format!(in alloc;
-            "[{}]",
-            count
-        ),
-        Err(Fault::NoMemory) => String::from_str(alloc, "no memory"),
+    let shown = match &infer_key(alloc, &document_of(rt, alloc, text)) {
+        Ok(key) => format!(in alloc; "{}", key.as_str()),
+        Err(Fault::Refused(KeyRefusal::NoCandidate)) => format!(in alloc; "[0]"),
+        Err(Fault::Refused(KeyRefusal::SeveralCandidates { count })) => {
+            format!(in alloc; "[{count}]")
+        }
+        Err(Fault::NoMemory) => format!(in alloc; "no memory"),
     };
     shown.expect(rt, "memory")
 }
 
 #[test]
 fn keys_of_documents(rt: HostRuntime) {
-    for (text, want) in [
-        ("{\"movieId\":1}", "movieId"),
-        ("{\"t\":1}", "[0]"),
-        ("{\"ID\":1,\"pid\":2}", "[2]"),
-        ("{\"i\":{\"id\":1},\"id \":2,\"iD\":3}", "iD"),
-    ] {
-        let shown = shown_key(&rt, rt.alloc(), text);
-        assert_eq!(rt; shown.as_str(), want, "at {text}");
+    for (text, wanted) in &KEYS {
+        check_text(&rt, &shown_key(&rt, rt.alloc(), text), wanted, text);
+    }
+}
+
+// A body, and how many documents it has or why it has none.
+const BODIES: [(&str, &str); 5] = [
+    ("[{},{\"a\":1}]", "2"),
+    ("{\"a\":[1]}", "1"),
+    ("[{},{\"a\":[1.0]},7]", "not whole at 2 [a]"),
+    ("[1.5]", "no object at 1"),
+    ("\"\"", "no list"),
+];
+
+fn fault_text(rt: &impl Abort, alloc: Global, fault: &BodyFault) -> String {
+    let shown = match fault {
+        Fault::Refused(BodyRefusal::NotList) => format!(in alloc; "no list"),
+        Fault::Refused(BodyRefusal::NotObject { document }) => {
+            format!(in alloc; "no object at {document}")
+        }
+        Fault::Refused(BodyRefusal::NumberNotWhole { document, path }) => {
+            format!(in alloc; "not whole at {document} [{}]", path.as_str())
+        }
+        Fault::NoMemory => format!(in alloc; "no memory"),
+    };
+    shown.expect(rt, "memory")
+}
+
+fn body_text(rt: &impl Abort, alloc: Global, body: &str) -> String {
+    let value = Value::from_str(alloc, body).expect(rt, "JSON");
+    match &documents_of(alloc, value) {
+        Ok(documents) => documents.len().to_string(alloc).expect(rt, "memory"),
+        Err(fault) => fault_text(rt, alloc, fault),
     }
 }
 
 #[test]
-fn documents_of_bodies(rt: HostRuntime) -> Result<(), Fail> {
-    let alloc = rt.alloc();
-    let two = documents_of(alloc, Value::from_str(alloc, "[{},{\"a\":1}]")?).expect(&rt, "two");
-    assert_eq!(rt; two.len(), 2);
-    let one = documents_of(alloc, Value::from_str(alloc, "{\"a\":[1]}")?).expect(&rt, "one");
-    assert_eq!(rt; one.len(), 1);
-    let broken = documents_of(alloc, Value::from_str(alloc, "[{},{\"a\":[1.0]},7]")?);
-    match &broken {
-        Err(Fault::Refused(BodyRefusal::NumberNotWhole { document, path })) => {
-            assert_eq!(rt; *document, 2);
-            assert_eq!(rt; path.as_str(), "a");
-        }
-        _ => assert!(rt; false, "no fault"),
+fn documents_of_bodies(rt: HostRuntime) {
+    for (body, wanted) in &BODIES {
+        check_text(&rt, &body_text(&rt, rt.alloc(), body), wanted, body);
     }
-    let number = documents_of(alloc, Value::from_str(alloc, "[1.5]")?);
-    assert!(rt;
-        matches!(
-            &number,
-            Err(Fault::Refused(BodyRefusal::NotObject { document: 1 }))
-        )
-    );
-    let text = documents_of(alloc, Value::from_str(alloc, "\"\"")?);
-    assert!(rt; matches!(&text, Err(Fault::Refused(BodyRefusal::NotList))));
-    Ok(())
 }
+
+fn text_of(rt: &impl Abort, alloc: Global, document: &Document) -> DocumentText {
+    DocumentText::of(alloc, document).expect(rt, "memory")
+}
+
+fn check_kept(rt: &impl Abort, alloc: Global, text: &str, wanted: bool) {
+    let kept = DocumentText::at(alloc, text.as_bytes()).expect(rt, "memory");
+    check(rt, kept.is_some() == wanted, text);
+}
+
+const MERGED: &str = "{\"a\":{\"y\":null},\"b\":2,\"c\":3,\"id\":1}";
+
+// Texts that are not those of a document, as it is kept.
+const NOT_KEPT: [&str; 5] = ["{\"b\":1,\"a\":2}", "{ }", "[]", "{\"a\":1.5}", "{"];
 
 #[test]
 fn update_and_kept_text(rt: HostRuntime) {
     let alloc = rt.alloc();
-    let old = document(&rt, alloc, "{ \"id\": 1, \"a\": {\"x\": 1}, \"b\": 2 }");
-    let new = document(&rt, alloc, "{\"c\":3,\"a\":{\"y\":null}}");
+    let old = document_of(&rt, alloc, "{ \"id\": 1, \"a\": {\"x\": 1}, \"b\": 2 }");
+    let new = document_of(&rt, alloc, "{\"c\":3,\"a\":{\"y\":null}}");
     let both = merged(alloc, &old, &new).expect(&rt, "memory");
-    let want = "{\"a\":{\"y\":null},\"b\":2,\"c\":3,\"id\":1}".as_bytes();
-    let kept = DocumentText::of(alloc, &both).expect(&rt, "memory");
-    assert!(rt; kept.text().as_bytes() == want);
+    let kept = text_of(&rt, alloc, &both);
+    check_text(&rt, kept.text(), MERGED, "kept");
     let back = kept.document(alloc).expect(&rt, "memory");
-    let again = DocumentText::of(alloc, &back).expect(&rt, "memory");
-    assert!(rt; again.text() == kept.text());
-    let found = DocumentText::at(alloc, want).expect(&rt, "memory");
-    assert!(rt; found.is_some());
-    for other in ["{\"b\":1,\"a\":2}", "{ }", "[]", "{\"a\":1.5}", "{"] {
-        let none = DocumentText::at(alloc, other.as_bytes()).expect(&rt, "memory");
-        assert!(rt; none.is_none(), "at {other}");
+    check_text(&rt, text_of(&rt, alloc, &back).text(), MERGED, "back");
+    check_kept(&rt, alloc, MERGED, true);
+    for text in &NOT_KEPT {
+        check_kept(&rt, alloc, text, false);
     }
 }

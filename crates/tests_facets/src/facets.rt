@@ -1,246 +1,365 @@
+use crate::checks::{check, check_ids, set, word};
 use doc_sets::DocSet;
-use facet_index::{DocLeaves, FacetIndex};
+use facet_index::{FacetChange, FacetIndex};
 use facet_keys::{greatest_key, least_key, mark_key, value_key};
 use postings::{Change, Postings};
 use search_base::{DocId, FacetValue, Leaf, Mark, MarkKind, PathId, Place, Word};
 use std::alloc::Global;
 use std::ops::Bound;
-use std::test::Fail;
+use std::process::Abort;
+
+// A document with its leaves and marks.
+#[derive(Drop)]
+pub(crate) struct DocLeaves {
+    pub(crate) id: DocId,
+    pub(crate) leaves: Vec<Leaf>,
+    pub(crate) marks: Vec<Mark>,
+}
 
 const FIRST: i128 = -(1 << 63);
 
 const LAST: i128 = (1 << 64) - 1;
 
-fn number(path: u16, n: i128) -> (PathId, FacetValue) {
-    (PathId(path), FacetValue::Number(n))
+// A value as it is written here.
+enum Given {
+    Number(i128),
+    Text(&'static str),
 }
 
-fn text(alloc: Global, path: u16, text: &str) -> Result<(PathId, FacetValue), Fail> {
-    Ok((PathId(path), FacetValue::Text(Word::new(alloc, text)?)))
+fn value(rt: &impl Abort, alloc: Global, given: &Given) -> FacetValue {
+    match given {
+        Given::Number(number) => FacetValue::Number(*number),
+        Given::Text(text) => FacetValue::Text(word(rt, alloc, text)),
+    }
 }
 
-fn document(
-    alloc: Global,
+// A document: its number, its values with their paths, and its marks with theirs.
+struct Document {
     id: u32,
-    values: Vec<(PathId, FacetValue)>,
-    marks: &[(u16, MarkKind)],
-) -> Result<DocLeaves, Fail> {
-    let mut leaves = Vec::new(alloc);
-    for (path, value) in values {
-        let shown = Word::new(alloc, "as it was written")?;
-        leaves.push(Leaf { path, value, shown })?;
-    }
-    let mut kept = Vec::new(alloc);
-    for (path, kind) in marks {
-        kept.push(Mark {
-            path: PathId(*path),
-            kind: *kind,
-        })?;
-    }
-    Ok(DocLeaves {
-        id: DocId(id),
-        leaves,
-        marks: kept,
-    })
+    values: &'static [(u16, Given)],
+    marks: &'static [(u16, MarkKind)],
 }
 
 // Two paths: 0 has numbers and texts, 1 has texts. Each document has a mark of another kind.
-fn documents(alloc: Global) -> Result<Vec<DocLeaves>, Fail> {
-    let first = Vec::from_array(alloc, [number(0, FIRST), text(alloc, 1, "all")?])?;
-    let second = Vec::from_array(
-        alloc,
-        [number(0, 7), text(alloc, 0, "7")?, text(alloc, 1, "all")?],
-    )?;
-    let third = Vec::from_array(
-        alloc,
-        [
-            number(0, LAST),
-            number(0, -1),
-            text(alloc, 1, "all")?,
-            text(alloc, 1, "one")?,
+const DOCUMENTS: [Document; 3] = [
+    Document {
+        id: 1,
+        values: &[(0, Given::Number(FIRST)), (1, Given::Text("all"))],
+        marks: &[(0, MarkKind::Exists)],
+    },
+    Document {
+        id: 5,
+        values: &[
+            (0, Given::Number(7)),
+            (0, Given::Text("7")),
+            (1, Given::Text("all")),
         ],
-    )?;
-    let mut documents = Vec::new(alloc);
-    documents.push(document(alloc, 1, first, &[(0, MarkKind::Exists)])?)?;
-    documents.push(document(
-        alloc,
-        5,
-        second,
-        &[(0, MarkKind::Exists), (1, MarkKind::Null)],
-    )?)?;
-    documents.push(document(alloc, 700, third, &[(1, MarkKind::Empty)])?)?;
-    Ok(documents)
+        marks: &[(0, MarkKind::Exists), (1, MarkKind::Null)],
+    },
+    Document {
+        id: 700,
+        values: &[
+            (0, Given::Number(LAST)),
+            (0, Given::Number(-1)),
+            (1, Given::Text("all")),
+            (1, Given::Text("one")),
+        ],
+        marks: &[(1, MarkKind::Empty)],
+    },
+];
+
+fn leaf(rt: &impl Abort, alloc: Global, path: u16, value: FacetValue) -> Leaf {
+    Leaf {
+        path: PathId(path),
+        value,
+        shown: word(rt, alloc, "as it was written"),
+    }
 }
 
-fn commit(
+fn leaves_of(rt: &impl Abort, alloc: Global, values: &[(u16, Given)]) -> Vec<Leaf> {
+    let mut leaves = Vec::new(alloc);
+    for (path, given) in values {
+        let leaf = leaf(rt, alloc, *path, value(rt, alloc, given));
+        leaves.push(leaf).expect(rt, "memory");
+    }
+    leaves
+}
+
+fn marks_of(rt: &impl Abort, alloc: Global, marks: &[(u16, MarkKind)]) -> Vec<Mark> {
+    let mut kept = Vec::new(alloc);
+    for (path, kind) in marks {
+        let mark = Mark {
+            path: PathId(*path),
+            kind: *kind,
+        };
+        kept.push(mark).expect(rt, "memory");
+    }
+    kept
+}
+
+fn documents(rt: &impl Abort, alloc: Global) -> Vec<DocLeaves> {
+    let mut documents = Vec::new(alloc);
+    for document in &DOCUMENTS {
+        let leaves = DocLeaves {
+            id: DocId(document.id),
+            leaves: leaves_of(rt, alloc, document.values),
+            marks: marks_of(rt, alloc, document.marks),
+        };
+        documents.push(leaves).expect(rt, "memory");
+    }
+    documents
+}
+
+// The change in which these documents go and these come.
+fn change(rt: &impl Abort, alloc: Global, gone: &[DocLeaves], come: &[DocLeaves]) -> FacetChange {
+    let mut change = FacetChange::new(alloc);
+    for document in gone {
+        let (leaves, marks) = (document.leaves.as_slice(), document.marks.as_slice());
+        let taken = change.take_out(alloc, document.id, leaves, marks);
+        taken.expect(rt, "memory");
+    }
+    for document in come {
+        let (leaves, marks) = (document.leaves.as_slice(), document.marks.as_slice());
+        let put = change.put_in(alloc, document.id, leaves, marks);
+        put.expect(rt, "memory");
+    }
+    change
+}
+
+pub(crate) fn commit(
+    rt: &impl Abort,
     alloc: Global,
     index: &mut FacetIndex,
     gone: &[DocLeaves],
     come: &[DocLeaves],
-) -> Result<(), Fail> {
-    let prepared = index.prepare(alloc, gone, come)?;
-    index.release(prepared);
-    let prepared = index.prepare(alloc, gone, come)?;
-    index.commit(prepared);
-    Ok(())
+) {
+    let prepared = index.prepare(alloc, change(rt, alloc, gone, come));
+    index.commit(prepared.expect(rt, "memory"));
 }
 
-fn set(alloc: Global, ids: &[u32]) -> Result<DocSet, Fail> {
-    let mut set = DocSet::new(alloc);
-    for id in ids {
-        set.insert(DocId(*id))?;
+// Prepares a change and lets it go, and then does it.
+fn commit_again(
+    rt: &impl Abort,
+    alloc: Global,
+    index: &mut FacetIndex,
+    gone: &[DocLeaves],
+    come: &[DocLeaves],
+) {
+    let prepared = index.prepare(alloc, change(rt, alloc, gone, come));
+    index.release(prepared.expect(rt, "memory"));
+    commit(rt, alloc, index, gone, come);
+}
+
+fn check_equal(
+    rt: &impl Abort,
+    alloc: Global,
+    index: &FacetIndex,
+    path: u16,
+    value: &FacetValue,
+    universe: &DocSet,
+    ids: &[u32],
+) {
+    let docs = index.equal(alloc, PathId(path), value, universe);
+    check_ids(rt, &docs.expect(rt, "memory"), ids, "equal");
+}
+
+fn check_marked(
+    rt: &impl Abort,
+    alloc: Global,
+    index: &FacetIndex,
+    path: u16,
+    kind: MarkKind,
+    universe: &DocSet,
+    ids: &[u32],
+) {
+    let docs = index.marked(alloc, PathId(path), kind, universe);
+    check_ids(rt, &docs.expect(rt, "memory"), ids, "marked");
+}
+
+// A path, a value, and the documents that have it there.
+const EQUAL: [(u16, Given, &[u32]); 8] = [
+    (1, Given::Text("all"), &[1, 5, 700]),
+    (1, Given::Text("one"), &[700]),
+    (0, Given::Text("7"), &[5]),
+    (0, Given::Number(7), &[5]),
+    (0, Given::Number(FIRST), &[1]),
+    (0, Given::Number(LAST), &[700]),
+    (1, Given::Number(7), &[]),
+    (1, Given::Text("al"), &[]),
+];
+
+fn check_values(rt: &impl Abort, alloc: Global, index: &FacetIndex, all: &DocSet) {
+    for (path, given, ids) in &EQUAL {
+        let value = value(rt, alloc, given);
+        check_equal(rt, alloc, index, *path, &value, all, ids);
     }
-    Ok(set)
-}
-
-// Whether the set has exactly these documents.
-fn is(docs: &DocSet, ids: &[u32]) -> bool {
-    docs.len() == ids.len() as u64 && ids.iter().all(|id| docs.contains(DocId(*id)))
 }
 
 #[test]
-fn values_and_marks(rt: HostRuntime) -> Result<(), Fail> {
+fn values_and_marks(rt: HostRuntime) {
     let alloc = rt.alloc();
     let mut index = FacetIndex::new(alloc);
-    let documents = documents(alloc)?;
-    commit(alloc, &mut index, &[], documents.as_slice())?;
-    let all = set(alloc, &[1, 3, 5, 700])?;
-    let some = set(alloc, &[3, 5])?;
-    let cases = Vec::from_array(
-        alloc,
-        [
-            (text(alloc, 1, "all")?, Vec::from_array(alloc, [1, 5, 700])?),
-            (text(alloc, 1, "one")?, Vec::from_array(alloc, [700])?),
-            (text(alloc, 0, "7")?, Vec::from_array(alloc, [5])?),
-            (number(0, 7), Vec::from_array(alloc, [5])?),
-            (number(0, FIRST), Vec::from_array(alloc, [1])?),
-            (number(0, LAST), Vec::from_array(alloc, [700])?),
-            (number(1, 7), Vec::new(alloc)),
-            (text(alloc, 1, "al")?, Vec::new(alloc)),
-        ],
-    )?;
-    for ((path, value), ids) in &cases {
-        assert!(rt; is(&index.equal(alloc, *path, value, &all)?, ids.as_slice()));
-    }
-    assert!(rt;
-        is(
-            &index.equal(alloc, PathId(1), &text(alloc, 1, "all")?.1, &some)?,
-            &[5]
-        )
+    let documents = documents(&rt, alloc);
+    commit_again(&rt, alloc, &mut index, &[], &documents);
+    let all = set(&rt, alloc, &[1, 3, 5, 700]);
+    let some = set(&rt, alloc, &[3, 5]);
+    check_values(&rt, alloc, &index, &all);
+    let text = value(&rt, alloc, &Given::Text("all"));
+    check_equal(&rt, alloc, &index, 1, &text, &some, &[5]);
+    check_marked(&rt, alloc, &index, 0, MarkKind::Exists, &all, &[1, 5]);
+    check_marked(&rt, alloc, &index, 1, MarkKind::Null, &all, &[5]);
+    check_marked(&rt, alloc, &index, 1, MarkKind::Empty, &some, &[]);
+    commit_again(&rt, alloc, &mut index, &documents, &[]);
+    check_equal(&rt, alloc, &index, 1, &text, &all, &[]);
+}
+
+fn range(
+    rt: &impl Abort,
+    alloc: Global,
+    index: &FacetIndex,
+    path: u16,
+    (low, high): (i128, i128),
+    universe: &DocSet,
+) -> DocSet {
+    let docs = index.range(alloc, PathId(path), low, high, universe);
+    docs.expect(rt, "memory")
+}
+
+// The ends, and which of the documents 1, 5 and 700 have a number there.
+const RANGES: [(i128, i128, &[u32]); 10] = [
+    (FIRST, LAST, &[1, 5, 700]),
+    (i128::MIN, i128::MAX, &[1, 5, 700]),
+    (i128::MIN, FIRST, &[1]),
+    (FIRST, -1, &[1, 700]),
+    (FIRST + 1, -2, &[]),
+    (7, 7, &[5]),
+    (8, LAST - 1, &[]),
+    (LAST, i128::MAX, &[700]),
+    (LAST + 1, i128::MAX, &[]),
+    (7, -1, &[]),
+];
+
+// How many of the documents 5 and 700 are among these.
+fn count_of_some(ids: &[u32]) -> u64 {
+    u64::from(ids.contains(&5)) + u64::from(ids.contains(&700))
+}
+
+fn check_range(
+    rt: &impl Abort,
+    alloc: Global,
+    index: &FacetIndex,
+    ends: (i128, i128),
+    ids: &[u32],
+) {
+    let all = set(rt, alloc, &[1, 5, 700]);
+    check_ids(rt, &range(rt, alloc, index, 0, ends, &all), ids, "all");
+    let some = set(rt, alloc, &[5, 700]);
+    let inside = range(rt, alloc, index, 0, ends, &some);
+    check(rt, inside.len() == count_of_some(ids), "some");
+    check(
+        rt,
+        range(rt, alloc, index, 1, ends, &all).is_empty(),
+        "no number",
     );
-    assert!(rt;
-        is(
-            &index.marked(alloc, PathId(0), MarkKind::Exists, &all)?,
-            &[1, 5]
-        )
-    );
-    assert!(rt; is(&index.marked(alloc, PathId(1), MarkKind::Null, &all)?, &[5]));
-    assert!(rt;
-        is(
-            &index.marked(alloc, PathId(1), MarkKind::Empty, &some)?,
-            &[]
-        )
-    );
-    commit(alloc, &mut index, documents.as_slice(), &[])?;
-    assert!(rt;
-        is(
-            &index.equal(alloc, PathId(1), &text(alloc, 1, "all")?.1, &all)?,
-            &[]
-        )
-    );
-    Ok(())
 }
 
 #[test]
-fn ranges_of_numbers(rt: HostRuntime) -> Result<(), Fail> {
+fn ranges_of_numbers(rt: HostRuntime) {
     let alloc = rt.alloc();
     let mut index = FacetIndex::new(alloc);
-    commit(alloc, &mut index, &[], documents(alloc)?.as_slice())?;
-    let all = set(alloc, &[1, 5, 700])?;
-    let some = set(alloc, &[5, 700])?;
-    // The ends, and which of the documents 1, 5 and 700 have a number there.
-    for (low, high, one, five, last) in [
-        (FIRST, LAST, true, true, true),
-        (i128::MIN, i128::MAX, true, true, true),
-        (i128::MIN, FIRST, true, false, false),
-        (FIRST, -1, true, false, true),
-        (FIRST + 1, -2, false, false, false),
-        (7, 7, false, true, false),
-        (8, LAST - 1, false, false, false),
-        (LAST, i128::MAX, false, false, true),
-        (LAST + 1, i128::MAX, false, false, false),
-        (7, -1, false, false, false),
-    ] {
-        let docs = index.range(alloc, PathId(0), low, high, &all)?;
-        assert_eq!(rt;
-            (
-                docs.contains(DocId(1)),
-                docs.contains(DocId(5)),
-                docs.contains(DocId(700))
-            ),
-            (one, five, last)
-        );
-        let inside = index.range(alloc, PathId(0), low, high, &some)?;
-        assert_eq!(rt; inside.len(), u64::from(five) + u64::from(last));
-        assert!(rt; index.range(alloc, PathId(1), low, high, &all)?.is_empty());
+    commit_again(&rt, alloc, &mut index, &[], &documents(&rt, alloc));
+    for (low, high, ids) in &RANGES {
+        check_range(&rt, alloc, &index, (*low, *high), ids);
     }
-    Ok(())
 }
 
-#[test]
-fn a_document_of_many_values(rt: HostRuntime) -> Result<(), Fail> {
-    let alloc = rt.alloc();
-    let mut index = FacetIndex::new(alloc);
-    let mut values = Vec::new(alloc);
+// Document 9 with ten thousand numbers at path 3.
+fn many(rt: &impl Abort, alloc: Global) -> Vec<DocLeaves> {
+    let mut leaves = Vec::new(alloc);
     for n in 0..10_000_u32 {
-        values.push(number(3, i128::from(n)))?;
+        let leaf = leaf(rt, alloc, 3, FacetValue::Number(i128::from(n)));
+        leaves.push(leaf).expect(rt, "memory");
     }
-    let many = Vec::from_array(alloc, [document(alloc, 9, values, &[])?])?;
-    let prepared = index.prepare(alloc, &[], many.as_slice())?;
-    index.commit(prepared);
-    let all = set(alloc, &[9, 10])?;
-    assert!(rt;
-        is(
-            &index.equal(alloc, PathId(3), &FacetValue::Number(9_999), &all)?,
-            &[9]
-        )
-    );
-    assert!(rt; is(&index.range(alloc, PathId(3), 10_000, LAST, &all)?, &[]));
-    let prepared = index.prepare(alloc, many.as_slice(), &[])?;
-    index.commit(prepared);
-    assert!(rt; is(&index.range(alloc, PathId(3), FIRST, LAST, &all)?, &[]));
-    Ok(())
+    let document = DocLeaves {
+        id: DocId(9),
+        leaves,
+        marks: Vec::new(alloc),
+    };
+    Vec::from_array(alloc, [document]).expect(rt, "memory")
+}
+
+#[test]
+fn a_document_of_many_values(rt: HostRuntime) {
+    let alloc = rt.alloc();
+    let mut index = FacetIndex::new(alloc);
+    let many = many(&rt, alloc);
+    commit(&rt, alloc, &mut index, &[], &many);
+    let all = set(&rt, alloc, &[9, 10]);
+    let last = FacetValue::Number(9_999);
+    check_equal(&rt, alloc, &index, 3, &last, &all, &[9]);
+    let above = range(&rt, alloc, &index, 3, (10_000, LAST), &all);
+    check(&rt, above.is_empty(), "above");
+    commit(&rt, alloc, &mut index, &many, &[]);
+    let none = range(&rt, alloc, &index, 3, (FIRST, LAST), &all);
+    check(&rt, none.is_empty(), "none");
+}
+
+const PATHS: [PathId; 4] = [PathId(0), PathId(127), PathId(128), PathId(u16::MAX)];
+
+const KINDS: [MarkKind; 3] = [MarkKind::Exists, MarkKind::Null, MarkKind::Empty];
+
+// Values in order: numbers, and then texts.
+const VALUES: [Given; 12] = [
+    Given::Number(i128::MIN),
+    Given::Number(FIRST),
+    Given::Number(-1),
+    Given::Number(0),
+    Given::Number(1),
+    Given::Number(127),
+    Given::Number(128),
+    Given::Number(LAST),
+    Given::Number(i128::MAX),
+    Given::Text(""),
+    Given::Text("a"),
+    Given::Text("ab"),
+];
+
+fn add_keys(rt: &impl Abort, alloc: Global, path: PathId, keys: &mut Vec<Word>) {
+    for kind in &KINDS {
+        let key = mark_key(alloc, path, *kind).expect(rt, "memory");
+        keys.push(key).expect(rt, "memory");
+    }
+    for given in &VALUES {
+        let key = value_key(alloc, path, &value(rt, alloc, given));
+        keys.push(key.expect(rt, "memory")).expect(rt, "memory");
+    }
+}
+
+fn add_bounds(rt: &impl Abort, alloc: Global, path: PathId, keys: &mut Vec<Word>) {
+    let number = FacetValue::Number(5);
+    let text = FacetValue::Text(word(rt, alloc, "a"));
+    let key = least_key(alloc, path, &number).expect(rt, "memory");
+    keys.push(key).expect(rt, "memory");
+    let key = least_key(alloc, path, &text).expect(rt, "memory");
+    keys.push(key).expect(rt, "memory");
+    let key = greatest_key(alloc, path, &text).expect(rt, "memory");
+    keys.push(key).expect(rt, "memory");
+    let key = greatest_key(alloc, path, &number).expect(rt, "memory");
+    keys.push(key).expect(rt, "memory");
 }
 
 // The keys in order: by path, then marks, numbers, texts and least values, and greatest values with texts first.
 #[test]
-fn keys_in_order(rt: HostRuntime) -> Result<(), Fail> {
+fn keys_in_order(rt: HostRuntime) {
     let alloc = rt.alloc();
-    let texts = [
-        text(alloc, 0, "")?.1,
-        text(alloc, 0, "a")?.1,
-        text(alloc, 0, "ab")?.1,
-    ];
     let mut keys = Vec::new(alloc);
-    for path in [PathId(0), PathId(127), PathId(128), PathId(u16::MAX)] {
-        for kind in [MarkKind::Exists, MarkKind::Null, MarkKind::Empty] {
-            keys.push(mark_key(alloc, path, kind)?)?;
-        }
-        for n in [i128::MIN, FIRST, -1, 0, 1, 127, 128, LAST, i128::MAX] {
-            keys.push(value_key(alloc, path, &FacetValue::Number(n))?)?;
-        }
-        for value in &texts {
-            keys.push(value_key(alloc, path, value)?)?;
-        }
-        keys.push(least_key(alloc, path, &FacetValue::Number(5))?)?;
-        keys.push(least_key(alloc, path, &texts[1])?)?;
-        keys.push(greatest_key(alloc, path, &texts[1])?)?;
-        keys.push(greatest_key(alloc, path, &FacetValue::Number(5))?)?;
+    for path in &PATHS {
+        add_keys(&rt, alloc, *path, &mut keys);
+        add_bounds(&rt, alloc, *path, &mut keys);
     }
     for (key, next) in keys.iter().zip(keys.iter().skip(1)) {
-        assert!(rt; key < next);
+        check(&rt, key < next, "keys");
     }
-    Ok(())
 }
 
 // How many words there are from a bound on.
@@ -252,35 +371,51 @@ fn from(postings: &Postings, low: Bound<&Word>) -> usize {
     count
 }
 
-#[test]
-fn words_from_a_bound(rt: HostRuntime) -> Result<(), Fail> {
-    let alloc = rt.alloc();
-    let mut postings = Postings::new(alloc);
+fn places(rt: &impl Abort, alloc: Global) -> Vec<Place> {
     let mut places = Vec::new(alloc);
-    for word in ["a", "ab", "b"] {
-        places.push(Place {
+    for text in &["a", "ab", "b"] {
+        let place = Place {
             path: PathId(0),
             rank: 0,
             position: 0,
-            word: Word::new(alloc, word)?,
-        })?;
+            word: word(rt, alloc, text),
+        };
+        places.push(place).expect(rt, "memory");
     }
+    places
+}
+
+fn three_words(rt: &impl Abort, alloc: Global) -> Postings {
+    let mut postings = Postings::new(alloc);
     let mut change = Change::new(alloc);
-    change.put_in(alloc, DocId(2), places.as_slice())?;
-    let prepared = postings.prepare(alloc, change)?;
+    let places = places(rt, alloc);
+    change.put_in(alloc, DocId(2), &places).expect(rt, "memory");
+    let prepared = postings.prepare(alloc, change).expect(rt, "memory");
     postings.commit(prepared);
-    for (word, with, without) in [
-        ("", 3, 3),
-        ("a", 3, 2),
-        ("aa", 2, 2),
-        ("ab", 2, 1),
-        ("b", 1, 0),
-        ("c", 0, 0),
-    ] {
-        let word = Word::new(alloc, word)?;
-        assert_eq!(rt; from(&postings, Bound::Included(&word)), with);
-        assert_eq!(rt; from(&postings, Bound::Excluded(&word)), without);
+    postings
+}
+
+// A word, and how many words there are from it on, with it and without it.
+const BOUNDS: [(&str, usize, usize); 6] = [
+    ("", 3, 3),
+    ("a", 3, 2),
+    ("aa", 2, 2),
+    ("ab", 2, 1),
+    ("b", 1, 0),
+    ("c", 0, 0),
+];
+
+#[test]
+fn words_from_a_bound(rt: HostRuntime) {
+    let postings = three_words(&rt, rt.alloc());
+    for (text, with, without) in &BOUNDS {
+        let word = word(&rt, rt.alloc(), text);
+        check(&rt, from(&postings, Bound::Included(&word)) == *with, text);
+        check(
+            &rt,
+            from(&postings, Bound::Excluded(&word)) == *without,
+            text,
+        );
     }
-    assert_eq!(rt; from(&postings, Bound::Unbounded), 3);
-    Ok(())
+    check(&rt, from(&postings, Bound::Unbounded) == 3, "all");
 }

@@ -1,7 +1,8 @@
-ghost use Rattle.std.specs.Prelude.{◌≡◌, ◌<◌, length, IfSome};
+ghost use Rattle.std.specs.Prelude.{◌<◌, length, IfSome};
 ghost use Rattle.doc_values.specs.Changes.{kind_view};
 ghost use Rattle.index_core.specs.Keyed.{HasKey};
 
+use crate::checks::{add, check, check_text, word};
 use doc_values::{ChangeKind, DocumentText, documents_of};
 use filter_tree::Filter;
 use index_core::{CoreFault, CoreRefusal, Hit, IndexCore, SearchRefusal};
@@ -30,62 +31,85 @@ fn documents(rt: &impl Abort, alloc: Global, body: &str) -> Vec<DocumentText> {
     texts
 }
 
-fn word(rt: &impl Abort, alloc: Global, text: &str) -> Word
-    ensures { result ≡ text.now }
-{
-    Word::new(alloc, text).expect(rt, "memory")
+// What comes of a change, in a few words.
+fn outcome(done: &Result<(), CoreFault>) -> &'static str {
+    match done {
+        Ok(()) => "done",
+        Err(Fault::Refused(CoreRefusal::NoCandidate)) => "no candidate",
+        Err(Fault::Refused(CoreRefusal::SeveralCandidates)) => "several candidates",
+        Err(Fault::Refused(CoreRefusal::KeyDiffers)) => "key differs",
+        Err(Fault::Refused(CoreRefusal::MissingId { document: 2 })) => "no id at 2",
+        Err(Fault::Refused(CoreRefusal::BadId { document: 2 })) => "bad id at 2",
+        Err(Fault::Refused(CoreRefusal::Settings(SettingsRefusal::WrongShape { .. }))) => "shape",
+        Err(_) => "another fault",
+    }
 }
 
-fn change(alloc: Global, index: &mut IndexCore, kind: ChangeKind) -> Result<(), CoreFault>
+// Plans a change and does it, and gives what comes of it.
+fn change(alloc: Global, index: &mut IndexCore, kind: ChangeKind) -> &'static str
     requires { HasKey (kind_view kind) }
 {
     let mut fetches = Steps::<Fetch>::new();
-    let plan = index.plan(alloc, kind)?;
-    index.apply(alloc, plan, &mut fetches)
+    match index.plan(alloc, kind) {
+        Ok(plan) => outcome(&index.apply(alloc, plan, &mut fetches)),
+        Err(fault) => outcome(&Err(fault)),
+    }
 }
 
-fn add(
+// A key of this name, or none where it is empty.
+fn key_of(rt: &impl Abort, alloc: Global, name: &str) -> Option<Word>
+    ensures { IfSome result (λ text. 0 < length text) }
+{
+    if name.is_empty() {
+        return None;
+    }
+    Some(word(rt, alloc, name))
+}
+
+fn replace(
     rt: &impl Abort,
     alloc: Global,
     index: &mut IndexCore,
-    key: Option<Word>,
+    key: &str,
     body: &str,
-) -> Result<(), CoreFault>
-    requires { IfSome key (λ text. 0 < length text) }
-{
+) -> &'static str {
     let documents = documents(rt, alloc, body);
+    let key = key_of(rt, alloc, key);
     change(alloc, index, ChangeKind::Replace { key, documents })
 }
 
-fn update(
-    rt: &impl Abort,
-    alloc: Global,
-    index: &mut IndexCore,
-    body: &str,
-) -> Result<(), CoreFault> {
+fn update(rt: &impl Abort, alloc: Global, index: &mut IndexCore, body: &str) -> &'static str {
     let documents = documents(rt, alloc, body);
-    change(
-        alloc,
-        index,
-        ChangeKind::Update {
-            key: None,
-            documents,
-        },
-    )
+    let key = None;
+    change(alloc, index, ChangeKind::Update { key, documents })
 }
 
-fn remove(rt: &impl Abort, alloc: Global, index: &mut IndexCore, names: &str) {
+fn patch(rt: &impl Abort, alloc: Global, index: &mut IndexCore, body: &str) -> &'static str {
+    let members = Value::from_str(alloc, body).expect(rt, "JSON");
+    change(alloc, index, ChangeKind::Patch { members })
+}
+
+fn check_replaced(rt: &impl Abort, alloc: Global, index: &mut IndexCore, body: &str) {
+    check_text(rt, replace(rt, alloc, index, "", body), "done", body);
+}
+
+fn check_patched(rt: &impl Abort, alloc: Global, index: &mut IndexCore, body: &str) {
+    check_text(rt, patch(rt, alloc, index, body), "done", body);
+}
+
+fn check_removed(rt: &impl Abort, alloc: Global, index: &mut IndexCore, names: &str) {
     let mut ids = Vec::new(alloc);
     for name in names.split(' ') {
         ids.push(word(rt, alloc, name)).expect(rt, "memory");
     }
     let done = change(alloc, index, ChangeKind::Remove { ids });
-    assert!(rt; done.is_ok());
+    check_text(rt, done, "done", names);
 }
 
-fn films(rt: &impl Abort, alloc: Global) -> IndexCore {
+// An index with the documents of a body.
+fn filled(rt: &impl Abort, alloc: Global, body: &str) -> IndexCore {
     let mut index = IndexCore::new(alloc).expect(rt, "memory");
-    assert!(rt; add(rt, alloc, &mut index, None, FILMS).is_ok());
+    check_replaced(rt, alloc, &mut index, body);
     index
 }
 
@@ -108,17 +132,21 @@ fn told(rt: &impl Abort, alloc: Global, index: &IndexCore, call: &SearchCall) ->
     let result = index.search(alloc, call, &mut fetches).expect(rt, "memory");
     let mut told = String::new(alloc);
     for hit in &result.hits {
-        let document = hit.document.document(alloc).expect(rt, "memory");
-        let id = document.as_json().get("id").expect(rt, "an id");
-        let name = id.to_string(alloc).expect(rt, "memory");
-        told.push_str(name.as_str()).expect(rt, "memory");
+        tell_id(rt, alloc, &hit.document, &mut told);
         if call.costs {
             tell_costs(rt, hit, &mut told);
         }
-        told.push(' ').expect(rt, "memory");
+        add(rt, &mut told, " ");
     }
     write!(told, "of {}", result.total).expect(rt, "memory");
     told
+}
+
+fn tell_id(rt: &impl Abort, alloc: Global, kept: &DocumentText, told: &mut String) {
+    let document = kept.document(alloc).expect(rt, "memory");
+    let id = document.as_json().get("id").expect(rt, "an id");
+    let name = id.to_string(alloc).expect(rt, "memory");
+    add(rt, told, &name);
 }
 
 fn tell_costs(rt: &impl Abort, hit: &Hit, told: &mut String) {
@@ -134,26 +162,69 @@ fn tell_key(rt: &impl Abort, key: &SortKey, told: &mut String) {
     match key {
         SortKey::Number(number) => write!(told, ",{number}").expect(rt, "memory"),
         SortKey::Text(text) => write!(told, ",{}", text.as_str()).expect(rt, "memory"),
-        SortKey::Missing => told.push_str(",null").expect(rt, "memory"),
+        SortKey::Missing => add(rt, told, ",null"),
     }
 }
 
-fn found(
+fn check_told(
+    rt: &impl Abort,
+    alloc: Global,
+    index: &IndexCore,
+    call: &SearchCall,
+    wanted: &str,
+    row: &str,
+) {
+    check_text(rt, &told(rt, alloc, index, call), wanted, row);
+}
+
+fn check_found(
     rt: &impl Abort,
     alloc: Global,
     index: &IndexCore,
     q: &str,
     offset: u64,
     limit: u64,
-) -> String {
-    told(rt, alloc, index, &call(rt, alloc, q, offset, limit))
+    wanted: &str,
+) {
+    let call = call(rt, alloc, q, offset, limit);
+    check_told(rt, alloc, index, &call, wanted, q);
 }
 
-fn text(rt: &impl Abort, alloc: Global, index: &IndexCore, id: &str) -> String {
-    let mut fetches = Steps::<Fetch>::new();
-    match index.get(&word(rt, alloc, id), &mut fetches) {
-        Some(document) => String::from_str(alloc, document.text()).expect(rt, "memory"),
-        None => String::new(alloc),
+// Changes of a new index, one behind the other: whether documents are updated, a key, a body, what comes of it, and
+// whether the index has a key then.
+const KEYS: [(bool, &str, &str, &str, bool); 6] = [
+    (false, "", r#"[{"t":1}]"#, "no candidate", false),
+    (
+        false,
+        "",
+        r#"[{"ID":1,"pid":2}]"#,
+        "several candidates",
+        false,
+    ),
+    (false, "id", "[]", "done", true),
+    (false, "pid", "[]", "key differs", true),
+    (
+        true,
+        "",
+        r#"[{"id":2},{"t":1},{"id":[]}]"#,
+        "no id at 2",
+        true,
+    ),
+    (false, "", r#"[{"id":2},{"id":"a b"}]"#, "bad id at 2", true),
+];
+
+fn replace_or_update(
+    rt: &impl Abort,
+    alloc: Global,
+    index: &mut IndexCore,
+    updates: bool,
+    key: &str,
+    body: &str,
+) -> &'static str {
+    if updates {
+        update(rt, alloc, index, body)
+    } else {
+        replace(rt, alloc, index, key, body)
     }
 }
 
@@ -161,32 +232,12 @@ fn text(rt: &impl Abort, alloc: Global, index: &IndexCore, id: &str) -> String {
 fn keys_and_ids_of_a_change(rt: HostRuntime) {
     let alloc = rt.alloc();
     let mut index = IndexCore::new(alloc).expect(&rt, "memory");
-    let none = add(&rt, alloc, &mut index, None, "[{\"t\":1}]");
-    assert!(rt; matches!(none, Err(Fault::Refused(CoreRefusal::NoCandidate))));
-    let several = add(&rt, alloc, &mut index, None, "[{\"ID\":1,\"pid\":2}]");
-    assert!(rt; matches!(several, Err(Fault::Refused(CoreRefusal::SeveralCandidates))));
-    let key = Some(word(&rt, alloc, "id"));
-    assert!(rt; add(&rt, alloc, &mut index, key, "[]").is_ok());
-    assert!(rt; index.key().is_some());
-    let other = Some(word(&rt, alloc, "pid"));
-    let differs = add(&rt, alloc, &mut index, other, "[]");
-    assert!(rt; matches!(differs, Err(Fault::Refused(CoreRefusal::KeyDiffers))));
-    let missing = update(&rt, alloc, &mut index, "[{\"id\":2},{\"t\":1},{\"id\":[]}]");
-    assert!(rt;
-        matches!(
-            missing,
-            Err(Fault::Refused(CoreRefusal::MissingId { document: 2 }))
-        )
-    );
-    let bad = add(
-        &rt,
-        alloc,
-        &mut index,
-        None,
-        "[{\"id\":2},{\"id\":\"a b\"}]",
-    );
-    assert!(rt; matches!(bad, Err(Fault::Refused(CoreRefusal::BadId { document: 2 }))));
-    assert!(rt; index.is_empty());
+    for (updates, key, body, wanted, has_key) in &KEYS {
+        let found = replace_or_update(&rt, alloc, &mut index, *updates, key, body);
+        check_text(&rt, found, wanted, body);
+        check(&rt, index.key().is_some() == *has_key, body);
+    }
+    check(&rt, index.is_empty(), "no document");
 }
 
 // Patches of the settings, parted by `&`; words that the search has beside the text (`all` for every word, `costs`
@@ -228,75 +279,77 @@ const SEARCHES: &str = r#"{}~~dark knight~2 1 3 of 3
 {"searchableAttributes":["title"]}&{"searchableAttributes":null}~~action~2 1 of 2
 {"searchableAttributes":["title"]}&{"stopWords":5}~~action~of 0"#;
 
-fn patch(
-    rt: &impl Abort,
-    alloc: Global,
-    index: &mut IndexCore,
-    body: &str,
-) -> Result<(), CoreFault> {
-    let members = Value::from_str(alloc, body).expect(rt, "JSON");
-    change(alloc, index, ChangeKind::Patch { members })
+// Each patch is done, or has a member of a wrong shape.
+fn apply_patches(rt: &impl Abort, alloc: Global, index: &mut IndexCore, bodies: &str) {
+    for body in bodies.split('&') {
+        let done = patch(rt, alloc, index, body);
+        check(rt, done == "done" || done == "shape", body);
+    }
+}
+
+fn call_beside(rt: &impl Abort, alloc: Global, beside: &str, q: &str) -> SearchCall {
+    let mut call = call(rt, alloc, q, 0, 20);
+    if beside == "all" {
+        call.strategy = Strategy::All;
+    }
+    call.costs = beside == "costs";
+    call
+}
+
+fn check_search(rt: &impl Abort, alloc: Global, index: &mut IndexCore, row: &str) {
+    let mut parts = row.split('~');
+    apply_patches(rt, alloc, index, parts.next().unwrap_or(""));
+    let beside = parts.next().unwrap_or("");
+    let call = call_beside(rt, alloc, beside, parts.next().unwrap_or(""));
+    check_told(rt, alloc, index, &call, parts.next().unwrap_or(""), row);
+    check_text(rt, change(alloc, index, ChangeKind::Reset), "done", row);
+}
+
+fn check_searches(rt: &impl Abort, alloc: Global, index: &mut IndexCore, table: &str) {
+    for row in table.lines() {
+        check_search(rt, alloc, index, row);
+    }
 }
 
 #[test]
 fn searches_of_the_films_under_settings(rt: HostRuntime) {
-    let alloc = rt.alloc();
-    let mut index = films(&rt, alloc);
-    for row in SEARCHES.lines() {
-        let mut parts = row.split('~');
-        for body in parts.next().unwrap_or("").split('&') {
-            if let Err(fault) = patch(&rt, alloc, &mut index, body) {
-                let refused = matches!(
-                    fault,
-                    Fault::Refused(CoreRefusal::Settings(SettingsRefusal::WrongShape { .. }))
-                );
-                assert!(rt; refused, "{row}");
-            }
-        }
-        let beside = parts.next().unwrap_or("");
-        let mut call = call(&rt, alloc, parts.next().unwrap_or(""), 0, 20);
-        if beside == "all" {
-            call.strategy = Strategy::All;
-        }
-        call.costs = beside == "costs";
-        let want = parts.next().unwrap_or("");
-        assert_eq!(rt; told(&rt, alloc, &index, &call).as_str(), want, "{row}");
-        assert!(rt;
-            change(alloc, &mut index, ChangeKind::Reset).is_ok(),
-            "{row}"
-        );
-    }
+    let mut index = filled(&rt, rt.alloc(), FILMS);
+    check_searches(&rt, rt.alloc(), &mut index, SEARCHES);
 }
+
+const TWO_KINDS: &str = r#"[{"id":"a","x":"t"},{"id":"b","x":5},{"id":"c"}]"#;
+
+const BY_X: [&str; 2] = [
+    r#"{"rankingRules":["x:asc"]}"#,
+    r#"{"rankingRules":["x:desc"]}"#,
+];
 
 // Numbers come before texts, and a missing key is last in both directions.
 #[test]
 fn keys_of_two_kinds(rt: HostRuntime) {
     let alloc = rt.alloc();
-    let mut index = IndexCore::new(alloc).expect(&rt, "memory");
-    let body = "[{\"id\":\"a\",\"x\":\"t\"},{\"id\":\"b\",\"x\":5},{\"id\":\"c\"}]";
-    assert!(rt; add(&rt, alloc, &mut index, None, body).is_ok());
-    for rules in [
-        "{\"rankingRules\":[\"x:asc\"]}",
-        "{\"rankingRules\":[\"x:desc\"]}",
-    ] {
-        assert!(rt; patch(&rt, alloc, &mut index, rules).is_ok());
-        assert_eq!(rt;
-            found(&rt, alloc, &index, "", 0, 9).as_str(),
-            "\"b\" \"a\" \"c\" of 3"
-        );
+    let mut index = filled(&rt, alloc, TWO_KINDS);
+    for rules in &BY_X {
+        check_patched(&rt, alloc, &mut index, rules);
+        check_found(&rt, alloc, &index, "", 0, 9, "\"b\" \"a\" \"c\" of 3");
     }
 }
+
+// A text, how many hits are passed over, how many are shown at most, and what is found of the films.
+const WINDOWS: [(&str, u64, u64, &str); 4] = [
+    ("knight rises", 1, 1, "3 of 3"),
+    ("knight rises", 0, 0, "of 3"),
+    ("", 3, 2, "4 of 4"),
+    ("dark", u64::MAX, u64::MAX, "of 4"),
+];
 
 #[test]
 fn windows_of_the_films(rt: HostRuntime) {
     let alloc = rt.alloc();
-    let index = films(&rt, alloc);
-    let q = "knight rises";
-    assert_eq!(rt; found(&rt, alloc, &index, q, 1, 1).as_str(), "3 of 3");
-    assert_eq!(rt; found(&rt, alloc, &index, q, 0, 0).as_str(), "of 3");
-    assert_eq!(rt; found(&rt, alloc, &index, "", 3, 2).as_str(), "4 of 4");
-    let far = found(&rt, alloc, &index, "dark", u64::MAX, u64::MAX);
-    assert_eq!(rt; far.as_str(), "of 4");
+    let index = filled(&rt, alloc, FILMS);
+    for (q, offset, limit, wanted) in &WINDOWS {
+        check_found(&rt, alloc, &index, q, *offset, *limit, wanted);
+    }
 }
 
 fn may_not_be_sorted_by(alloc: Global, index: &IndexCore, call: &SearchCall) -> bool {
@@ -312,22 +365,21 @@ fn may_not_be_sorted_by(alloc: Global, index: &IndexCore, call: &SearchCall) -> 
 #[test]
 fn pages_and_criteria(rt: HostRuntime) {
     let alloc = rt.alloc();
-    let mut index = films(&rt, alloc);
-    let mut sorted = call(&rt, alloc, "", 0, 20);
-    let attribute = word(&rt, alloc, "year");
-    let criterion = Criterion {
-        attribute,
-        up: false,
-    };
-    sorted.sort.push(criterion).expect(&rt, "memory");
-    assert!(rt; may_not_be_sorted_by(alloc, &index, &sorted));
-    let year = "{\"sortableAttributes\":[\"year\"]}";
-    assert!(rt; patch(&rt, alloc, &mut index, year).is_ok());
-    assert_eq!(rt; told(&rt, alloc, &index, &sorted).as_str(), "2 1 4 3 of 4");
-    sorted.window = Window::Page { page: 2, per: 3 };
-    assert_eq!(rt; told(&rt, alloc, &index, &sorted).as_str(), "3 of 4");
-    sorted.window = Window::Page { page: 0, per: 3 };
-    assert_eq!(rt; told(&rt, alloc, &index, &sorted).as_str(), "of 4");
+    let mut index = filled(&rt, alloc, FILMS);
+    let mut call = sorted_call(&rt, alloc, "year:desc");
+    let refused = may_not_be_sorted_by(alloc, &index, &call);
+    check(&rt, refused, "not sortable");
+    check_patched(
+        &rt,
+        alloc,
+        &mut index,
+        "{\"sortableAttributes\":[\"year\"]}",
+    );
+    check_told(&rt, alloc, &index, &call, "2 1 4 3 of 4", "all");
+    call.window = Window::Page { page: 2, per: 3 };
+    check_told(&rt, alloc, &index, &call, "3 of 4", "page 2");
+    call.window = Window::Page { page: 0, per: 3 };
+    check_told(&rt, alloc, &index, &call, "of 4", "page 0");
 }
 
 // By several criteria, and by paths that hold numbers and texts: numbers come first, and what is missing last.
@@ -340,86 +392,113 @@ const MIXED: &str =
     r#"[{"id":"a","x":"t","y":1},{"id":"b","x":[5,"z"],"y":1},{"id":"c","y":-2},{"id":"d","x":[7,true]},
 {"id":"e","y":[1,9]}]"#;
 
-fn criteria(rt: &impl Abort, alloc: Global, texts: &str) -> Vec<Criterion> {
-    let mut criteria = Vec::new(alloc);
-    for text in texts.split(' ') {
-        let (name, way) = text.split_once(':').unwrap_or((text, ""));
-        let attribute = word(rt, alloc, name);
-        let up = way == "asc";
-        criteria
-            .push(Criterion { attribute, up })
-            .expect(rt, "memory");
+fn criterion(rt: &impl Abort, alloc: Global, text: &str) -> Criterion {
+    let (name, way) = text.split_once(':').unwrap_or((text, ""));
+    Criterion {
+        attribute: word(rt, alloc, name),
+        up: way == "asc",
     }
-    criteria
+}
+
+// A call for all documents, sorted by these criteria.
+fn sorted_call(rt: &impl Abort, alloc: Global, criteria: &str) -> SearchCall {
+    let mut call = call(rt, alloc, "", 0, 20);
+    for text in criteria.split(' ') {
+        let criterion = criterion(rt, alloc, text);
+        call.sort.push(criterion).expect(rt, "memory");
+    }
+    call
+}
+
+fn check_sorted(rt: &impl Abort, alloc: Global, index: &IndexCore, table: &str) {
+    for row in table.lines() {
+        let (criteria, wanted) = row.split_once('~').unwrap_or((row, ""));
+        let call = sorted_call(rt, alloc, criteria);
+        check_told(rt, alloc, index, &call, wanted, row);
+    }
 }
 
 #[test]
 fn several_criteria_and_values_of_two_kinds(rt: HostRuntime) {
     let alloc = rt.alloc();
-    let mut index = IndexCore::new(alloc).expect(&rt, "memory");
-    assert!(rt; add(&rt, alloc, &mut index, None, MIXED).is_ok());
+    let mut index = filled(&rt, alloc, MIXED);
     let paths = "{\"sortableAttributes\":[\"x\",\"y\"]}";
-    assert!(rt; patch(&rt, alloc, &mut index, paths).is_ok());
-    for row in SORTED.lines() {
-        let (texts, want) = row.split_once('~').unwrap_or((row, ""));
-        let mut sorted = call(&rt, alloc, "", 0, 20);
-        sorted.sort = criteria(&rt, alloc, texts);
-        assert_eq!(rt; told(&rt, alloc, &index, &sorted).as_str(), want, "{row}");
-    }
+    check_patched(&rt, alloc, &mut index, paths);
+    check_sorted(&rt, alloc, &index, SORTED);
 }
 
 #[test]
 fn removed_documents_come_again_behind_the_others(rt: HostRuntime) {
     let alloc = rt.alloc();
-    let mut index = films(&rt, alloc);
-    remove(&rt, alloc, &mut index, "2 9");
-    assert_eq!(rt; index.len(), 3);
-    assert_eq!(rt;
-        found(&rt, alloc, &index, "dark knight", 0, 9).as_str(),
-        "1 3 of 2"
-    );
+    let mut index = filled(&rt, alloc, FILMS);
+    check_removed(&rt, alloc, &mut index, "2 9");
+    check(&rt, index.len() == 3, "three films");
+    check_found(&rt, alloc, &index, "dark knight", 0, 9, "1 3 of 2");
     let again = "[{\"id\":2,\"title\":\"Dark Knight Rises\"}]";
-    assert!(rt; add(&rt, alloc, &mut index, None, again).is_ok());
-    assert_eq!(rt;
-        found(&rt, alloc, &index, "", 0, 9).as_str(),
-        "1 3 4 2 of 4"
-    );
-    assert!(rt; change(alloc, &mut index, ChangeKind::Clear).is_ok());
-    assert_eq!(rt; found(&rt, alloc, &index, "", 0, 9).as_str(), "of 0");
-    assert!(rt; add(&rt, alloc, &mut index, None, FILMS).is_ok());
-    assert_eq!(rt; found(&rt, alloc, &index, "rises", 0, 9).as_str(), "2 of 1");
+    check_replaced(&rt, alloc, &mut index, again);
+    check_found(&rt, alloc, &index, "", 0, 9, "1 3 4 2 of 4");
+    let cleared = change(alloc, &mut index, ChangeKind::Clear);
+    check_text(&rt, cleared, "done", "cleared");
+    check_found(&rt, alloc, &index, "", 0, 9, "of 0");
+    check_replaced(&rt, alloc, &mut index, FILMS);
+    check_found(&rt, alloc, &index, "rises", 0, 9, "2 of 1");
+}
+
+const UPDATES: &str = r#"[{"id":3,"genres":["Western"]},{"id":5,"a":1},{"id":5,"b":2}]"#;
+
+// An id, and the document under it then.
+const UPDATED: [(&str, &str); 3] = [
+    (
+        "3",
+        r#"{"genres":["Western"],"id":3,"title":"Knight of the Dark","year":1999}"#,
+    ),
+    ("5", r#"{"a":1,"b":2,"id":5}"#),
+    ("6", ""),
+];
+
+fn check_document(rt: &impl Abort, alloc: Global, index: &IndexCore, id: &str, wanted: &str) {
+    let mut fetches = Steps::<Fetch>::new();
+    let found = match index.get(&word(rt, alloc, id), &mut fetches) {
+        Some(document) => document.text(),
+        None => "",
+    };
+    check_text(rt, found, wanted, id);
 }
 
 #[test]
 fn updates_keep_what_they_do_not_name(rt: HostRuntime) {
     let alloc = rt.alloc();
-    let mut index = films(&rt, alloc);
-    let body = "[{\"id\":3,\"genres\":[\"Western\"]},{\"id\":5,\"a\":1},{\"id\":5,\"b\":2}]";
-    assert!(rt; update(&rt, alloc, &mut index, body).is_ok());
-    assert_eq!(rt;
-        text(&rt, alloc, &index, "3").as_str(),
-        "{\"genres\":[\"Western\"],\"id\":3,\"title\":\"Knight of the Dark\",\"year\":1999}"
-    );
-    assert_eq!(rt;
-        text(&rt, alloc, &index, "5").as_str(),
-        "{\"a\":1,\"b\":2,\"id\":5}"
-    );
-    assert_eq!(rt; text(&rt, alloc, &index, "6").as_str(), "");
-    assert_eq!(rt;
-        found(&rt, alloc, &index, "western", 0, 9).as_str(),
-        "3 of 1"
-    );
+    let mut index = filled(&rt, alloc, FILMS);
+    let done = update(&rt, alloc, &mut index, UPDATES);
+    check_text(&rt, done, "done", UPDATES);
+    for (id, wanted) in &UPDATED {
+        check_document(&rt, alloc, &index, id, wanted);
+    }
+    check_found(&rt, alloc, &index, "western", 0, 9, "3 of 1");
+}
+
+// How many films are passed over, how many are listed at most, and how many are listed.
+const LISTINGS: [(u64, u64, usize); 2] = [(3, 2, 1), (u64::MAX, u64::MAX, 0)];
+
+fn check_listing(
+    rt: &impl Abort,
+    alloc: Global,
+    index: &IndexCore,
+    offset: u64,
+    limit: u64,
+    count: usize,
+) {
+    let mut fetches = Steps::<Fetch>::new();
+    let listing = index.list(alloc, offset, limit, &mut fetches);
+    let listing = listing.expect(rt, "memory");
+    check(rt, listing.total == 4, "four films");
+    check(rt, listing.documents.len() == count, "listed");
 }
 
 #[test]
 fn list_of_the_films(rt: HostRuntime) {
-    let alloc = rt.alloc();
-    let index = films(&rt, alloc);
-    let mut fetches = Steps::<Fetch>::new();
-    let listing = index.list(alloc, 3, 2, &mut fetches).expect(&rt, "memory");
-    assert_eq!(rt; (listing.total, listing.documents.len()), (4, 1));
-    let far = index
-        .list(alloc, u64::MAX, u64::MAX, &mut fetches)
-        .expect(&rt, "memory");
-    assert_eq!(rt; (far.total, far.documents.len()), (4, 0));
+    let index = filled(&rt, rt.alloc(), FILMS);
+    for (offset, limit, count) in &LISTINGS {
+        check_listing(&rt, rt.alloc(), &index, *offset, *limit, *count);
+    }
 }

@@ -1,47 +1,47 @@
-use crate::places::{Document, Spot, WORDS, commit, next, word};
+use crate::checks::check;
+use crate::places::{Document, Spot, WORDS, add_document, commit, next, over_and_over, word};
 use doc_sets::DocSet;
 use near_words::{documents_by_pair_cost, pair_cost};
 use postings::Postings;
 use search_base::DocId;
 use sorted_pages::is_increasing;
 use std::alloc::Global;
-use std::test::Fail;
+use std::process::Abort;
+
+// The entries of the left word, those of the right one, and the cost.
+const PAIRS: [([u64; 2], [u64; 2], u8); 13] = [
+    ([1, 100], [2, 200], 0),
+    ([2, 100], [1, 200], 1),
+    ([1, 100], [8, 200], 6),
+    ([1, 100], [9, 200], 7),
+    ([8, 100], [2, 200], 6),
+    ([8, 100], [1, 200], 7),
+    ([3, 4], [3, 4], 0),
+    ([4, 90], [4, 80], 7),
+    ([1, 50], [30, 53], 2),
+    ([1, 53], [30, 50], 3),
+    ([0xffff, 0x5_0000], [0x1_0000, 0x9_0000], 7),
+    ([0x1_0000, 0x5_0000], [0xffff, 0x9_0000], 7),
+    (
+        [0xffff_ffff, 0x5_0000_0000],
+        [0x1_0000_0000, 0x9_0000_0000],
+        7,
+    ),
+];
 
 // The pair cost of two lists of entries, each of which is below the next.
-fn cost_of(left: &[u64], right: &[u64]) -> Result<u8, Fail> {
-    if is_increasing(left) && is_increasing(right) {
-        Ok(pair_cost(left, right))
-    } else {
-        Err("the entries do not increase")?
-    }
+fn check_cost(rt: &impl Abort, left: &[u64], right: &[u64], cost: u8) {
+    assert!(rt; is_increasing(left));
+    assert!(rt; is_increasing(right));
+    check(rt, pair_cost(left, right) == cost, "cost");
 }
 
 #[test]
-fn pair_costs(rt: HostRuntime) -> Result<(), Fail> {
-    // The entries of the left word, those of the right one, and the cost.
-    for (left, right, cost) in [
-        ([1, 100], [2, 200], 0),
-        ([2, 100], [1, 200], 1),
-        ([1, 100], [8, 200], 6),
-        ([1, 100], [9, 200], 7),
-        ([8, 100], [2, 200], 6),
-        ([8, 100], [1, 200], 7),
-        ([3, 4], [3, 4], 0),
-        ([4, 90], [4, 80], 7),
-        ([1, 50], [30, 53], 2),
-        ([1, 53], [30, 50], 3),
-        ([0xffff, 0x5_0000], [0x1_0000, 0x9_0000], 7),
-        ([0x1_0000, 0x5_0000], [0xffff, 0x9_0000], 7),
-        (
-            [0xffff_ffff, 0x5_0000_0000],
-            [0x1_0000_0000, 0x9_0000_0000],
-            7,
-        ),
-    ] {
-        assert_eq!(rt; cost_of(&left, &right)?, cost);
+fn pair_costs(rt: HostRuntime) {
+    for (left, right, cost) in &PAIRS {
+        check_cost(&rt, left, right, *cost);
     }
-    assert_eq!(rt; cost_of(&[], &[1])?, 7);
-    Ok(())
+    check_cost(&rt, &[], &[1], 7);
 }
 
 // Whether the word is asked for, each by its place in the table.
@@ -89,94 +89,116 @@ fn is_right(sets: &[DocSet], id: DocId, member: bool, cost: u32) -> bool {
     at == 7
 }
 
-// Whether the sets of two words are those of the documents.
-fn are_right(
+fn sets_of(
+    rt: &impl Abort,
+    alloc: Global,
+    postings: &Postings,
+    universe: &DocSet,
+    (left, prefix, right): (usize, bool, usize),
+) -> Vec<DocSet> {
+    let (left, right) = (word(rt, alloc, left), word(rt, alloc, right));
+    let sets = documents_by_pair_cost(alloc, universe, postings, &left, prefix, &right);
+    sets.expect(rt, "memory")
+}
+
+// The sets of two words are those of the documents.
+fn check_sets(
+    rt: &impl Abort,
     alloc: Global,
     postings: &Postings,
     documents: &[Document],
     universe: &DocSet,
     (left, prefix, right): (usize, bool, usize),
-) -> Result<bool, Fail> {
-    let sets = documents_by_pair_cost(
-        alloc,
-        universe,
-        postings,
-        &word(alloc, left)?,
-        prefix,
-        &word(alloc, right)?,
-    )?;
+) {
+    let sets = sets_of(rt, alloc, postings, universe, (left, prefix, right));
     for (id, spots) in documents {
         let id = DocId(*id);
         let cost = plain_cost(spots, left, prefix, right);
-        if !is_right(sets.as_slice(), id, universe.contains(id), cost) {
-            return Ok(false);
-        }
+        check(rt, is_right(&sets, id, universe.contains(id), cost), "sets");
     }
-    Ok(true)
 }
 
-fn any_spots(alloc: Global, seed: &mut u64) -> Result<Vec<Spot>, Fail> {
+fn any_spot(seed: &mut u64) -> Spot {
+    let at = (next(seed) % 6) as usize;
+    let path = (next(seed) % 2) as u16;
+    let position = match next(seed) % 8 {
+        0 => u16::MAX,
+        _ => (next(seed) % 24) as u16,
+    };
+    (at, path, position)
+}
+
+fn any_spots(rt: &impl Abort, alloc: Global, seed: &mut u64) -> Vec<Spot> {
     let mut spots = Vec::new(alloc);
     for _ in 0..next(seed) % 12 {
-        let at = (next(seed) % 6) as usize;
-        let path = (next(seed) % 2) as u16;
-        let position = match next(seed) % 8 {
-            0 => u16::MAX,
-            _ => (next(seed) % 24) as u16,
-        };
-        spots.push((at, path, position))?;
+        spots.push(any_spot(seed)).expect(rt, "memory");
     }
-    Ok(spots)
+    spots
+}
+
+fn insert(rt: &impl Abort, universe: &mut DocSet, id: u32) {
+    let _new = universe.insert(DocId(id)).expect(rt, "memory");
+}
+
+// Sixty documents, and a universe of about two in three of them and of others.
+fn any_documents(
+    rt: &impl Abort,
+    alloc: Global,
+    universe: &mut DocSet,
+    seed: &mut u64,
+) -> Vec<Document> {
+    let mut documents = Vec::new(alloc);
+    let mut id: u32 = 0;
+    for _ in 0..60 {
+        id = id.wrapping_add((next(seed) % 40) as u32 + 1);
+        add_document(rt, &mut documents, id, any_spots(rt, alloc, seed));
+        if next(seed) % 3 > 0 {
+            insert(rt, universe, id);
+        }
+        insert(rt, universe, id.wrapping_add(1));
+    }
+    documents
 }
 
 #[test]
-fn random_documents(rt: HostRuntime) -> Result<(), Fail> {
+fn random_documents(rt: HostRuntime) {
     let alloc = rt.alloc();
     let mut seed = 21;
     let mut postings = Postings::new(alloc);
-    let mut documents: Vec<Document> = Vec::new(alloc);
     let mut universe = DocSet::new(alloc);
-    let mut id: u32 = 0;
-    for _ in 0..60 {
-        id = id.wrapping_add((next(&mut seed) % 40) as u32 + 1);
-        documents.push((id, any_spots(alloc, &mut seed)?))?;
-        if next(&mut seed) % 3 > 0 {
-            universe.insert(DocId(id))?;
-        }
-        universe.insert(DocId(id.wrapping_add(1)))?;
+    let documents = any_documents(&rt, alloc, &mut universe, &mut seed);
+    commit(&rt, alloc, &mut postings, &[], &documents);
+    for pair in 0..36_usize {
+        let (left, right) = (pair / 6, pair % 6);
+        check_sets(
+            &rt,
+            alloc,
+            &postings,
+            &documents,
+            &universe,
+            (left, false, right),
+        );
+        check_sets(
+            &rt,
+            alloc,
+            &postings,
+            &documents,
+            &universe,
+            (left, true, right),
+        );
     }
-    commit(alloc, &mut postings, &[], &documents)?;
-    for left in 0..6 {
-        for right in 0..6 {
-            for prefix in [false, true] {
-                let asked = (left, prefix, right);
-                assert!(rt; are_right(alloc, &postings, &documents, &universe, asked)?);
-            }
-        }
-    }
-    Ok(())
 }
 
 #[test]
-fn near_itself(rt: HostRuntime) -> Result<(), Fail> {
+fn near_itself(rt: HostRuntime) {
     let alloc = rt.alloc();
     let mut postings = Postings::new(alloc);
-    let mut spots = Vec::new(alloc);
-    for position in 0..0x1_0000_u32 {
-        spots.push((2, 1, position as u16))?;
-    }
-    commit(
-        alloc,
-        &mut postings,
-        &[],
-        &Vec::from_array(alloc, [(7, spots)])?,
-    )?;
+    let documents = over_and_over(&rt, alloc);
+    commit(&rt, alloc, &mut postings, &[], &documents);
     let mut universe = DocSet::new(alloc);
-    universe.insert(DocId(7))?;
-    let word = word(alloc, 2)?;
-    for prefix in [false, true] {
-        let sets = documents_by_pair_cost(alloc, &universe, &postings, &word, prefix, &word)?;
-        assert!(rt; is_right(sets.as_slice(), DocId(7), true, 0));
-    }
-    Ok(())
+    insert(&rt, &mut universe, 7);
+    let exact = sets_of(&rt, alloc, &postings, &universe, (2, false, 2));
+    check(&rt, is_right(&exact, DocId(7), true, 0), "the word");
+    let longer = sets_of(&rt, alloc, &postings, &universe, (2, true, 2));
+    check(&rt, is_right(&longer, DocId(7), true, 0), "the prefix");
 }

@@ -1,7 +1,8 @@
+use crate::checks::check;
 use postings::{Change, Postings};
 use search_base::{DocId, PathId, Place, Word};
 use std::alloc::Global;
-use std::test::Fail;
+use std::process::Abort;
 
 pub(crate) const WORDS: [&str; 6] = ["", "d", "dark", "darken", "knight", "ß"];
 
@@ -11,84 +12,92 @@ pub(crate) type Spot = (usize, u16, u16);
 // A document: its number and its words.
 pub(crate) type Document = (u32, Vec<Spot>);
 
-pub(crate) fn word(alloc: Global, at: usize) -> Result<Word, Fail> {
-    Ok(Word::new(alloc, WORDS.get(at).copied().unwrap_or("none"))?)
+pub(crate) fn word(rt: &impl Abort, alloc: Global, at: usize) -> Word {
+    Word::new(alloc, WORDS.get(at).copied().unwrap_or("none")).expect(rt, "memory")
 }
 
-fn places(alloc: Global, spots: &[Spot]) -> Result<Vec<Place>, Fail> {
+fn places(rt: &impl Abort, alloc: Global, spots: &[Spot]) -> Vec<Place> {
     let mut places = Vec::new(alloc);
     for (at, path, position) in spots {
-        places.push(Place {
+        let place = Place {
             path: PathId(*path),
             rank: 0,
             position: *position,
-            word: word(alloc, *at)?,
-        })?;
+            word: word(rt, alloc, *at),
+        };
+        places.push(place).expect(rt, "memory");
     }
-    Ok(places)
+    places
 }
 
-fn change(alloc: Global, gone: &[Document], come: &[Document]) -> Result<Change, Fail> {
+fn change(rt: &impl Abort, alloc: Global, gone: &[Document], come: &[Document]) -> Change {
     let mut change = Change::new(alloc);
     for (id, spots) in gone {
-        change.take_out(alloc, DocId(*id), places(alloc, spots)?.as_slice())?;
+        let places = places(rt, alloc, spots);
+        change
+            .take_out(alloc, DocId(*id), &places)
+            .expect(rt, "memory");
     }
     for (id, spots) in come {
-        change.put_in(alloc, DocId(*id), places(alloc, spots)?.as_slice())?;
+        let places = places(rt, alloc, spots);
+        change
+            .put_in(alloc, DocId(*id), &places)
+            .expect(rt, "memory");
     }
-    Ok(change)
+    change
 }
 
 pub(crate) fn commit(
+    rt: &impl Abort,
     alloc: Global,
     postings: &mut Postings,
     gone: &[Document],
     come: &[Document],
-) -> Result<(), Fail> {
-    let prepared = postings.prepare(alloc, change(alloc, gone, come)?)?;
+) {
+    let change = change(rt, alloc, gone, come);
+    let prepared = postings.prepare(alloc, change).expect(rt, "memory");
     postings.commit(prepared);
-    Ok(())
 }
 
 // The list of a word, empty where it has none.
-fn listed(alloc: Global, postings: &Postings, at: usize) -> Result<Vec<u64>, Fail> {
+fn listed(rt: &impl Abort, alloc: Global, postings: &Postings, at: usize) -> Vec<u64> {
     let mut entries = Vec::new(alloc);
-    if let Some(list) = postings.list(&word(alloc, at)?) {
+    if let Some(list) = postings.list(&word(rt, alloc, at)) {
         for entry in list.iter() {
-            entries.push(entry)?;
+            entries.push(entry).expect(rt, "memory");
         }
-        if entries.is_empty() {
-            Err("a list without a place")?;
-        }
+        check(rt, !entries.is_empty(), "a list has a place");
     }
-    Ok(entries)
+    entries
+}
+
+fn entry(id: u32, path: u16, position: u16) -> u64 {
+    (u64::from(id) << 32) | (u64::from(path) << 16) | u64::from(position)
 }
 
 // The same, from the documents.
-fn standing(alloc: Global, documents: &[Document], sought: usize) -> Result<Vec<u64>, Fail> {
+fn standing(rt: &impl Abort, alloc: Global, documents: &[Document], sought: usize) -> Vec<u64> {
     let mut entries = Vec::new(alloc);
     for (id, spots) in documents {
         for (at, path, position) in spots {
             if *at == sought {
-                entries.push(
-                    (u64::from(*id) << 32) | (u64::from(*path) << 16) | u64::from(*position),
-                )?;
+                let entry = entry(*id, *path, *position);
+                entries.push(entry).expect(rt, "memory");
             }
         }
     }
     entries.sort_unstable();
     entries.dedup();
-    Ok(entries)
+    entries
 }
 
-// Whether each list is that of the documents.
-fn stands_for(alloc: Global, postings: &Postings, documents: &[Document]) -> Result<bool, Fail> {
+// Each list is that of the documents.
+fn check_lists(rt: &impl Abort, alloc: Global, postings: &Postings, documents: &[Document]) {
     for at in 0..WORDS.len() {
-        if listed(alloc, postings, at)?.as_slice() != standing(alloc, documents, at)?.as_slice() {
-            return Ok(false);
-        }
+        let found = listed(rt, alloc, postings, at);
+        let wanted = standing(rt, alloc, documents, at);
+        check(rt, found.as_slice() == wanted.as_slice(), "lists");
     }
-    Ok(true)
 }
 
 // Numbers that look random.
@@ -99,169 +108,254 @@ pub(crate) fn next(seed: &mut u64) -> u64 {
     *seed >> 33
 }
 
-pub(crate) fn any_spots(alloc: Global, seed: &mut u64) -> Result<Vec<Spot>, Fail> {
+fn any_spot(seed: &mut u64) -> Spot {
+    let at = (next(seed) % 6) as usize;
+    let path = (next(seed) % 3) as u16;
+    let position = match next(seed) % 4 {
+        0 => u16::MAX,
+        _ => (next(seed) % 5) as u16,
+    };
+    (at, path, position)
+}
+
+pub(crate) fn any_spots(rt: &impl Abort, alloc: Global, seed: &mut u64) -> Vec<Spot> {
     let mut spots = Vec::new(alloc);
     for _ in 0..next(seed) % 9 {
-        let at = (next(seed) % 6) as usize;
-        let path = (next(seed) % 3) as u16;
-        let position = match next(seed) % 4 {
-            0 => u16::MAX,
-            _ => (next(seed) % 5) as u16,
-        };
-        spots.push((at, path, position))?;
+        spots.push(any_spot(seed)).expect(rt, "memory");
     }
-    Ok(spots)
+    spots
 }
 
 // Takes about a third of the documents out, and gives them.
 pub(crate) fn leave(
+    rt: &impl Abort,
     alloc: Global,
     documents: &mut Vec<Document>,
     seed: &mut u64,
-) -> Result<Vec<Document>, Fail> {
+) -> Vec<Document> {
     let mut gone = Vec::new(alloc);
     let mut stay = Vec::new(alloc);
     for _ in 0..documents.len() {
-        let Some(document) = documents.pop() else {
-            break;
-        };
-        if next(seed) % 3 == 0 {
-            gone.push(document)?;
-        } else {
-            stay.push(document)?;
+        if let Some(document) = documents.pop() {
+            if next(seed) % 3 == 0 {
+                gone.push(document).expect(rt, "memory");
+            } else {
+                stay.push(document).expect(rt, "memory");
+            }
         }
     }
     *documents = stay;
-    Ok(gone)
+    gone
+}
+
+pub(crate) fn add_document(
+    rt: &impl Abort,
+    documents: &mut Vec<Document>,
+    id: u32,
+    spots: Vec<Spot>,
+) {
+    documents.push((id, spots)).expect(rt, "memory");
+}
+
+// About half of those that go come again, and so many new ones.
+fn coming(
+    rt: &impl Abort,
+    alloc: Global,
+    gone: &[Document],
+    fresh: u32,
+    many: u32,
+    seed: &mut u64,
+) -> Vec<Document> {
+    let mut come = Vec::new(alloc);
+    for (id, _spots) in gone {
+        if next(seed) % 2 == 0 {
+            add_document(rt, &mut come, *id, any_spots(rt, alloc, seed));
+        }
+    }
+    for number in 0..many {
+        let id = fresh.wrapping_add(number);
+        add_document(rt, &mut come, id, any_spots(rt, alloc, seed));
+    }
+    come
+}
+
+fn release(
+    rt: &impl Abort,
+    alloc: Global,
+    postings: &mut Postings,
+    gone: &[Document],
+    come: &[Document],
+) {
+    let change = change(rt, alloc, gone, come);
+    let prepared = postings.prepare(alloc, change).expect(rt, "memory");
+    postings.release(prepared);
+}
+
+fn take_turn(
+    rt: &impl Abort,
+    alloc: Global,
+    postings: &mut Postings,
+    documents: &mut Vec<Document>,
+    turn: u32,
+    fresh: u32,
+    seed: &mut u64,
+) {
+    let gone = leave(rt, alloc, documents, seed);
+    let mut come = coming(rt, alloc, &gone, fresh, turn % 4, seed);
+    if turn % 5 == 0 {
+        release(rt, alloc, postings, &gone, &come);
+    }
+    commit(rt, alloc, postings, &gone, &come);
+    documents.append(&mut come).expect(rt, "memory");
+    check_lists(rt, alloc, postings, documents);
+}
+
+// What is prepared is not there before it is committed.
+fn check_emptied(rt: &impl Abort, alloc: Global, postings: &mut Postings, documents: &[Document]) {
+    let change = change(rt, alloc, documents, &[]);
+    let prepared = postings.prepare(alloc, change).expect(rt, "memory");
+    check_lists(rt, alloc, postings, documents);
+    postings.commit(prepared);
+    check_lists(rt, alloc, postings, &[]);
 }
 
 #[test]
-fn random_batches(rt: HostRuntime) -> Result<(), Fail> {
+fn random_batches(rt: HostRuntime) {
     let alloc = rt.alloc();
     let mut seed = 11;
     let mut postings = Postings::new(alloc);
     let mut documents: Vec<Document> = Vec::new(alloc);
     let mut fresh: u32 = 0;
     for turn in 0..40_u32 {
-        let gone = leave(alloc, &mut documents, &mut seed)?;
-        let mut come = Vec::new(alloc);
-        for (id, _spots) in &gone {
-            if next(&mut seed) % 2 == 0 {
-                come.push((*id, any_spots(alloc, &mut seed)?))?;
-            }
-        }
-        for _ in 0..turn % 4 {
-            come.push((fresh, any_spots(alloc, &mut seed)?))?;
-            fresh = fresh.wrapping_add(1);
-        }
-        if turn % 5 == 0 {
-            let prepared = postings.prepare(alloc, change(alloc, &gone, &come)?)?;
-            postings.release(prepared);
-        }
-        commit(alloc, &mut postings, &gone, &come)?;
-        documents.append(&mut come)?;
-        assert!(rt; stands_for(alloc, &postings, &documents)?);
+        take_turn(
+            &rt,
+            alloc,
+            &mut postings,
+            &mut documents,
+            turn,
+            fresh,
+            &mut seed,
+        );
+        fresh = fresh.wrapping_add(turn % 4);
     }
-    let all = change(alloc, &documents, &[])?;
-    let prepared = postings.prepare(alloc, all)?;
-    assert!(rt; stands_for(alloc, &postings, &documents)?);
-    postings.commit(prepared);
-    assert!(rt; stands_for(alloc, &postings, &[])?);
-    Ok(())
+    check_emptied(&rt, alloc, &mut postings, &documents);
 }
 
-#[test]
-fn numbers_of_documents(rt: HostRuntime) -> Result<(), Fail> {
-    let alloc = rt.alloc();
-    let mut postings = Postings::new(alloc);
+const NUMBERS: [u32; 5] = [0, 63, 64, 999_999, u32::MAX];
+
+const FIRST_AND_LAST: [Spot; 2] = [(2, 0, 0), (2, u16::MAX, u16::MAX)];
+
+pub(crate) fn spots_of(rt: &impl Abort, alloc: Global, spots: &[Spot]) -> Vec<Spot> {
+    Vec::from_slice(alloc, spots).expect(rt, "memory")
+}
+
+fn numbered(rt: &impl Abort, alloc: Global) -> Vec<Document> {
     let mut documents = Vec::new(alloc);
-    for id in [0, 63, 64, 999_999, u32::MAX] {
-        documents.push((
-            id,
-            Vec::from_array(alloc, [(2, 0, 0), (2, u16::MAX, u16::MAX)])?,
-        ))?;
+    for id in &NUMBERS {
+        let spots = spots_of(rt, alloc, &FIRST_AND_LAST);
+        add_document(rt, &mut documents, *id, spots);
     }
-    commit(alloc, &mut postings, &[], &documents)?;
-    assert!(rt; stands_for(alloc, &postings, &documents)?);
-    let mut gone = Vec::new(alloc);
-    if let Some(last) = documents.pop() {
-        gone.push(last)?;
-    }
-    commit(alloc, &mut postings, &gone, &[])?;
-    assert!(rt; stands_for(alloc, &postings, &documents)?);
-    Ok(())
+    documents
 }
 
 #[test]
-fn one_word_over_and_over(rt: HostRuntime) -> Result<(), Fail> {
+fn numbers_of_documents(rt: HostRuntime) {
     let alloc = rt.alloc();
     let mut postings = Postings::new(alloc);
+    let mut documents = numbered(&rt, alloc);
+    commit(&rt, alloc, &mut postings, &[], &documents);
+    check_lists(&rt, alloc, &postings, &documents);
+    let last = documents.pop().expect(&rt, "a document");
+    let gone = Vec::from_array(alloc, [last]).expect(&rt, "memory");
+    commit(&rt, alloc, &mut postings, &gone, &[]);
+    check_lists(&rt, alloc, &postings, &documents);
+}
+
+// A document of this number with one word at every position of a path.
+pub(crate) fn over_and_over(rt: &impl Abort, alloc: Global) -> Vec<Document> {
     let mut spots = Vec::new(alloc);
     for position in 0..0x1_0000_u32 {
-        spots.push((2, 1, position as u16))?;
+        spots.push((2, 1, position as u16)).expect(rt, "memory");
     }
-    let documents = Vec::from_array(alloc, [(7, spots)])?;
-    commit(alloc, &mut postings, &[], &documents)?;
-    assert_eq!(rt; listed(alloc, &postings, 2)?.len(), 65_536);
-    commit(alloc, &mut postings, &documents, &[])?;
-    assert!(rt; postings.list(&word(alloc, 2)?).is_none());
-    Ok(())
+    Vec::from_array(alloc, [(7, spots)]).expect(rt, "memory")
 }
 
-// How many words begin so, and how many places these have.
-fn with_prefix(
+#[test]
+fn one_word_over_and_over(rt: HostRuntime) {
+    let alloc = rt.alloc();
+    let mut postings = Postings::new(alloc);
+    let documents = over_and_over(&rt, alloc);
+    commit(&rt, alloc, &mut postings, &[], &documents);
+    check(&rt, listed(&rt, alloc, &postings, 2).len() == 65_536, "all");
+    commit(&rt, alloc, &mut postings, &documents, &[]);
+    let none = postings.list(&word(&rt, alloc, 2)).is_none();
+    check(&rt, none, "none");
+}
+
+// So many words begin so, those of the table from a place on, and they have so many places.
+fn check_prefix(
+    rt: &impl Abort,
     alloc: Global,
     postings: &Postings,
     prefix: &str,
-) -> Result<(Vec<Word>, usize), Fail> {
-    let prefix = Word::new(alloc, prefix)?;
-    let mut words = Vec::new(alloc);
+    from: usize,
+    many: usize,
+    places: usize,
+) {
+    let sought = Word::new(alloc, prefix).expect(rt, "memory");
+    let mut at = from;
     let mut count = 0_usize;
-    for (word, list) in postings.with_prefix(&prefix) {
-        words.push(word.clone()?)?;
+    for (word, list) in postings.with_prefix(&sought) {
+        check(rt, WORDS.get(at).copied() == Some(word.as_str()), prefix);
+        at = at.saturating_add(1);
         count = count.saturating_add(list.len());
     }
-    Ok((words, count))
+    check(rt, at.saturating_sub(from) == many, prefix);
+    check(rt, count == places, prefix);
+}
+
+const EACH_WORD: [Spot; 7] = [
+    (0, 0, 0),
+    (1, 0, 1),
+    (2, 0, 2),
+    (3, 0, 3),
+    (4, 0, 4),
+    (5, 0, 5),
+    (2, 0, 6),
+];
+
+// A prefix, from which place of the table on words begin so, how many, and their places.
+const PREFIXES: [(&str, usize, usize, usize); 7] = [
+    ("", 0, 6, 9),
+    ("d", 1, 3, 6),
+    ("da", 2, 2, 4),
+    ("darke", 3, 1, 2),
+    ("darkens", 4, 0, 0),
+    ("k", 4, 1, 1),
+    ("z", 5, 0, 0),
+];
+
+pub(crate) fn one_document(
+    rt: &impl Abort,
+    alloc: Global,
+    id: u32,
+    spots: &[Spot],
+) -> Vec<Document> {
+    let spots = spots_of(rt, alloc, spots);
+    Vec::from_array(alloc, [(id, spots)]).expect(rt, "memory")
 }
 
 #[test]
-fn words_that_begin_so(rt: HostRuntime) -> Result<(), Fail> {
+fn words_that_begin_so(rt: HostRuntime) {
     let alloc = rt.alloc();
     let mut postings = Postings::new(alloc);
-    let spots = [
-        (0, 0, 0),
-        (1, 0, 1),
-        (2, 0, 2),
-        (3, 0, 3),
-        (4, 0, 4),
-        (5, 0, 5),
-        (2, 0, 6),
-    ];
-    let first = Vec::from_array(alloc, [(1, Vec::from_array(alloc, spots)?)])?;
-    let second = Vec::from_array(
-        alloc,
-        [(2, Vec::from_array(alloc, [(1, 0, 0), (3, 9, 9)])?)],
-    )?;
-    commit(alloc, &mut postings, &[], &first)?;
-    commit(alloc, &mut postings, &[], &second)?;
-    // A prefix, from which place of the table on words begin so, how many, and their places.
-    for (prefix, from, many, places) in [
-        ("", 0, 6, 9),
-        ("d", 1, 3, 6),
-        ("da", 2, 2, 4),
-        ("darke", 3, 1, 2),
-        ("darkens", 4, 0, 0),
-        ("k", 4, 1, 1),
-        ("z", 5, 0, 0),
-    ] {
-        let (words, count) = with_prefix(alloc, &postings, prefix)?;
-        assert_eq!(rt; (words.len(), count), (many, places));
-        for (word, text) in words.iter().zip(WORDS.iter().skip(from)) {
-            assert_eq!(rt; word.as_str(), *text);
-        }
+    let first = one_document(&rt, alloc, 1, &EACH_WORD);
+    let second = one_document(&rt, alloc, 2, &[(1, 0, 0), (3, 9, 9)]);
+    commit(&rt, alloc, &mut postings, &[], &first);
+    commit(&rt, alloc, &mut postings, &[], &second);
+    for (prefix, from, many, places) in &PREFIXES {
+        check_prefix(&rt, alloc, &postings, prefix, *from, *many, *places);
     }
-    commit(alloc, &mut postings, &second, &[])?;
-    let (words, count) = with_prefix(alloc, &postings, "d")?;
-    assert_eq!(rt; (words.len(), count), (3, 4));
-    Ok(())
+    commit(&rt, alloc, &mut postings, &second, &[]);
+    check_prefix(&rt, alloc, &postings, "d", 1, 3, 4);
 }

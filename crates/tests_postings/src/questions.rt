@@ -1,4 +1,8 @@
-use crate::places::{Document, Spot, WORDS, any_spots, commit, leave, next, word};
+use crate::checks::check;
+use crate::places::{
+    Document, Spot, WORDS, add_document, any_spots, commit, leave, next, spots_of as spots_from,
+    word,
+};
 use doc_sets::{DocSet, DocSetBuilder};
 use posting_sets::{
     documents, documents_by_bucket, documents_by_rank, numbers_are_those_of_blocks,
@@ -6,7 +10,7 @@ use posting_sets::{
 use postings::Postings;
 use search_base::{DocId, Term, bucket};
 use std::alloc::Global;
-use std::test::Fail;
+use std::process::Abort;
 
 // The ranks of the paths. The one in the middle has none.
 const RANKS: [Option<u16>; 3] = [Some(1), None, Some(0)];
@@ -18,16 +22,22 @@ fn text(at: usize) -> &'static str {
     WORDS.get(at).copied().unwrap_or("none")
 }
 
+// Whether a word of the table, or a longer one that begins so, stands at a position of a path.
+fn stands(spots: &[Spot], word: usize, prefix: bool, path: u16, position: u32) -> bool {
+    for (at, other, from) in spots {
+        let same = text(*at) == text(word) || (prefix && text(*at).starts_with(text(word)));
+        if same && *other == path && u32::from(*from) == position {
+            return true;
+        }
+    }
+    false
+}
+
 // Whether the words stand in a row from here on.
 fn stands_at(spots: &[Spot], asked: &Asked, path: u16, from: u16) -> bool {
     let mut position = u32::from(from);
     for word in &asked.0 {
-        let stands = spots.iter().any(|spot| {
-            let same = text(spot.0) == text(*word);
-            let begins = asked.1 && text(spot.0).starts_with(text(*word));
-            spot.1 == path && u32::from(spot.2) == position && (same || begins)
-        });
-        if !stands {
+        if !stands(spots, *word, asked.1, path, position) {
             return false;
         }
         position = position.wrapping_add(1);
@@ -64,23 +74,21 @@ fn spots_of<'a>(all: &'a [Document], id: u32) -> &'a [Spot] {
     &[]
 }
 
-fn set_of(alloc: Global, ids: &[u32]) -> Result<DocSet, Fail> {
-    let mut set = DocSetBuilder::new(alloc, 0)?;
+fn set_of(rt: &impl Abort, alloc: Global, ids: &[u32]) -> DocSet {
+    let mut set = DocSetBuilder::new(alloc, 0).expect(rt, "memory");
     for id in ids {
-        set.add_id(DocId(*id))?;
+        set.add_id(DocId(*id)).expect(rt, "memory");
     }
-    Ok(set.finish(alloc)?)
+    set.finish(alloc).expect(rt, "memory")
 }
 
-fn term(alloc: Global, asked: &Asked) -> Result<Term, Fail> {
+fn term(rt: &impl Abort, alloc: Global, asked: &Asked) -> Term {
     let mut words = Vec::new(alloc);
     for at in &asked.0 {
-        words.push(word(alloc, *at)?)?;
+        words.push(word(rt, alloc, *at)).expect(rt, "memory");
     }
-    Ok(Term {
-        words,
-        prefix: asked.1,
-    })
+    let prefix = asked.1;
+    Term { words, prefix }
 }
 
 // Whether these are the documents of the universe by their numbers, in order.
@@ -112,131 +120,188 @@ fn are_numbered(
     left == 0
 }
 
-// Whether each question is answered as the documents say.
-fn agrees(
+// The documents of the universe are found where the term occurs.
+fn check_found(rt: &impl Abort, found: &DocSet, all: &[Document], asked: &Asked, universe: &[u32]) {
+    let mut left = found.len();
+    for id in universe {
+        let occurs = least(spots_of(all, *id), asked, false).0;
+        check(rt, found.contains(DocId(*id)) == occurs, "found");
+        left = left.wrapping_sub(u64::from(occurs));
+    }
+    check(rt, left == 0, "no other is found");
+}
+
+// Each question is answered as the documents say.
+fn check_answers(
+    rt: &impl Abort,
     alloc: Global,
     postings: &Postings,
     all: &[Document],
     asked: &Asked,
     universe: &[u32],
-) -> Result<bool, Fail> {
-    let term = term(alloc, asked)?;
-    if term.words.is_empty() || (term.prefix && term.words.len() != 1) {
-        Err("no term")?;
+) {
+    let term = term(rt, alloc, asked);
+    assert!(rt; !term.words.is_empty() && (!term.prefix || term.words.len() == 1));
+    let set = set_of(rt, alloc, universe);
+    let found = documents(alloc, postings, &term, &set).expect(rt, "memory");
+    check_found(rt, &found, all, asked, universe);
+    let rows = documents_by_rank(alloc, postings, &term, &RANKS, &set).expect(rt, "memory");
+    check(rt, are_numbered(all, asked, universe, true, &rows), "ranks");
+    let rows = documents_by_bucket(alloc, postings, &term, &set).expect(rt, "memory");
+    check(
+        rt,
+        are_numbered(all, asked, universe, false, &rows),
+        "buckets",
+    );
+}
+
+fn check_all_answers(
+    rt: &impl Abort,
+    alloc: Global,
+    postings: &Postings,
+    all: &[Document],
+    terms: &[Asked],
+    universe: &[u32],
+) {
+    for asked in terms {
+        check_answers(rt, alloc, postings, all, asked, universe);
     }
-    let set = set_of(alloc, universe)?;
-    let found = documents(alloc, postings, &term, &set)?;
-    let mut left = found.len();
-    for id in universe {
-        let occurs = least(spots_of(all, *id), asked, false).0;
-        left = left.wrapping_sub(u64::from(occurs));
-        if found.contains(DocId(*id)) != occurs {
-            return Ok(false);
-        }
-    }
-    let ranks = documents_by_rank(alloc, postings, &term, &RANKS, &set)?;
-    let buckets = documents_by_bucket(alloc, postings, &term, &set)?;
-    Ok(
-        left == 0
-            && are_numbered(all, asked, universe, true, ranks.as_slice())
-            && are_numbered(all, asked, universe, false, buckets.as_slice()),
-    )
+}
+
+fn add_term(rt: &impl Abort, alloc: Global, words: &[usize], prefix: bool, terms: &mut Vec<Asked>) {
+    let words = Vec::from_slice(alloc, words).expect(rt, "memory");
+    terms.push((words, prefix)).expect(rt, "memory");
 }
 
 // Some terms of the words of the table: each word, each prefix, and words in a row.
-fn terms(alloc: Global) -> Result<Vec<Asked>, Fail> {
+fn terms(rt: &impl Abort, alloc: Global) -> Vec<Asked> {
     let mut terms = Vec::new(alloc);
     for at in 0..WORDS.len() {
-        terms.push((Vec::from_array(alloc, [at])?, false))?;
-        terms.push((Vec::from_array(alloc, [at])?, true))?;
-        terms.push((Vec::from_array(alloc, [at, 4])?, false))?;
-        terms.push((Vec::from_array(alloc, [2, at, 2])?, false))?;
+        add_term(rt, alloc, &[at], false, &mut terms);
+        add_term(rt, alloc, &[at], true, &mut terms);
+        add_term(rt, alloc, &[at, 4], false, &mut terms);
+        add_term(rt, alloc, &[2, at, 2], false, &mut terms);
     }
-    Ok(terms)
+    terms
+}
+
+// The documents of a turn, and a universe of about two in three of them.
+fn coming(
+    rt: &impl Abort,
+    alloc: Global,
+    turn: u32,
+    universe: &mut Vec<u32>,
+    seed: &mut u64,
+) -> Vec<Document> {
+    let mut come = Vec::new(alloc);
+    for place in 0..40_u32 {
+        let id = turn.wrapping_mul(40).wrapping_add(place);
+        add_document(rt, &mut come, id, any_spots(rt, alloc, seed));
+        if next(seed) % 3 > 0 {
+            universe.push(id).expect(rt, "memory");
+        }
+    }
+    come
+}
+
+fn take_turn(
+    rt: &impl Abort,
+    alloc: Global,
+    postings: &mut Postings,
+    all: &mut Vec<Document>,
+    turn: u32,
+    terms: &[Asked],
+    seed: &mut u64,
+) {
+    let gone = leave(rt, alloc, all, seed);
+    let mut universe = Vec::new(alloc);
+    let mut come = coming(rt, alloc, turn, &mut universe, seed);
+    commit(rt, alloc, postings, &gone, &come);
+    all.append(&mut come).expect(rt, "memory");
+    check_all_answers(rt, alloc, postings, all, terms, &universe);
 }
 
 #[test]
-fn questions_after_random_batches(rt: HostRuntime) -> Result<(), Fail> {
+fn questions_after_random_batches(rt: HostRuntime) {
     let alloc = rt.alloc();
     let mut seed = 5;
     let mut postings = Postings::new(alloc);
     let mut all: Vec<Document> = Vec::new(alloc);
-    let asked = terms(alloc)?;
+    let terms = terms(&rt, alloc);
     for turn in 0..12_u32 {
-        let gone = leave(alloc, &mut all, &mut seed)?;
-        let mut come = Vec::new(alloc);
-        let mut universe = Vec::new(alloc);
-        for place in 0..40_u32 {
-            let id = turn.wrapping_mul(40).wrapping_add(place);
-            come.push((id, any_spots(alloc, &mut seed)?))?;
-            if next(&mut seed) % 3 > 0 {
-                universe.push(id)?;
-            }
-        }
-        commit(alloc, &mut postings, &gone, &come)?;
-        all.append(&mut come)?;
-        for term in &asked {
-            assert!(rt; agrees(alloc, &postings, &all, term, &universe)?);
-        }
+        take_turn(&rt, alloc, &mut postings, &mut all, turn, &terms, &mut seed);
     }
-    Ok(())
+}
+
+// Documents with words in a row, in two paths, and the wrong way round.
+const NAMED: [(u32, &[Spot]); 4] = [
+    (0, &[(2, 0, 0), (4, 0, 1)]),
+    (63, &[(2, 0, u16::MAX), (4, 1, 0)]),
+    (64, &[(4, 0, 0), (2, 0, 1)]),
+    (999_999, &[(3, 2, 9), (2, 0, 0), (4, 0, 1), (1, 1, 20)]),
+];
+
+const UNIVERSES: [[u32; 4]; 3] = [[0, 63, 64, 999_999], [1, 64, 65, 999_998], [0, 2, 3, 4]];
+
+fn named(rt: &impl Abort, alloc: Global) -> Vec<Document> {
+    let mut all = Vec::new(alloc);
+    for (id, spots) in &NAMED {
+        add_document(rt, &mut all, *id, spots_from(rt, alloc, spots));
+    }
+    all
+}
+
+// The documents that have `dark knight`.
+fn phrase_found(rt: &impl Abort, alloc: Global, postings: &Postings) -> DocSet {
+    let words = Vec::from_array(alloc, [2, 4]).expect(rt, "memory");
+    let phrase = term(rt, alloc, &(words, false));
+    assert!(rt; !phrase.words.is_empty() && !phrase.prefix);
+    let universe = set_of(rt, alloc, &[0, 5, 63, 64, 70_000, 999_999]);
+    documents(alloc, postings, &phrase, &universe).expect(rt, "memory")
 }
 
 #[test]
-fn questions_about_named_documents(rt: HostRuntime) -> Result<(), Fail> {
+fn questions_about_named_documents(rt: HostRuntime) {
     let alloc = rt.alloc();
     let mut postings = Postings::new(alloc);
-    let all = Vec::from_array(
-        alloc,
-        [
-            // The words in a row, in two paths, and the wrong way round.
-            (0, Vec::from_array(alloc, [(2, 0, 0), (4, 0, 1)])?),
-            (63, Vec::from_array(alloc, [(2, 0, u16::MAX), (4, 1, 0)])?),
-            (64, Vec::from_array(alloc, [(4, 0, 0), (2, 0, 1)])?),
-            (
-                999_999,
-                Vec::from_array(alloc, [(3, 2, 9), (2, 0, 0), (4, 0, 1), (1, 1, 20)])?,
-            ),
-        ],
-    )?;
-    commit(alloc, &mut postings, &[], &all)?;
-    let universe = set_of(alloc, &[0, 5, 63, 64, 70_000, 999_999])?;
-    let asked = (Vec::from_array(alloc, [2, 4])?, false);
-    let phrase = term(alloc, &asked)?;
-    if phrase.prefix || phrase.words.is_empty() {
-        Err("no term")?;
-    }
-    let found = documents(alloc, &postings, &phrase, &universe)?;
-    assert!(rt; found.contains(DocId(0)) && found.contains(DocId(999_999)));
-    assert_eq!(rt; found.len(), 2);
+    let all = named(&rt, alloc);
+    commit(&rt, alloc, &mut postings, &[], &all);
+    let found = phrase_found(&rt, alloc, &postings);
+    check(&rt, found.contains(DocId(0)), "0");
+    check(&rt, found.contains(DocId(999_999)), "999999");
+    check(&rt, found.len() == 2, "two");
     numbers_are_those_of_blocks();
-    for term in &terms(alloc)? {
-        for universe in [[0, 63, 64, 999_999], [1, 64, 65, 999_998], [0, 2, 3, 4]] {
-            assert!(rt; agrees(alloc, &postings, &all, term, &universe)?);
+    let terms = terms(&rt, alloc);
+    for universe in &UNIVERSES {
+        check_all_answers(&rt, alloc, &postings, &all, &terms, universe);
+    }
+}
+
+// So many documents of the same words, and a universe of one in a hundred and the last.
+fn alike(rt: &impl Abort, alloc: Global, many: u32, universe: &mut Vec<u32>) -> Vec<Document> {
+    let mut all = Vec::new(alloc);
+    for id in 0..many {
+        let spots = [(2, 0, 0), (4, 0, 1), (3, 2, (id % 40) as u16)];
+        add_document(rt, &mut all, id, spots_from(rt, alloc, &spots));
+        if id % 100 == 99 || id.wrapping_add(1) == many {
+            universe.push(id).expect(rt, "memory");
         }
     }
-    Ok(())
+    all
+}
+
+fn check_alike(rt: &impl Abort, alloc: Global, many: u32) {
+    let mut postings = Postings::new(alloc);
+    let mut universe = Vec::new(alloc);
+    let all = alike(rt, alloc, many, &mut universe);
+    commit(rt, alloc, &mut postings, &[], &all);
+    let terms = terms(rt, alloc);
+    check_all_answers(rt, alloc, &postings, &all, &terms, &universe);
 }
 
 #[test]
-fn questions_at_the_edges_of_pages(rt: HostRuntime) -> Result<(), Fail> {
-    let alloc = rt.alloc();
-    let asked = terms(alloc)?;
-    for many in [255_u32, 257, 511, 513] {
-        let mut postings = Postings::new(alloc);
-        let mut all: Vec<Document> = Vec::new(alloc);
-        let mut universe = Vec::new(alloc);
-        for id in 0..many {
-            let spots = [(2, 0, 0), (4, 0, 1), (3, 2, (id % 40) as u16)];
-            all.push((id, Vec::from_array(alloc, spots)?))?;
-            if id % 100 == 99 || id.wrapping_add(1) == many {
-                universe.push(id)?;
-            }
-        }
-        commit(alloc, &mut postings, &[], &all)?;
-        for term in &asked {
-            assert!(rt; agrees(alloc, &postings, &all, term, &universe)?);
-        }
+fn questions_at_the_edges_of_pages(rt: HostRuntime) {
+    for many in &[255_u32, 257, 511, 513] {
+        check_alike(&rt, rt.alloc(), *many);
     }
-    Ok(())
 }

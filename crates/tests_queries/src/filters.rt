@@ -1,10 +1,10 @@
+use crate::checks::check_text;
 use filter_expr::*;
 use filter_tree::{Filter, Test};
-use search_base::Fault;
-use serde_json::{Value, json};
+use search_base::{Fault, Word};
+use serde_json::Value;
 use std::alloc::{AllocError, Global};
 use std::process::Abort;
-use std::test::Fail;
 
 const OPERATORS: [(&str, &str); 16] = [
     ("year > 2000", "year > 2000"),
@@ -171,21 +171,24 @@ fn shown_test(alloc: Global, test: &Test) -> Result<String, AllocError> {
         Test::Below(number) => format!(in alloc; "< {number}"),
         Test::AtMost(number) => format!(in alloc; "<= {number}"),
         Test::Between(low, high) => format!(in alloc; "{low} TO {high}"),
-        Test::OneOf(values) => {
-            let mut all = String::new(alloc);
-            for value in values {
-                if !all.is_empty() {
-                    all.push_str(", ")?;
-                }
-                let quoted = format!(in alloc; "'{}'", value.as_str())?;
-                all.push_str(quoted.as_str())?;
-            }
-            format!(in alloc; "IN [{all}]")
-        }
+        Test::OneOf(values) => shown_values(alloc, values),
         Test::Exists => String::from_str(alloc, "EXISTS"),
         Test::Null => String::from_str(alloc, "IS NULL"),
         Test::Empty => String::from_str(alloc, "IS EMPTY"),
     }
+}
+
+fn shown_values(alloc: Global, values: &[Word]) -> Result<String, AllocError> {
+    let mut all = String::from_str(alloc, "IN [")?;
+    let mut quote = "'";
+    for value in values {
+        all.push_str(quote)?;
+        all.push_str(value.as_str())?;
+        all.push_str("'")?;
+        quote = ", '";
+    }
+    all.push_str("]")?;
+    Ok(all)
 }
 
 /// A filter as a text, with each AND and OR in brackets.
@@ -220,111 +223,100 @@ fn joined(alloc: Global, members: &Vec<Filter>, word: &str) -> Result<String, Al
     Ok(all)
 }
 
-/// The answer for a value, as a text.
-fn answer(alloc: Global, value: &Value) -> Result<String, AllocError> {
-    match parse(alloc, value) {
-        Ok(filter) => shown(alloc, &filter),
-        Err(Fault::Refused(FilterRefusal::Syntax { text, place })) => {
+fn refusal_text(rt: &impl Abort, alloc: Global, fault: &Fault<FilterRefusal>) -> String {
+    let text = match fault {
+        Fault::Refused(FilterRefusal::Syntax { text, place }) => {
             format!(in alloc; "syntax in text {text} at {place}")
         }
-        Err(Fault::Refused(FilterRefusal::TooDeep { text, place })) => {
+        Fault::Refused(FilterRefusal::TooDeep { text, place }) => {
             format!(in alloc; "too deep in text {text} at {place}")
         }
-        Err(Fault::Refused(FilterRefusal::NotANumber { value })) => {
+        Fault::Refused(FilterRefusal::NotANumber { value }) => {
             format!(in alloc; "no number: {}", value.as_str())
         }
-        Err(Fault::Refused(FilterRefusal::NotText)) => String::from_str(alloc, "no text"),
-        Err(Fault::NoMemory) => String::from_str(alloc, "no memory"),
+        Fault::Refused(FilterRefusal::NotText) => format!(in alloc; "no text"),
+        Fault::NoMemory => format!(in alloc; "no memory"),
+    };
+    text.expect(rt, "memory")
+}
+
+// The answer for a value, as a text.
+fn answer(rt: &impl Abort, alloc: Global, value: &Value) -> String {
+    match parse(alloc, value) {
+        Ok(filter) => shown(alloc, &filter).expect(rt, "memory"),
+        Err(fault) => refusal_text(rt, alloc, &fault),
     }
 }
 
-/// The answer for one text.
-fn answer_of(alloc: Global, text: &str) -> Result<String, AllocError> {
-    let value = Value::String(String::from_str(alloc, text)?);
-    answer(alloc, &value)
+fn check_row(rt: &impl Abort, alloc: Global, text: &str, wanted: &str, row: &str) {
+    let text = String::from_str(alloc, text).expect(rt, "memory");
+    let found = answer(rt, alloc, &Value::String(text));
+    check_text(rt, &found, wanted, row);
 }
 
-fn check(rt: &impl Abort, alloc: Global, rows: &[(&str, &str)]) -> Result<(), Fail> {
-    for (text, expected) in rows {
-        let found = answer_of(alloc, text)?;
-        assert_eq!(rt; found.as_str(), *expected, "{text}");
+fn check_rows(rt: &impl Abort, alloc: Global, rows: &[(&str, &str)]) {
+    for (text, wanted) in rows {
+        check_row(rt, alloc, text, wanted, text);
     }
-    Ok(())
 }
 
 #[test]
-fn each_operator_gives_its_test(rt: HostRuntime) -> Result<(), Fail> {
-    check(&rt, rt.alloc(), &OPERATORS)
+fn each_operator_gives_its_test(rt: HostRuntime) {
+    check_rows(&rt, rt.alloc(), &OPERATORS);
 }
 
 #[test]
-fn and_binds_more_than_or(rt: HostRuntime) -> Result<(), Fail> {
-    check(&rt, rt.alloc(), &JOINED)
+fn and_binds_more_than_or(rt: HostRuntime) {
+    check_rows(&rt, rt.alloc(), &JOINED);
 }
 
 #[test]
-fn words_and_quoted_texts(rt: HostRuntime) -> Result<(), Fail> {
-    check(&rt, rt.alloc(), &TEXTS)
+fn words_and_quoted_texts(rt: HostRuntime) {
+    check_rows(&rt, rt.alloc(), &TEXTS);
 }
 
 #[test]
-fn numbers_at_both_ends_and_one_beyond(rt: HostRuntime) -> Result<(), Fail> {
-    check(&rt, rt.alloc(), &NUMBERS)
+fn numbers_at_both_ends_and_one_beyond(rt: HostRuntime) {
+    check_rows(&rt, rt.alloc(), &NUMBERS);
 }
 
 #[test]
-fn a_fault_stands_where_no_filter_goes_on(rt: HostRuntime) -> Result<(), Fail> {
-    check(&rt, rt.alloc(), &FAULTS)
+fn a_fault_stands_where_no_filter_goes_on(rt: HostRuntime) {
+    check_rows(&rt, rt.alloc(), &FAULTS);
 }
 
-/// So many copies of a text, a middle, and so many copies of another.
-fn wrapped(
+// A text so many times, a middle, a text as many times, and the answer.
+const WRAPPED: [(&str, &str, &str, usize, &str); 8] = [
+    ("(", "a = 1", ")", 200, "a = '1'"),
+    ("(", "a = 1", ")", 201, "too deep in text 1 at 200"),
+    ("(", "", "", 1_000_000, "too deep in text 1 at 200"),
+    ("NOT ", "a = 1", "", 201, "too deep in text 1 at 800"),
+    ("NOT ", "", "", 200, "syntax in text 1 at 800"),
+    ("(", "NOT~", "", 200, "too deep in text 1 at 200"),
+    ("(", "NOTx~", "", 200, "syntax in text 1 at 204"),
+    ("(NOT ", "a", "", 101, "too deep in text 1 at 500"),
+];
+
+fn check_wrapped(
+    rt: &impl Abort,
     alloc: Global,
     open: &str,
     middle: &str,
     close: &str,
     count: usize,
-) -> Result<String, AllocError> {
-    let mut all = String::new(alloc);
-    for _ in 0..count {
-        all.push_str(open)?;
-    }
-    all.push_str(middle)?;
-    for _ in 0..count {
-        all.push_str(close)?;
-    }
-    Ok(all)
-}
-
-fn check_wrapped(
-    rt: &impl Abort,
-    alloc: Global,
-    rows: &[(&str, &str, &str, usize, &str)],
-) -> Result<(), Fail> {
-    for (open, middle, close, count, expected) in rows {
-        let text = wrapped(alloc, open, middle, close, *count)?;
-        let found = answer_of(alloc, text.as_str())?;
-        assert_eq!(rt; found.as_str(), *expected, "{count} of {open}");
-    }
-    Ok(())
+    wanted: &str,
+) {
+    let open = open.repeat(alloc, count).expect(rt, "memory");
+    let close = close.repeat(alloc, count).expect(rt, "memory");
+    let text = format!(in alloc; "{open}{middle}{close}").expect(rt, "memory");
+    check_row(rt, alloc, &text, wanted, middle);
 }
 
 #[test]
-fn two_hundred_may_be_open(rt: HostRuntime) -> Result<(), Fail> {
-    check_wrapped(
-        &rt,
-        rt.alloc(),
-        &[
-            ("(", "a = 1", ")", 200, "a = '1'"),
-            ("(", "a = 1", ")", 201, "too deep in text 1 at 200"),
-            ("(", "", "", 1_000_000, "too deep in text 1 at 200"),
-            ("NOT ", "a = 1", "", 201, "too deep in text 1 at 800"),
-            ("NOT ", "", "", 200, "syntax in text 1 at 800"),
-            ("(", "NOT~", "", 200, "too deep in text 1 at 200"),
-            ("(", "NOTx~", "", 200, "syntax in text 1 at 204"),
-            ("(NOT ", "a", "", 101, "too deep in text 1 at 500"),
-        ],
-    )
+fn two_hundred_may_be_open(rt: HostRuntime) {
+    for (open, middle, close, count, wanted) in &WRAPPED {
+        check_wrapped(&rt, rt.alloc(), open, middle, close, *count, wanted);
+    }
 }
 
 #[test]
@@ -334,61 +326,38 @@ fn laws_hold() {
     answers_are_the_grammars();
 }
 
-fn joined_groups(alloc: Global) -> Result<Value, AllocError> {
-    json!(in alloc; ["a = 1 OR b = 2", ["c = 3", "d = 4"], ["e = 5"]])
-}
+// A value, and its answer.
+const VALUES: [(&str, &str); 4] = [
+    (
+        r#"["a = 1 OR b = 2",["c = 3","d = 4"],["e = 5"]]"#,
+        "((a = '1' OR b = '2') AND (c = '3' OR d = '4') AND e = '5')",
+    ),
+    (r#"["",[" ","\t"],[]]"#, "all"),
+    (r#"[" ",["","a = 1"]]"#, "a = '1'"),
+    ("null", "all"),
+];
 
-fn blank_groups(alloc: Global) -> Result<Value, AllocError> {
-    json!(in alloc; ["", [" ", "\t"], []])
-}
+const FAULTY_VALUES: [(&str, &str); 5] = [
+    (r#"["n > x",["","a ="],"b"]"#, "syntax in text 3 at 3"),
+    (r#"[["a = 1","n > x"],"m > y"]"#, "no number: x"),
+    (r#"["a",["b = 1",["c = 2"]]]"#, "no text"),
+    (r#"["a",5]"#, "no text"),
+    ("true", "no text"),
+];
 
-fn one_group(alloc: Global) -> Result<Value, AllocError> {
-    json!(in alloc; [" ", ["", "a = 1"]])
-}
-
-fn fault_after_a_bad_number(alloc: Global) -> Result<Value, AllocError> {
-    json!(in alloc; ["n > x", ["", "a ="], "b"])
-}
-
-fn two_bad_numbers(alloc: Global) -> Result<Value, AllocError> {
-    json!(in alloc; [["a = 1", "n > x"], "m > y"])
-}
-
-fn array_in_an_inner_array(alloc: Global) -> Result<Value, AllocError> {
-    json!(in alloc; ["a", ["b = 1", ["c = 2"]]])
-}
-
-fn number_after_a_fault(alloc: Global) -> Result<Value, AllocError> {
-    json!(in alloc; ["a", 5])
-}
-
-fn check_value(rt: &impl Abort, alloc: Global, value: &Value, expected: &str) -> Result<(), Fail> {
-    let found = answer(alloc, value)?;
-    assert_eq!(rt; found.as_str(), expected);
-    Ok(())
+fn check_values(rt: &impl Abort, alloc: Global, rows: &[(&str, &str)]) {
+    for (text, wanted) in rows {
+        let value = Value::from_str(alloc, text).expect(rt, "JSON");
+        check_text(rt, &answer(rt, alloc, &value), wanted, text);
+    }
 }
 
 #[test]
-fn arrays_join_by_and_and_inner_arrays_by_or(rt: HostRuntime) -> Result<(), Fail> {
-    let alloc = rt.alloc();
-    let joined = "((a = '1' OR b = '2') AND (c = '3' OR d = '4') AND e = '5')";
-    check_value(&rt, alloc, &joined_groups(alloc)?, joined)?;
-    check_value(&rt, alloc, &blank_groups(alloc)?, "all")?;
-    check_value(&rt, alloc, &one_group(alloc)?, "a = '1'")?;
-    check_value(&rt, alloc, &Value::Null, "all")
+fn arrays_join_by_and_and_inner_arrays_by_or(rt: HostRuntime) {
+    check_values(&rt, rt.alloc(), &VALUES);
 }
 
 #[test]
-fn the_first_text_with_a_fault_decides(rt: HostRuntime) -> Result<(), Fail> {
-    let alloc = rt.alloc();
-    check_value(
-        &rt,
-        alloc,
-        &fault_after_a_bad_number(alloc)?,
-        "syntax in text 3 at 3",
-    )?;
-    check_value(&rt, alloc, &two_bad_numbers(alloc)?, "no number: x")?;
-    check_value(&rt, alloc, &array_in_an_inner_array(alloc)?, "no text")?;
-    check_value(&rt, alloc, &number_after_a_fault(alloc)?, "no text")?;
-    check_value(&rt, alloc, &Value::Bool(true), "no text")
+fn the_first_text_with_a_fault_decides(rt: HostRuntime) {
+    check_values(&rt, rt.alloc(), &FAULTY_VALUES);
 }

@@ -1,12 +1,12 @@
-ghost use Rattle.std.specs.Prelude.{◌<◌, length, IfOk};
 ghost use Rattle.query_graph.specs.Items.{AreItems};
-ghost use Rattle.synonym_terms.specs.Synonyms.{HasTerm};
 
+use crate::checks::{add, add_words, check_text, words};
+use crate::synonyms::row;
 use query_graph::*;
-use search_base::{Kind, LevelGraph, PlacedBlock, Strategy, Word};
+use search_base::{Kind, LevelGraph, PlacedBlock, Strategy};
 use std::alloc::Global;
-use std::test::Fail;
-use synonym_terms::{SynonymRow, SynonymTable};
+use std::process::Abort;
+use synonym_terms::SynonymTable;
 
 // What a query shows, the query, the stop words, and its items: a phrase in quotes, and a star
 // behind the prefix word.
@@ -188,79 +188,62 @@ const GRAPHS: [(&str, &str, &str, Strategy, &str); 13] = [
     ("no items", " ", "", Strategy::Last, ""),
 ];
 
-fn query(alloc: Global, q: &str, stop_words: &str) -> Result<Items, Fail>
-    ensures { IfOk result AreItems }
+fn query(rt: &impl Abort, alloc: Global, q: &str, stop_words: &str) -> Items
+    ensures { AreItems result }
 {
-    let mut list = Vec::new(alloc);
-    for word in stop_words.split(' ') {
-        list.push(Word::new(alloc, word)?)?;
-    }
-    Ok(items(alloc, q, list.as_slice())?)
+    let stop_words = words(rt, alloc, stop_words);
+    items(alloc, q, &stop_words).expect(rt, "memory")
 }
 
-fn words_told(alloc: Global, words: &[Word], between: char) -> Result<String, Fail> {
-    let mut told = String::new(alloc);
-    for word in words {
-        if !told.is_empty() {
-            told.push(between)?;
-        }
-        told.push_str(word.as_str())?;
-    }
-    Ok(told)
-}
-
-fn item_told(alloc: Global, item: &Item) -> Result<String, Fail> {
-    let words = words_told(alloc, item.words.as_slice(), ' ')?;
+fn tell_item(rt: &impl Abort, item: &Item, text: &mut String) {
     let quote = if item.phrase { "\"" } else { "" };
-    let star = if item.prefix { "*" } else { "" };
-    Ok(format!(in alloc; "{quote}{words}{quote}{star}")?)
+    add(rt, text, quote);
+    add_words(rt, text, &item.words, " ");
+    add(rt, text, quote);
+    add(rt, text, if item.prefix { "*" } else { "" });
 }
 
-fn items_told(alloc: Global, items: &Items) -> Result<String, Fail> {
-    let mut told = String::new(alloc);
+fn items_told(rt: &impl Abort, alloc: Global, items: &Items) -> String {
+    let mut text = String::new(alloc);
+    let mut blank = "";
     for item in &items.list {
-        if !told.is_empty() {
-            told.push(' ')?;
-        }
-        told.push_str(item_told(alloc, item)?.as_str())?;
+        add(rt, &mut text, blank);
+        tell_item(rt, item, &mut text);
+        blank = " ";
     }
-    Ok(told)
+    text
+}
+
+fn check_items(
+    rt: &impl Abort,
+    alloc: Global,
+    q: &str,
+    stop_words: &str,
+    wanted: &str,
+    shows: &str,
+) {
+    let items = query(rt, alloc, q, stop_words);
+    check_text(rt, &items_told(rt, alloc, &items), wanted, shows);
 }
 
 #[test]
-fn queries_have_these_items(rt: HostRuntime) -> Result<(), Fail> {
-    for (shows, q, stop_words, want) in &QUERIES {
-        let items = query(rt.alloc(), q, stop_words)?;
-        assert_eq!(rt; items_told(rt.alloc(), &items)?.as_str(), *want, "{shows}");
+fn queries_have_these_items(rt: HostRuntime) {
+    for (shows, q, stop_words, wanted) in &QUERIES {
+        check_items(&rt, rt.alloc(), q, stop_words, wanted, shows);
     }
-    Ok(())
 }
 
-fn row(alloc: Global, key: &str, front: &str, last: &str) -> Result<SynonymRow, Fail>
-    ensures { IfOk result HasTerm }
-{
-    let mut words = Vec::new(alloc);
-    for word in key.split(' ') {
-        words.push(Word::new(alloc, word)?)?;
-    }
-    let mut term = Vec::new(alloc);
-    for word in front.split(' ') {
-        term.push(Word::new(alloc, word)?)?;
-    }
-    term.push(Word::new(alloc, last)?)?;
-    Ok(SynonymRow { key: words, term })
-}
-
-fn synonyms(alloc: Global) -> Result<SynonymTable, Fail> {
-    let rows = vec![in alloc;
-        row(alloc, "batman", "dark", "knight")?,
-        row(alloc, "batman", "bruce", "wayne")?,
-        row(alloc, "dark knight", "the", "batman")?,
-        row(alloc, "big red apple", "an", "x")?,
-        row(alloc, "a b c d", "a", "y")?,
-        row(alloc, "new york", "new", "york")?,
-    ]?;
-    Ok(SynonymTable::build(alloc, rows)?)
+fn synonyms(rt: &impl Abort, alloc: Global) -> SynonymTable {
+    let rows = [
+        row(rt, alloc, "batman", "dark", "knight"),
+        row(rt, alloc, "batman", "bruce", "wayne"),
+        row(rt, alloc, "dark knight", "the", "batman"),
+        row(rt, alloc, "big red apple", "an", "x"),
+        row(rt, alloc, "a b c d", "a", "y"),
+        row(rt, alloc, "new york", "new", "york"),
+    ];
+    let rows = Vec::from_array(alloc, rows).expect(rt, "memory");
+    SynonymTable::build(alloc, rows).expect(rt, "memory")
 }
 
 fn mark_of(kind: Kind) -> &'static str {
@@ -273,46 +256,45 @@ fn mark_of(kind: Kind) -> &'static str {
     }
 }
 
-fn block_told(alloc: Global, placed: &PlacedBlock) -> Result<String, Fail> {
-    let term = &placed.block.term;
+fn tell_block(rt: &impl Abort, placed: &PlacedBlock, text: &mut String) {
     let mark = mark_of(placed.block.kind);
-    let words = words_told(alloc, term.words.as_slice(), '_')?;
-    let star = if term.prefix { "*" } else { "" };
-    Ok(format!(in alloc; "{}-{}{mark}{words}{star}", placed.from, placed.to)?)
+    write!(text, " {}-{}{mark}", placed.from, placed.to).expect(rt, "memory");
+    let term = &placed.block.term;
+    add_words(rt, text, &term.words, "_");
+    add(rt, text, if term.prefix { "*" } else { "" });
 }
 
-fn level_told(alloc: Global, level: &LevelGraph) -> Result<String, Fail> {
-    let mut told = format!(in alloc; "{}:", level.items)?;
+fn tell_level(rt: &impl Abort, level: &LevelGraph, text: &mut String) {
+    write!(text, "{}:", level.items).expect(rt, "memory");
     for placed in &level.blocks {
-        told.push(' ')?;
-        told.push_str(block_told(alloc, placed)?.as_str())?;
+        tell_block(rt, placed, text);
     }
-    told.push(';')?;
-    Ok(told)
+    add(rt, text, "; ");
 }
 
-fn graph_told(alloc: Global, items: &Items, strategy: Strategy) -> Result<String, Fail>
+fn graph_told(rt: &impl Abort, alloc: Global, items: &Items, strategy: Strategy) -> String
     requires { AreItems items.now }
 {
-    let graph = build_graph(alloc, items, &synonyms(alloc)?, strategy)?;
-    let mut told = String::new(alloc);
+    let synonyms = synonyms(rt, alloc);
+    let graph = build_graph(alloc, items, &synonyms, strategy).expect(rt, "memory");
+    let mut text = String::new(alloc);
     for level in &graph.levels {
-        told.push_str(level_told(alloc, level)?.as_str())?;
-        told.push(' ')?;
+        tell_level(rt, level, &mut text);
     }
-    told.push_str(words_told(alloc, graph.whole.as_slice(), ' ')?.as_str())?;
-    Ok(told)
+    add_words(rt, &mut text, &graph.whole, " ");
+    text
 }
 
 #[test]
-fn queries_have_these_graphs(rt: HostRuntime) -> Result<(), Fail> {
-    for (shows, q, stop_words, strategy, want) in &GRAPHS {
-        let items = query(rt.alloc(), q, stop_words)?;
-        assert_eq!(rt;
-            graph_told(rt.alloc(), &items, *strategy)?.as_str(),
-            *want,
-            "{shows}"
+fn queries_have_these_graphs(rt: HostRuntime) {
+    let alloc = rt.alloc();
+    for (shows, q, stop_words, strategy, wanted) in &GRAPHS {
+        let items = query(&rt, alloc, q, stop_words);
+        check_text(
+            &rt,
+            &graph_told(&rt, alloc, &items, *strategy),
+            wanted,
+            shows,
         );
     }
-    Ok(())
 }

@@ -1,5 +1,4 @@
-ghost use Rattle.std.specs.Prelude.{◌<◌, ◌^◌, length};
-
+use crate::checks::{add, check, check_text, word};
 use filter_expr::parse;
 use filter_tree::Filter;
 use row_filter::*;
@@ -7,7 +6,6 @@ use search_base::{DocRows, FacetValue, Leaf, Mark, MarkKind, PathId, Word};
 use serde_json::Value;
 use std::alloc::Global;
 use std::process::Abort;
-use std::test::Fail;
 
 const PATHS: [&str; 3] = ["colour", "size", "on"];
 
@@ -70,52 +68,51 @@ const ATTRIBUTES: [(&str, &str); 3] = [
     ("b = 1 AND (a EXISTS OR NOT b > 2)", "b a b "),
 ];
 
-fn filter_of(alloc: Global, text: &str) -> Result<Option<Filter>, Fail>
-    requires { length text.now < 2 ^ 32 }
-{
-    let value = Value::String(String::from_str(alloc, text)?);
-    Ok(parse(alloc, &value).ok())
+fn filter_of(rt: &impl Abort, alloc: Global, text: &str) -> Filter {
+    let text = String::from_str(alloc, text).expect(rt, "memory");
+    parse(alloc, &Value::String(text)).expect(rt, "a filter")
 }
 
-fn paths(alloc: Global) -> Result<Vec<Word>, Fail> {
+fn paths(rt: &impl Abort, alloc: Global) -> Vec<Word> {
     let mut paths = Vec::new(alloc);
     for path in &PATHS {
-        paths.push(Word::new(alloc, path)?)?;
+        paths.push(word(rt, alloc, path)).expect(rt, "memory");
     }
-    Ok(paths)
+    paths
 }
 
-fn rows(alloc: Global, document: &str) -> Result<DocRows, Fail> {
+fn add_leaf(rt: &impl Abort, alloc: Global, path: &str, value: FacetValue, rows: &mut DocRows) {
+    let leaf = Leaf {
+        path: path_id(path),
+        value,
+        shown: word(rt, alloc, ""),
+    };
+    rows.leaves.push(leaf).expect(rt, "memory");
+}
+
+fn add_row(rt: &impl Abort, alloc: Global, part: &str, rows: &mut DocRows) {
+    if let Some((path, form)) = part.split_once('=') {
+        let value = FacetValue::Text(word(rt, alloc, form));
+        add_leaf(rt, alloc, path, value, rows);
+    } else if let Some((path, number)) = part.split_once('#') {
+        let value = FacetValue::Number(number.parse::<i128>().unwrap_or(0));
+        add_leaf(rt, alloc, path, value, rows);
+    } else if let Some((path, kind)) = part.split_once('!') {
+        let (path, kind) = (path_id(path), kind_of(kind));
+        rows.marks.push(Mark { path, kind }).expect(rt, "memory");
+    }
+}
+
+fn rows(rt: &impl Abort, alloc: Global, document: &str) -> DocRows {
     let mut rows = DocRows {
         places: Vec::new(alloc),
         leaves: Vec::new(alloc),
         marks: Vec::new(alloc),
     };
     for part in document.split(';') {
-        if let Some((path, form)) = part.split_once('=') {
-            let form = Word::new(alloc, form)?;
-            rows.leaves
-                .push(leaf(alloc, path, FacetValue::Text(form))?)?;
-        } else if let Some((path, number)) = part.split_once('#') {
-            let number = number.parse::<i128>().unwrap_or(0);
-            rows.leaves
-                .push(leaf(alloc, path, FacetValue::Number(number))?)?;
-        } else if let Some((path, kind)) = part.split_once('!') {
-            rows.marks.push(Mark {
-                path: path_id(path),
-                kind: kind_of(kind),
-            })?;
-        }
+        add_row(rt, alloc, part, &mut rows);
     }
-    Ok(rows)
-}
-
-fn leaf(alloc: Global, path: &str, value: FacetValue) -> Result<Leaf, Fail> {
-    Ok(Leaf {
-        path: path_id(path),
-        value,
-        shown: Word::new(alloc, "")?,
-    })
+    rows
 }
 
 fn path_id(path: &str) -> PathId {
@@ -130,49 +127,45 @@ fn kind_of(kind: &str) -> MarkKind {
     }
 }
 
-fn passing(alloc: Global, filter: &RowFilter) -> Result<String, Fail> {
+fn passing(rt: &impl Abort, alloc: Global, filter: &RowFilter) -> String {
     let mut passing = String::new(alloc);
     for (at, document) in DOCUMENTS.iter().enumerate() {
-        if filter.passes(&rows(alloc, document)?) {
-            passing.push_str(format!(in alloc; "{at} ")?.as_str())?;
+        if filter.passes(&rows(rt, alloc, document)) {
+            write!(passing, "{at} ").expect(rt, "memory");
         }
     }
-    Ok(passing)
+    passing
 }
 
-#[test]
-fn documents_pass_where_the_filter_holds(rt: HostRuntime) -> Result<(), Fail> {
-    let alloc = rt.alloc();
-    let paths = paths(alloc)?;
+fn check_filter(rt: &impl Abort, alloc: Global, text: &str, wanted: &str) {
+    let paths = paths(rt, alloc);
     assert!(rt; paths.len() <= 1000);
-    for (text, expected) in &FILTERS {
-        assert!(rt; text.len() < 4_294_967_296);
-        let Some(filter) = filter_of(alloc, text)? else {
-            assert!(rt; false, "{text}");
-            continue;
-        };
-        let ready = RowFilter::of(alloc, &filter, &paths)?;
-        assert_eq!(rt; passing(alloc, &ready)?.as_str(), *expected, "{text}");
-        assert_eq!(rt; ready.is_all(), text.is_empty(), "{text}");
-    }
-    Ok(())
+    let filter = filter_of(rt, alloc, text);
+    let ready = RowFilter::of(alloc, &filter, &paths).expect(rt, "memory");
+    check_text(rt, &passing(rt, alloc, &ready), wanted, text);
+    check(rt, ready.is_all() == text.is_empty(), text);
 }
 
 #[test]
-fn attributes_come_in_the_order_of_the_text(rt: HostRuntime) -> Result<(), Fail> {
-    let alloc = rt.alloc();
-    for (text, expected) in &ATTRIBUTES {
-        assert!(rt; text.len() < 4_294_967_296);
-        let Some(filter) = filter_of(alloc, text)? else {
-            assert!(rt; false, "{text}");
-            continue;
-        };
-        let mut names = String::new(alloc);
-        for name in &attributes(alloc, &filter)? {
-            names.push_str(name.as_str())?;
-            names.push(' ')?;
-        }
-        assert_eq!(rt; names.as_str(), *expected, "{text}");
+fn documents_pass_where_the_filter_holds(rt: HostRuntime) {
+    for (text, wanted) in &FILTERS {
+        check_filter(&rt, rt.alloc(), text, wanted);
     }
-    Ok(())
+}
+
+fn check_attributes(rt: &impl Abort, alloc: Global, text: &str, wanted: &str) {
+    let filter = filter_of(rt, alloc, text);
+    let mut names = String::new(alloc);
+    for name in &attributes(alloc, &filter).expect(rt, "memory") {
+        add(rt, &mut names, name.as_str());
+        add(rt, &mut names, " ");
+    }
+    check_text(rt, &names, wanted, text);
+}
+
+#[test]
+fn attributes_come_in_the_order_of_the_text(rt: HostRuntime) {
+    for (text, wanted) in &ATTRIBUTES {
+        check_attributes(&rt, rt.alloc(), text, wanted);
+    }
 }

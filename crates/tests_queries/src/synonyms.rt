@@ -1,9 +1,9 @@
-ghost use Rattle.std.specs.Prelude.{IfOk};
 ghost use Rattle.synonym_terms.specs.Synonyms.{HasTerm};
 
-use search_base::{Term, Word};
+use crate::checks::{add, add_words, check, check_text, word, words};
+use search_base::Term;
 use std::alloc::Global;
-use std::test::Fail;
+use std::process::Abort;
 use synonym_terms::*;
 
 // What a look-up shows, the words, and the terms of the rows with this key.
@@ -18,64 +18,49 @@ const LOOK_UPS: [(&str, &str, &str); 8] = [
     ("no row has this key", "knight", ""),
 ];
 
-fn words(alloc: Global, text: &str) -> Result<Vec<Word>, Fail> {
-    let mut words = Vec::new(alloc);
-    for word in text.split(' ') {
-        words.push(Word::new(alloc, word)?)?;
-    }
-    Ok(words)
-}
-
-fn row(alloc: Global, key: &str, front: &str, last: &str) -> Result<SynonymRow, Fail>
-    ensures { IfOk result HasTerm }
+// A row whose term is words in front and a last one.
+pub(crate) fn row(rt: &impl Abort, alloc: Global, key: &str, front: &str, last: &str) -> SynonymRow
+    ensures { HasTerm result }
 {
-    let mut term = words(alloc, front)?;
-    term.push(Word::new(alloc, last)?)?;
-    Ok(SynonymRow {
-        key: words(alloc, key)?,
-        term,
-    })
+    let key = words(rt, alloc, key);
+    let mut term = words(rt, alloc, front);
+    term.push(word(rt, alloc, last)).expect(rt, "memory");
+    SynonymRow { key, term }
 }
 
-fn table(alloc: Global) -> Result<SynonymTable, Fail> {
-    let rows = vec![in alloc;
-        row(alloc, "batman", "dark", "knight")?,
-        row(alloc, "ny", "new", "york")?,
-        row(alloc, "dark knight", "the", "batman")?,
-        row(alloc, "batman", "bruce", "wayne")?,
-        row(alloc, "a b c d", "an", "x")?,
-    ]?;
-    Ok(SynonymTable::build(alloc, rows)?)
+fn table(rt: &impl Abort, alloc: Global) -> SynonymTable {
+    let rows = [
+        row(rt, alloc, "batman", "dark", "knight"),
+        row(rt, alloc, "ny", "new", "york"),
+        row(rt, alloc, "dark knight", "the", "batman"),
+        row(rt, alloc, "batman", "bruce", "wayne"),
+        row(rt, alloc, "a b c d", "an", "x"),
+    ];
+    let rows = Vec::from_array(alloc, rows).expect(rt, "memory");
+    SynonymTable::build(alloc, rows).expect(rt, "memory")
 }
 
-fn told(alloc: Global, terms: &[Term]) -> Result<String, Fail> {
-    let mut told = String::new(alloc);
-    for term in terms {
-        let mut first = true;
-        for word in &term.words {
-            if !first {
-                told.push(' ')?;
-            }
-            first = false;
-            told.push_str(word.as_str())?;
-        }
-        told.push_str(if term.prefix { "*;" } else { ";" })?;
+fn tell(rt: &impl Abort, term: &Term, text: &mut String) {
+    add_words(rt, text, &term.words, " ");
+    add(rt, text, if term.prefix { "*;" } else { ";" });
+}
+
+fn told(rt: &impl Abort, alloc: Global, table: &SynonymTable, key: &str) -> String {
+    let key = words(rt, alloc, key);
+    let mut text = String::new(alloc);
+    for term in &table.rows_for(alloc, &key).expect(rt, "memory") {
+        tell(rt, term, &mut text);
     }
-    Ok(told)
+    text
 }
 
 #[test]
-fn keys_have_these_terms(rt: HostRuntime) -> Result<(), Fail> {
+fn keys_have_these_terms(rt: HostRuntime) {
     let alloc = rt.alloc();
-    let table = table(alloc)?;
-    for (shows, key, want) in &LOOK_UPS {
-        let terms = table.rows_for(alloc, words(alloc, key)?.as_slice())?;
-        assert_eq!(rt; told(alloc, terms.as_slice())?.as_str(), *want, "{shows}");
+    let table = table(&rt, alloc);
+    for (shows, key, wanted) in &LOOK_UPS {
+        check_text(&rt, &told(&rt, alloc, &table, key), wanted, shows);
     }
     let none = SynonymTable::new(alloc);
-    assert!(rt;
-        none.rows_for(alloc, words(alloc, "ny")?.as_slice())?
-            .is_empty()
-    );
-    Ok(())
+    check(&rt, told(&rt, alloc, &none, "ny").is_empty(), "no row");
 }

@@ -1,5 +1,6 @@
+use crate::checks::{add, check_text};
 use std::alloc::Global;
-use std::test::Fail;
+use std::process::Abort;
 use token_words::*;
 
 // What a text shows, the text, and its tokens as `position word start end`. The last ones are from
@@ -171,31 +172,38 @@ const TEXTS: [(&str, &str, &str); 60] = [
     ),
 ];
 
-fn told(alloc: Global, text: &str) -> Result<String, Fail> {
+fn told(rt: &impl Abort, alloc: Global, text: &str) -> String {
     let mut told = String::new(alloc);
-    for token in &tokens(alloc, text)? {
-        if !told.is_empty() {
-            told.push(';')?;
-        }
+    let mut mark = "";
+    for token in &tokens(alloc, text).expect(rt, "memory") {
         let word = token.word.as_str();
-        let line = format!(in alloc; "{} {word} {} {}", token.position, token.start, token.end)?;
-        told.push_str(line.as_str())?;
+        add(rt, &mut told, mark);
+        write!(
+            told,
+            "{} {word} {} {}",
+            token.position, token.start, token.end
+        )
+        .expect(rt, "memory");
+        mark = ";";
     }
-    Ok(told)
+    told
 }
 
 #[test]
-fn texts_have_these_words(rt: HostRuntime) -> Result<(), Fail> {
-    for (shows, text, want) in &TEXTS {
-        assert_eq!(rt; told(rt.alloc(), text)?.as_str(), *want, "{shows}");
+fn texts_have_these_words(rt: HostRuntime) {
+    for (shows, text, wanted) in &TEXTS {
+        check_text(&rt, &told(&rt, rt.alloc(), text), wanted, shows);
         tokens_are_the_words(text);
     }
-    Ok(())
+}
+
+fn check_normal(rt: &impl Abort, alloc: Global, text: &str, wanted: &str) {
+    let found = normal(alloc, text).expect(rt, "memory");
+    check_text(rt, found.as_str(), wanted, text);
 }
 
 #[test]
-fn marks_and_case_go(rt: HostRuntime) -> Result<(), Fail> {
-    assert_eq!(rt; normal(rt.alloc(), "Éclair")?.as_str(), "eclair");
-    assert_eq!(rt; normal(rt.alloc(), "Straße")?.as_str(), "strasse");
-    Ok(())
+fn marks_and_case_go(rt: HostRuntime) {
+    check_normal(&rt, rt.alloc(), "Éclair", "eclair");
+    check_normal(&rt, rt.alloc(), "Straße", "strasse");
 }

@@ -1,87 +1,78 @@
-ghost use Rattle.std.specs.Prelude.{◌≡◌, ◌<◌, ◌≤◌, ◌*◌, true, length, IfOk};
+ghost use Rattle.std.specs.Prelude.{◌≡◌, ◌<◌, ◌≤◌, ◌*◌, true, length};
 ghost use Rattle.search_base.specs.Graphs.{IsGraph, IsPlaced};
 ghost use Rattle.condition_graph.specs.Promise.{has_graph};
 
+use crate::checks::{add, check, check_text, word};
 use condition_graph::*;
-use search_base::{Block, Graph, Kind, LevelGraph, NoMemory, PlacedBlock, Rule, Term, Word};
+use search_base::{Block, Graph, Kind, LevelGraph, PlacedBlock, Rule, Term};
 use std::alloc::Global;
-use std::test::Fail;
+use std::process::Abort;
 
 // A block of one word, in a level of this many items. At the last item it stands for any word that
 // begins so, save where it is read as it was written.
 fn block(
+    rt: &impl Abort,
     alloc: Global,
     items: u8,
     from: u8,
     to: u8,
-    word: &str,
+    text: &str,
     kind: Kind,
-) -> Result<PlacedBlock, NoMemory>
+) -> PlacedBlock
     requires forward { from < to }
     requires within { to ≤ items }
-    ensures { IfOk result (IsPlaced items) }
+    ensures { IsPlaced items result }
 {
-    let words = Vec::from_array(alloc, [Word::new(alloc, word)?])?;
     let prefix = to == items && !matches!(kind, Kind::Plain);
-    Ok(PlacedBlock {
-        from,
-        to,
-        block: Block {
-            span: to - from,
-            term: Term { words, prefix },
-            kind,
-        },
-    })
+    let words = Vec::from_array(alloc, [word(rt, alloc, text)]).expect(rt, "memory");
+    let term = Term { words, prefix };
+    let span = to - from;
+    let block = Block { span, term, kind };
+    PlacedBlock { from, to, block }
 }
 
 // The query `dark ness`, whose last word may be only the beginning of one.
-fn dark_ness(alloc: Global) -> Result<Graph, NoMemory>
-    ensures { IfOk result (λ graph. IsGraph graph × (length graph.levels ≡ 1)) }
+fn dark_ness(rt: &impl Abort, alloc: Global) -> Graph
+    ensures graph { IsGraph result }
+    ensures level { length result.levels ≡ 1 }
 {
-    let whole = Vec::from_array(
-        alloc,
-        [Word::new(alloc, "dark")?, Word::new(alloc, "ness")?],
-    )?;
-    let blocks = Vec::from_array(
-        alloc,
-        [
-            block(alloc, 2, 1, 2, "ness", Kind::Prefix)?,
-            block(alloc, 2, 0, 2, "darkness", Kind::Joined)?,
-            block(alloc, 2, 0, 1, "dark", Kind::Plain)?,
-        ],
-    )?;
-    let levels = Vec::from_array(alloc, [LevelGraph { items: 2, blocks }])?;
-    Ok(Graph { levels, whole })
+    let words = [word(rt, alloc, "dark"), word(rt, alloc, "ness")];
+    let blocks = [
+        block(rt, alloc, 2, 1, 2, "ness", Kind::Prefix),
+        block(rt, alloc, 2, 0, 2, "darkness", Kind::Joined),
+        block(rt, alloc, 2, 0, 1, "dark", Kind::Plain),
+    ];
+    let blocks = Vec::from_array(alloc, blocks).expect(rt, "memory");
+    let level = LevelGraph { items: 2, blocks };
+    Graph {
+        levels: Vec::from_array(alloc, [level]).expect(rt, "memory"),
+        whole: Vec::from_array(alloc, words).expect(rt, "memory"),
+    }
 }
 
 // The phrase `dark knight`.
-fn dark_knight(alloc: Global) -> Result<Graph, NoMemory>
-    ensures { IfOk result (λ graph. IsGraph graph × (length graph.levels ≡ 1)) }
+fn dark_knight(rt: &impl Abort, alloc: Global) -> Graph
+    ensures graph { IsGraph result }
+    ensures level { length result.levels ≡ 1 }
 {
-    let phrase = Vec::from_array(
-        alloc,
-        [Word::new(alloc, "dark")?, Word::new(alloc, "knight")?],
-    )?;
-    let whole = phrase.clone()?;
-    let term = Term {
-        words: phrase,
-        prefix: false,
-    };
+    let phrase = [word(rt, alloc, "dark"), word(rt, alloc, "knight")];
+    let words = Vec::from_array(alloc, phrase).expect(rt, "memory");
+    let whole = words.clone().expect(rt, "memory");
+    let prefix = false;
     let block = Block {
         span: 1,
-        term,
+        term: Term { words, prefix },
         kind: Kind::Phrase,
     };
-    let blocks = Vec::from_array(
-        alloc,
-        [PlacedBlock {
-            from: 0,
-            to: 1,
-            block,
-        }],
-    )?;
-    let levels = Vec::from_array(alloc, [LevelGraph { items: 1, blocks }])?;
-    Ok(Graph { levels, whole })
+    let placed = PlacedBlock {
+        from: 0,
+        to: 1,
+        block,
+    };
+    let blocks = Vec::from_array(alloc, [placed]).expect(rt, "memory");
+    let level = LevelGraph { items: 1, blocks };
+    let levels = Vec::from_array(alloc, [level]).expect(rt, "memory");
+    Graph { levels, whole }
 }
 
 // The rule itself, if it has a graph.
@@ -98,24 +89,25 @@ fn with_graph(rule: Rule) -> Rule
 }
 
 // The edges under a rule, with their conditions in short.
-fn shown(alloc: Global, graph: &Graph, rule: Rule, ranks: u16) -> Result<String, Fail>
+fn shown(rt: &impl Abort, alloc: Global, graph: &Graph, rule: Rule, ranks: u16) -> String
     requires graph { IsGraph graph.now }
     requires level { length graph.now.levels ≡ 1 }
 {
-    let made = conditions(alloc, graph, with_graph(rule), 0, ranks)?;
-    let mut text = format!(in alloc; "{}:", made.nodes)?;
+    let made = conditions(alloc, graph, with_graph(rule), 0, ranks).expect(rt, "memory");
+    let mut text = String::new(alloc);
+    write!(text, "{}:", made.nodes).expect(rt, "memory");
     for edge in &made.edges {
-        let condition = condition_shown(alloc, &edge.condition)?;
-        let (from, to, cost) = (edge.from, edge.to, edge.cost);
-        text.push_str(&format!(in alloc; " {from}-{to} {condition} {cost};")?)?;
+        write!(text, " {}-{} ", edge.from, edge.to).expect(rt, "memory");
+        show_condition(rt, &edge.condition, &mut text);
+        write!(text, " {};", edge.cost).expect(rt, "memory");
     }
-    Ok(text)
+    text
 }
 
-fn condition_shown(alloc: Global, condition: &Condition) -> Result<String, Fail> {
-    Ok(match condition {
-        Condition::Free => String::from_str(alloc, "free")?,
-        Condition::Occurs(term) => term_shown(alloc, term)?,
+fn show_condition(rt: &impl Abort, condition: &Condition, text: &mut String) {
+    match condition {
+        Condition::Free => add(rt, text, "free"),
+        Condition::Occurs(term) => show_term(rt, term, text),
         Condition::Pair {
             left,
             right,
@@ -123,24 +115,25 @@ fn condition_shown(alloc: Global, condition: &Condition) -> Result<String, Fail>
             cost,
         } => {
             let more = if *right_prefix { "*" } else { "" };
-            format!(in alloc; "{}~{}{more}@{cost}", left.as_str(), right.as_str())?
+            let (left, right) = (left.as_str(), right.as_str());
+            write!(text, "{left}~{right}{more}@{cost}").expect(rt, "memory");
         }
         Condition::AtRank { term, rank } => {
-            format!(in alloc; "{}#{rank}", term_shown(alloc, term)?)?
+            show_term(rt, term, text);
+            write!(text, "#{rank}").expect(rt, "memory");
         }
         Condition::AtBucket { term, bucket } => {
-            format!(in alloc; "{}%{bucket}", term_shown(alloc, term)?)?
+            show_term(rt, term, text);
+            write!(text, "%{bucket}").expect(rt, "memory");
         }
-    })
+    }
 }
 
-fn term_shown(alloc: Global, term: &Term) -> Result<String, Fail> {
-    let mut text = String::new(alloc);
+fn show_term(rt: &impl Abort, term: &Term, text: &mut String) {
     for word in &term.words {
-        text.push_str(word.as_str())?;
-        text.push_str(if term.prefix { "*" } else { "." })?;
+        add(rt, text, word.as_str());
+        add(rt, text, if term.prefix { "*" } else { "." });
     }
-    Ok(text)
 }
 
 // The number of nodes and the edges of `dark ness`. A star stands for words that begin so, a dot
@@ -166,23 +159,22 @@ const DARK_NESS: [(Rule, &str); 4] = [
 ];
 
 #[test]
-fn dark_ness_by_each_rule(rt: HostRuntime) -> Result<(), Fail> {
-    let graph = dark_ness(rt.alloc())?;
-    for (rule, edges) in DARK_NESS {
-        let text = shown(rt.alloc(), &graph, rule, 2)?;
-        assert_eq!(rt; text.as_str(), edges);
+fn dark_ness_by_each_rule(rt: HostRuntime) {
+    let graph = dark_ness(&rt, rt.alloc());
+    for (rule, edges) in &DARK_NESS {
+        let text = shown(&rt, rt.alloc(), &graph, *rule, 2);
+        check_text(&rt, &text, edges, "dark ness");
     }
-    Ok(())
 }
 
 #[test]
-fn a_phrase_in_a_rank_and_in_each_bucket(rt: HostRuntime) -> Result<(), Fail> {
-    let graph = dark_knight(rt.alloc())?;
-    let field = shown(rt.alloc(), &graph, Rule::Field, 1)?;
-    assert_eq!(rt; field.as_str(), "2: 0-1 dark.knight.#0 0;");
-    let position = shown(rt.alloc(), &graph, Rule::Position, 0)?;
-    let text = position.as_str();
-    assert!(rt; text.starts_with("2: 0-1 dark.knight.%0 0; 0-1 dark.knight.%1 1;"));
-    assert!(rt; text.ends_with(" 0-1 dark.knight.%19 19; 0-1 dark.knight.%20 20;"));
-    Ok(())
+fn a_phrase_in_a_rank_and_in_each_bucket(rt: HostRuntime) {
+    let graph = dark_knight(&rt, rt.alloc());
+    let field = shown(&rt, rt.alloc(), &graph, Rule::Field, 1);
+    check_text(&rt, &field, "2: 0-1 dark.knight.#0 0;", "rank");
+    let position = shown(&rt, rt.alloc(), &graph, Rule::Position, 0);
+    let first = "2: 0-1 dark.knight.%0 0; 0-1 dark.knight.%1 1;";
+    check(&rt, position.starts_with(first), first);
+    let last = " 0-1 dark.knight.%19 19; 0-1 dark.knight.%20 20;";
+    check(&rt, position.ends_with(last), last);
 }

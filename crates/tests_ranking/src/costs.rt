@@ -1,14 +1,15 @@
-ghost use Rattle.std.specs.Prelude.{◌≡◌, ◌<◌, ◌≤◌, true, IsTrue, length, IfOk, IfSome};
+ghost use Rattle.std.specs.Prelude.{◌≡◌, ◌<◌, ◌≤◌, true, IsTrue, length, IfSome};
 ghost use Rattle.std.specs.List.{AllByRecursion};
 ghost use Rattle.search_base.specs.Graphs.{IsTerm, IsPlaced, IsLevel, IsGraph};
 
+use crate::checks::{add, check_text, word};
 use plain_rank::*;
 use search_base::{
-    Block, CostKey, DocRows, FacetValue, Graph, Kind, Leaf, LevelGraph, NoMemory, PathId, Place,
-    PlacedBlock, Rule, SortKey, Term, Word,
+    Block, CostKey, DocRows, FacetValue, Graph, Kind, Leaf, LevelGraph, PathId, Place, PlacedBlock,
+    Rule, SortKey, Term, Word,
 };
 use std::alloc::Global;
-use std::test::Fail;
+use std::process::Abort;
 
 // What stands for all rules of a search: words, proximity, attribute and exactness.
 const RULES: [Rule; 6] = [
@@ -135,23 +136,23 @@ const CASES: [(&str, &str); 9] = [
 ];
 
 // The words asked for, one or two in a row. A star counts at the last item alone.
-fn term(alloc: Global, first: &str, second: Option<&str>, last: bool) -> Result<Term, NoMemory>
-    ensures term { IfOk result IsTerm }
-    ensures last { IfOk result (λ term. IsTrue term.prefix → last ≡ true) }
+fn term(rt: &impl Abort, alloc: Global, first: &str, second: Option<&str>, last: bool) -> Term
+    ensures term { IsTerm result }
+    ensures last { IsTrue result.prefix → last ≡ true }
 {
     if let Some(second) = second {
-        let words = Vec::from_array(alloc, [Word::new(alloc, first)?, Word::new(alloc, second)?])?;
-        return Ok(Term {
-            words,
+        let words = [word(rt, alloc, first), word(rt, alloc, second)];
+        return Term {
+            words: Vec::from_array(alloc, words).expect(rt, "memory"),
             prefix: false,
-        });
+        };
     }
     let beginning = first.strip_suffix('*');
-    let words = Vec::from_array(alloc, [Word::new(alloc, beginning.unwrap_or(first))?])?;
-    Ok(Term {
-        words,
+    let only = word(rt, alloc, beginning.unwrap_or(first));
+    Term {
+        words: Vec::from_array(alloc, [only]).expect(rt, "memory"),
         prefix: last && beginning.is_some(),
-    })
+    }
 }
 
 fn kind(name: &str) -> Kind {
@@ -164,181 +165,217 @@ fn kind(name: &str) -> Kind {
     }
 }
 
+fn number(rt: &impl Abort, text: Option<&str>) -> u8 {
+    let text = text.unwrap_or("").trim();
+    text.parse::<u8>().expect(rt, "a number")
+}
+
 // A block of a level of this many items, if it stands within it.
-fn placed(alloc: Global, items: u8, text: &str) -> Result<Option<PlacedBlock>, Fail>
-    ensures { IfOk result (λ placed. IfSome placed (IsPlaced items)) }
+fn placed(rt: &impl Abort, alloc: Global, items: u8, text: &str) -> Option<PlacedBlock>
+    ensures { IfSome result (IsPlaced items) }
 {
     let mut parts = text.trim().split(' ');
-    let from = parts.next().unwrap_or("").parse::<u8>()?;
-    let to = parts.next().unwrap_or("").parse::<u8>()?;
+    let from = number(rt, parts.next());
+    let to = number(rt, parts.next());
     let kind = kind(parts.next().unwrap_or(""));
     let first = parts.next().unwrap_or("");
-    let term = term(alloc, first, parts.next(), to == items)?;
+    let term = term(rt, alloc, first, parts.next(), to == items);
     if from < to && to <= items {
         let span = to - from;
         let block = Block { span, term, kind };
-        Ok(Some(PlacedBlock { from, to, block }))
+        Some(PlacedBlock { from, to, block })
     } else {
-        Ok(None)
+        None
     }
 }
 
 // The blocks of a level of this many items.
-fn blocks(alloc: Global, items: u8, text: &str) -> Result<Vec<PlacedBlock>, Fail>
-    ensures { IfOk result (λ blocks. AllByRecursion (IsPlaced items) blocks.items) }
+fn blocks(rt: &impl Abort, alloc: Global, items: u8, text: &str) -> Vec<PlacedBlock>
+    ensures { AllByRecursion (IsPlaced items) result.items }
 {
     let mut blocks = Vec::new(alloc);
     for text in text.split(',') {
-        if let Some(placed) = placed(alloc, items, text)? {
-            blocks.push(placed)?;
+        if let Some(placed) = placed(rt, alloc, items, text) {
+            blocks.push(placed).expect(rt, "memory");
         }
     }
-    Ok(blocks)
+    blocks
 }
 
 // A level of at most ten items.
-fn level(alloc: Global, items: &str, text: &str) -> Result<LevelGraph, Fail>
-    ensures { IfOk result IsLevel }
+fn level(rt: &impl Abort, alloc: Global, items: &str, text: Option<&str>) -> LevelGraph
+    ensures { IsLevel result }
 {
-    let items = items.trim().parse::<u8>()?.min(10).max(1);
-    let blocks = blocks(alloc, items, text)?;
-    Ok(LevelGraph { items, blocks })
+    let items = number(rt, Some(items)).min(10).max(1);
+    let blocks = blocks(rt, alloc, items, text.unwrap_or(""));
+    LevelGraph { items, blocks }
 }
 
 // The levels of a query that has words: one, or two.
-fn levels(alloc: Global, text: &str) -> Result<Vec<LevelGraph>, Fail>
-    ensures few { IfOk result (λ levels. length levels.items ≤ 10) }
-    ensures levels { IfOk result (λ levels. AllByRecursion IsLevel levels.items) }
+fn levels(rt: &impl Abort, alloc: Global, text: &str) -> Vec<LevelGraph>
+    ensures few { length result.items ≤ 10 }
+    ensures levels { AllByRecursion IsLevel result.items }
 {
     let mut parts = text.split(':');
     let items = parts.next().unwrap_or("");
-    let first = level(alloc, items, parts.next().unwrap_or(""))?;
-    let Some(items) = parts.next() else {
-        return Ok(Vec::from_array(alloc, [first])?);
-    };
-    let second = level(alloc, items, parts.next().unwrap_or(""))?;
-    Ok(Vec::from_array(alloc, [first, second])?)
+    let first = level(rt, alloc, items, parts.next());
+    match parts.next() {
+        None => Vec::from_array(alloc, [first]).expect(rt, "memory"),
+        Some(items) => {
+            let second = level(rt, alloc, items, parts.next());
+            Vec::from_array(alloc, [first, second]).expect(rt, "memory")
+        }
+    }
 }
 
 // The words between spaces.
-fn words(alloc: Global, text: &str) -> Result<Vec<Word>, NoMemory> {
+fn words(rt: &impl Abort, alloc: Global, text: &str) -> Vec<Word> {
     let mut words = Vec::new(alloc);
-    for word in text.split(' ') {
-        if !word.is_empty() {
-            words.push(Word::new(alloc, word)?)?;
+    for part in text.split(' ') {
+        if !part.is_empty() {
+            words.push(word(rt, alloc, part)).expect(rt, "memory");
         }
     }
-    Ok(words)
+    words
 }
 
 // A query without words has no level.
-fn graph(alloc: Global, query: &str) -> Result<Graph, Fail>
-    ensures { IfOk result IsGraph }
+fn graph(rt: &impl Abort, alloc: Global, query: &str) -> Graph
+    ensures { IsGraph result }
 {
     let (whole, rest) = query.split_once(':').unwrap_or((query, ""));
-    let whole = words(alloc, whole)?;
+    let whole = words(rt, alloc, whole);
     let levels = if whole.is_empty() {
         Vec::new(alloc)
     } else {
-        levels(alloc, rest)?
+        levels(rt, alloc, rest)
     };
-    Ok(Graph { levels, whole })
+    Graph { levels, whole }
+}
+
+fn place(rt: &impl Abort, alloc: Global, path: u16, position: u32, text: &str) -> Place {
+    Place {
+        path: PathId(path),
+        rank: path,
+        position: u16::try_from(position).expect(rt, "a position"),
+        word: word(rt, alloc, text),
+    }
 }
 
 // The words of a path, whose rank is its number.
-fn add_path(alloc: Global, path: u16, words: &str, places: &mut Vec<Place>) -> Result<(), Fail> {
+fn add_places(rt: &impl Abort, alloc: Global, path: u16, words: &str, places: &mut Vec<Place>) {
     let mut next = 0u32;
     for word in words.split(' ') {
         if let Some(position) = word.strip_prefix('@') {
-            next = position.parse::<u32>()?;
+            next = position.parse::<u32>().expect(rt, "a position");
         } else if !word.is_empty() {
-            places.push(Place {
-                path: PathId(path),
-                rank: path,
-                position: u16::try_from(next)?,
-                word: Word::new(alloc, word)?,
-            })?;
+            let place = place(rt, alloc, path, next, word);
+            places.push(place).expect(rt, "memory");
             next = next.saturating_add(1);
         }
     }
-    Ok(())
 }
 
 // A number or a text of a path, as a leaf.
-fn leaf(alloc: Global, path: u16, text: &str) -> Result<Leaf, NoMemory> {
-    let shown = Word::new(alloc, text)?;
+fn leaf(rt: &impl Abort, alloc: Global, path: u16, text: &str) -> Leaf {
     let value = match text.parse::<i128>() {
         Ok(number) => FacetValue::Number(number),
-        Err(_) => FacetValue::Text(shown.clone()?),
+        Err(_) => FacetValue::Text(word(rt, alloc, text)),
     };
-    Ok(Leaf {
-        path: PathId(path),
-        value,
-        shown,
-    })
+    let shown = word(rt, alloc, text);
+    let path = PathId(path);
+    Leaf { path, value, shown }
+}
+
+fn add_leaves(rt: &impl Abort, alloc: Global, path: u16, words: &str, leaves: &mut Vec<Leaf>) {
+    for word in words.split(' ') {
+        if !word.is_empty() {
+            let leaf = leaf(rt, alloc, path, word);
+            leaves.push(leaf).expect(rt, "memory");
+        }
+    }
 }
 
 // A document with these words in its paths, each of which is a leaf too.
-fn rows(alloc: Global, text: &str) -> Result<DocRows, Fail> {
+fn rows(rt: &impl Abort, alloc: Global, text: &str) -> DocRows {
     let mut places = Vec::new(alloc);
     let mut leaves = Vec::new(alloc);
-    for (path, words) in text.split('/').enumerate() {
-        let path = u16::try_from(path)?;
-        add_path(alloc, path, words, &mut places)?;
-        for word in words.split(' ') {
-            if !word.is_empty() {
-                leaves.push(leaf(alloc, path, word)?)?;
-            }
-        }
+    let mut path = 0_u16;
+    for words in text.split('/') {
+        add_places(rt, alloc, path, words, &mut places);
+        add_leaves(rt, alloc, path, words, &mut leaves);
+        path = path.saturating_add(1);
     }
-    Ok(DocRows {
+    let marks = Vec::new(alloc);
+    DocRows {
         places,
         leaves,
-        marks: Vec::new(alloc),
-    })
+        marks,
+    }
 }
 
-// How an entry of the costs is written.
-fn told_entry(alloc: Global, key: &CostKey) -> Result<String, Fail> {
-    Ok(match key {
-        CostKey::Number(cost) => format!(in alloc; " {cost}")?,
-        CostKey::Up(SortKey::Number(number)) => format!(in alloc; " {number}")?,
-        CostKey::Up(SortKey::Text(text)) => format!(in alloc; " {}", text.as_str())?,
-        CostKey::Down(SortKey::Number(number)) => format!(in alloc; " -{number}")?,
-        CostKey::Down(SortKey::Text(text)) => format!(in alloc; " -{}", text.as_str())?,
-        CostKey::Up(SortKey::Missing) | CostKey::Down(SortKey::Missing) => {
-            String::from_str(alloc, " missing")?
-        }
-    })
+// An entry of the costs, as it is written in the tables.
+fn tell(rt: &impl Abort, key: &CostKey, text: &mut String) {
+    match key {
+        CostKey::Number(cost) => write!(text, " {cost}").expect(rt, "memory"),
+        CostKey::Up(key) => tell_key(rt, " ", key, text),
+        CostKey::Down(key) => tell_key(rt, " -", key, text),
+    }
+}
+
+// A missing key is told alike in both directions.
+fn tell_key(rt: &impl Abort, sign: &str, key: &SortKey, text: &mut String) {
+    match key {
+        SortKey::Number(number) => write!(text, "{sign}{number}").expect(rt, "memory"),
+        SortKey::Text(form) => write!(text, "{sign}{}", form.as_str()).expect(rt, "memory"),
+        SortKey::Missing => add(rt, text, " missing"),
+    }
 }
 
 // The costs of a document by some rules, as they are written in the tables.
-fn told(alloc: Global, query: &str, document: &str, rules: &[Rule]) -> Result<String, Fail> {
-    let graph = graph(alloc, query)?;
-    let rows = rows(alloc, document)?;
+fn told(rt: &impl Abort, alloc: Global, query: &str, document: &str, rules: &[Rule]) -> String {
+    let graph = graph(rt, alloc, query);
+    let rows = rows(rt, alloc, document);
     the_first_match_counts(&graph, &rows);
-    let mut told = String::new(alloc);
-    match cost_tuple(alloc, &graph, &rows, rules)? {
-        Some(costs) => {
-            for key in &costs {
-                told.push_str(told_entry(alloc, key)?.as_str())?;
-            }
-        }
-        None => told.push_str(" none")?,
+    let mut text = String::new(alloc);
+    match cost_tuple(alloc, &graph, &rows, rules).expect(rt, "memory") {
+        Some(costs) => tell_all(rt, &costs, &mut text),
+        None => add(rt, &mut text, " none"),
     }
-    Ok(told)
+    text
+}
+
+fn tell_all(rt: &impl Abort, costs: &[CostKey], text: &mut String) {
+    for key in costs {
+        tell(rt, key, text);
+    }
+}
+
+fn check_costs(
+    rt: &impl Abort,
+    alloc: Global,
+    query: &str,
+    document: &str,
+    rules: &[Rule],
+    costs: &str,
+) {
+    let found = told(rt, alloc, query, document, rules);
+    check_text(rt, &found, costs, document);
+}
+
+// Lines of a document and its costs by all rules.
+fn check_documents(rt: &impl Abort, alloc: Global, query: &str, documents: &str) {
+    for line in documents.split('\n') {
+        let (document, costs) = line.split_once(" ~").unwrap_or((line, ""));
+        check_costs(rt, alloc, query, document, &RULES, costs);
+    }
 }
 
 #[test]
-fn costs_by_all_rules(rt: HostRuntime) -> Result<(), Fail> {
+fn costs_by_all_rules(rt: HostRuntime) {
     for (query, documents) in &CASES {
-        for line in documents.split('\n') {
-            let (document, costs) = line.split_once(" ~").unwrap_or((line, ""));
-            let told = told(rt.alloc(), query, document, &RULES)?;
-            assert_eq!(rt; told.as_str(), costs, "{query} in {document}");
-        }
+        check_documents(&rt, rt.alloc(), query, documents);
     }
-    Ok(())
 }
 
 // Documents with the ascending and the descending key of their second path.
@@ -355,40 +392,46 @@ const KEYS: [(&str, &str); 8] = [
 
 const SECOND: Option<PathId> = Some(PathId(1));
 
+const BY_SECOND: [Rule; 2] = [Rule::Up(SECOND), Rule::Down(SECOND)];
+
+const BY_NONE: [Rule; 2] = [Rule::Up(None), Rule::Down(None)];
+
 #[test]
-fn sort_keys(rt: HostRuntime) -> Result<(), Fail> {
+fn sort_keys(rt: HostRuntime) {
     for (document, keys) in &KEYS {
-        let told = told(
-            rt.alloc(),
-            "",
-            document,
-            &[Rule::Up(SECOND), Rule::Down(SECOND)],
-        )?;
-        assert_eq!(rt; told.as_str(), *keys, "{document}");
+        check_costs(&rt, rt.alloc(), "", document, &BY_SECOND, keys);
     }
-    let told = told(rt.alloc(), "", "1/2", &[Rule::Up(None), Rule::Down(None)])?;
-    assert_eq!(rt; told.as_str(), " missing missing");
-    Ok(())
+    check_costs(&rt, rt.alloc(), "", "1/2", &BY_NONE, " missing missing");
 }
 
-// The rules as they are told, one entry each.
+// Rules, and the costs of one document under one query: as the rules are told, one entry each.
+const ORDERS: [(&[Rule], &str); 3] = [
+    (&[Rule::Proximity], " 1"),
+    (&[], ""),
+    (
+        &[
+            Rule::Inexact,
+            Rule::Down(SECOND),
+            Rule::Field,
+            Rule::Inexact,
+            Rule::Words,
+        ],
+        " 2 -4 4 2 0",
+    ),
+];
+
 #[test]
-fn rules_in_their_order(rt: HostRuntime) -> Result<(), Fail> {
+fn rules_in_their_order(rt: HostRuntime) {
     let query =
         "dark ness: 2: 0 1 plain dark, 1 2 prefix ness*, 0 2 joined darkness*: 1: 0 1 plain dark";
-    let document = "drama/4/darkness/2002";
-    let proximity = told(rt.alloc(), query, document, &[Rule::Proximity])?;
-    assert_eq!(rt; proximity.as_str(), " 1");
-    let none = told(rt.alloc(), query, document, &[])?;
-    assert_eq!(rt; none.as_str(), "");
-    let rules = [
-        Rule::Inexact,
-        Rule::Down(SECOND),
-        Rule::Field,
-        Rule::Inexact,
-        Rule::Words,
-    ];
-    let mixed = told(rt.alloc(), query, document, &rules)?;
-    assert_eq!(rt; mixed.as_str(), " 2 -4 4 2 0");
-    Ok(())
+    for (rules, costs) in &ORDERS {
+        check_costs(
+            &rt,
+            rt.alloc(),
+            query,
+            "drama/4/darkness/2002",
+            rules,
+            costs,
+        );
+    }
 }

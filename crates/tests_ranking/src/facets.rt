@@ -1,7 +1,8 @@
+use crate::checks::{add, check, check_text, word};
 use facet_counts::{FacetCounts, FacetPath, FacetReply, in_order};
 use search_base::{DocRows, FacetValue, Leaf, PathId, Word};
 use std::alloc::Global;
-use std::test::Fail;
+use std::process::Abort;
 
 // The document, the path, the number or else the normal form, and the spelling.
 const LEAVES: [(u8, u16, i128, &str, &str); 9] = [
@@ -47,81 +48,101 @@ const COUNTS: [(u8, u64, &str); 6] = [
     (0, 100, "genre: year: none: "),
 ];
 
-fn asked(alloc: Global) -> Result<Vec<FacetPath>, Fail> {
+const ASKED: [(&str, Option<PathId>); 3] = [
+    ("genre", Some(PathId(1))),
+    ("year", Some(PathId(2))),
+    ("none", None),
+];
+
+fn asked(rt: &impl Abort, alloc: Global) -> Vec<FacetPath> {
     let mut asked = Vec::new(alloc);
-    for (attribute, path) in [
-        ("genre", Some(PathId(1))),
-        ("year", Some(PathId(2))),
-        ("none", None),
-    ] {
-        let attribute = Word::new(alloc, attribute)?;
-        asked.push(FacetPath { attribute, path })?;
+    for (name, path) in &ASKED {
+        let attribute = word(rt, alloc, name);
+        let path = *path;
+        asked
+            .push(FacetPath { attribute, path })
+            .expect(rt, "memory");
     }
-    Ok(asked)
+    asked
 }
 
-fn rows_of(alloc: Global, document: u8) -> Result<DocRows, Fail> {
+fn leaf(rt: &impl Abort, alloc: Global, path: u16, number: i128, form: &str, shown: &str) -> Leaf {
+    let value = if form.is_empty() {
+        FacetValue::Number(number)
+    } else {
+        FacetValue::Text(word(rt, alloc, form))
+    };
+    Leaf {
+        path: PathId(path),
+        value,
+        shown: word(rt, alloc, shown),
+    }
+}
+
+fn rows_of(rt: &impl Abort, alloc: Global, document: u8) -> DocRows {
     let mut leaves = Vec::new(alloc);
-    for (of, path, number, form, shown) in LEAVES {
-        if of == document {
-            let value = match form {
-                "" => FacetValue::Number(number),
-                form => FacetValue::Text(Word::new(alloc, form)?),
-            };
-            leaves.push(Leaf {
-                path: PathId(path),
-                value,
-                shown: Word::new(alloc, shown)?,
-            })?;
+    for (of, path, number, form, shown) in &LEAVES {
+        if *of == document {
+            let leaf = leaf(rt, alloc, *path, *number, form, shown);
+            leaves.push(leaf).expect(rt, "memory");
         }
     }
-    Ok(DocRows {
+    DocRows {
         places: Vec::new(alloc),
         leaves,
         marks: Vec::new(alloc),
-    })
+    }
 }
 
-fn told(alloc: Global, replies: &[FacetReply]) -> Result<String, Fail> {
-    let mut told = String::new(alloc);
-    for reply in replies {
-        told.push_str(format!(in alloc; "{}: ", reply.attribute.as_str())?.as_str())?;
-        for row in &reply.rows {
-            let (value, shown) = (row.value.as_str(), row.shown.as_str());
-            told.push_str(format!(in alloc; "{value} {shown} {}, ", row.count)?.as_str())?;
-        }
-        if let Some((least, greatest)) = reply.stats {
-            told.push_str(format!(in alloc; "{least} to {greatest}, ")?.as_str())?;
-        }
+fn tell(rt: &impl Abort, reply: &FacetReply, text: &mut String) {
+    write!(text, "{}: ", reply.attribute.as_str()).expect(rt, "memory");
+    for row in &reply.rows {
+        let (value, shown) = (row.value.as_str(), row.shown.as_str());
+        write!(text, "{value} {shown} {}, ", row.count).expect(rt, "memory");
     }
-    Ok(told)
+    if let Some((least, greatest)) = reply.stats {
+        write!(text, "{least} to {greatest}, ").expect(rt, "memory");
+    }
+}
+
+fn check_counts(rt: &impl Abort, alloc: Global, documents: u8, most: u64, want: &str) {
+    let mut counts = FacetCounts::new(alloc, asked(rt, alloc)).expect(rt, "memory");
+    check(rt, !counts.is_empty(), want);
+    for document in 0..documents {
+        let rows = rows_of(rt, alloc, document);
+        counts.add(alloc, &rows).expect(rt, "memory");
+    }
+    let mut text = String::new(alloc);
+    for reply in &counts.finish(alloc, most).expect(rt, "memory") {
+        tell(rt, reply, &mut text);
+    }
+    check_text(rt, &text, want, "counts");
+}
+
+fn words(rt: &impl Abort, alloc: Global, names: &[&str]) -> Vec<Word> {
+    let mut words = Vec::new(alloc);
+    for name in names {
+        words.push(word(rt, alloc, name)).expect(rt, "memory");
+    }
+    words
+}
+
+fn check_order(rt: &impl Abort, alloc: Global, names: &[&str], want: &str) {
+    let names = words(rt, alloc, names);
+    let mut ordered = String::new(alloc);
+    for name in in_order(alloc, names.as_slice()).expect(rt, "memory") {
+        add(rt, &mut ordered, name.as_str());
+    }
+    check_text(rt, &ordered, want, "order");
 }
 
 #[test]
-fn values_are_counted_by_documents(rt: HostRuntime) -> Result<(), Fail> {
+fn values_are_counted_by_documents(rt: HostRuntime) {
     let alloc = rt.alloc();
-    for (documents, most, want) in COUNTS {
-        let mut counts = FacetCounts::new(alloc, asked(alloc)?)?;
-        assert!(rt; !counts.is_empty());
-        for document in 0..documents {
-            counts.add(alloc, &rows_of(alloc, document)?)?;
-        }
-        let replies = counts.finish(alloc, most)?;
-        assert_eq!(rt;
-            told(alloc, replies.as_slice())?.as_str(),
-            want,
-            "{documents} {most}"
-        );
+    for (documents, most, want) in &COUNTS {
+        check_counts(&rt, alloc, *documents, *most, want);
     }
-    assert!(rt; FacetCounts::new(alloc, Vec::new(alloc))?.is_empty());
-    let mut names = Vec::new(alloc);
-    for name in ["b", "é", "a", "b", "z", "B"] {
-        names.push(Word::new(alloc, name)?)?;
-    }
-    let mut ordered = String::new(alloc);
-    for name in in_order(alloc, names.as_slice())? {
-        ordered.push_str(name.as_str())?;
-    }
-    assert_eq!(rt; ordered.as_str(), "Babzé");
-    Ok(())
+    let none = FacetCounts::new(alloc, Vec::new(alloc)).expect(&rt, "memory");
+    check(&rt, none.is_empty(), "no attribute");
+    check_order(&rt, alloc, &["b", "é", "a", "b", "z", "B"], "Babzé");
 }

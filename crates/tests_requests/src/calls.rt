@@ -1,12 +1,12 @@
+use crate::checks::{check, check_text, string, times, word};
 use doc_values::ChangeKind;
 use http_wire::{Reply, Wire};
 use request_calls::{Call, ReadCall, read_call, refusal_reply};
 use request_refusals::Refusal;
 use search_base::Word;
-use std::alloc::{AllocError, Global};
+use std::alloc::Global;
 use std::process::Abort;
 use std::str;
-use std::test::Fail;
 
 const DOCUMENTS: &str = "/indexes/m/documents";
 
@@ -95,59 +95,93 @@ NotSortable~400~invalid_search_sort~`m` is not sortable.
 NotFilterable~400~invalid_search_filter~`m` is not filterable.
 NotFacet~400~invalid_search_facets~`m` is not filterable."#;
 
-pub(crate) fn call_of(alloc: Global, method: &str, target: &str, body: &str) -> Result<Call, Fail> {
-    let wire = Wire {
-        method: Word::new(alloc, method)?,
-        target: Word::new(alloc, target)?,
-        body: body.as_bytes().to_vec(alloc)?,
+fn wire(rt: &impl Abort, alloc: Global, method: &str, target: &str, body: &str) -> Wire {
+    Wire {
+        method: word(rt, alloc, method),
+        target: word(rt, alloc, target),
+        body: body.as_bytes().to_vec(alloc).expect(rt, "memory"),
         closes: false,
-    };
-    Ok(read_call(alloc, &wire)?)
+    }
+}
+
+pub(crate) fn call_of(
+    rt: &impl Abort,
+    alloc: Global,
+    method: &str,
+    target: &str,
+    body: &str,
+) -> Call {
+    let wire = wire(rt, alloc, method, target, body);
+    read_call(alloc, &wire).expect(rt, "memory")
 }
 
 // The status and the body of a refusal, and of any other call what it asks for.
-pub(crate) fn answer_of(alloc: Global, call: &Call) -> Result<String, AllocError> {
+pub(crate) fn answer_of(rt: &impl Abort, alloc: Global, call: &Call) -> String {
     match call {
-        Call::Refused(Reply::Made { status, body, .. }) => {
+        Call::Refused(reply) => reply_text(rt, alloc, reply),
+        _ => string(rt, alloc, kind_of(call)),
+    }
+}
+
+fn reply_text(rt: &impl Abort, alloc: Global, reply: &Reply) -> String {
+    match reply {
+        Reply::Made { status, body, .. } => {
             let text = str::from_utf8(body).unwrap_or("no text");
-            format!(in alloc; "{status} {text}")
+            format!(in alloc; "{status} {text}").expect(rt, "memory")
         }
-        _ => kind_of(call).to_string(alloc),
+        Reply::Memory => string(rt, alloc, "refused"),
     }
 }
 
 pub(crate) fn refusal(
+    rt: &impl Abort,
     alloc: Global,
     status: &str,
     code: &str,
     message: &str,
-) -> Result<String, AllocError> {
-    format!(in alloc;
+) -> String {
+    let text = format!(in alloc;
         "{status} {{\"code\":\"{code}\",\"message\":\"{message}\",\"type\":\"invalid_request\"}}"
-    )
+    );
+    text.expect(rt, "memory")
+}
+
+// What a row wants: a word or a search, or a status, a code and a message with `~` between.
+pub(crate) fn wanted(rt: &impl Abort, alloc: Global, row: &str) -> String {
+    let mut parts = row.split('~');
+    let first = parts.next().unwrap_or("");
+    match (parts.next(), parts.next()) {
+        (Some(code), Some(message)) => refusal(rt, alloc, first, code, message),
+        _ => string(rt, alloc, first),
+    }
+}
+
+// A call, and what it asks for or why it is refused.
+fn check_call(
+    rt: &impl Abort,
+    alloc: Global,
+    method: &str,
+    target: &str,
+    body: &str,
+    wanted: &str,
+) {
+    let call = call_of(rt, alloc, method, target, body);
+    check_text(rt, &answer_of(rt, alloc, &call), wanted, target);
 }
 
 // A row of a table, whose parts stand between `~`.
-fn check_row(rt: &impl Abort, alloc: Global, row: &str) -> Result<(), Fail> {
-    let mut parts = row.split('~');
-    let method = parts.next().unwrap_or("");
-    let target = parts.next().unwrap_or("");
-    let body = parts.next().unwrap_or("");
-    let first = parts.next().unwrap_or("");
-    let wanted = match (parts.next(), parts.next()) {
-        (Some(code), Some(message)) => refusal(alloc, first, code, message)?,
-        _ => first.to_string(alloc)?,
-    };
-    let found = answer_of(alloc, &call_of(alloc, method, target, body)?)?;
-    assert!(rt; found == wanted, "{row}: {found}");
-    Ok(())
+fn check_row(rt: &impl Abort, alloc: Global, row: &str) {
+    let (method, rest) = row.split_once('~').unwrap_or((row, ""));
+    let (target, rest) = rest.split_once('~').unwrap_or((rest, ""));
+    let (body, rest) = rest.split_once('~').unwrap_or((rest, ""));
+    let wanted = wanted(rt, alloc, rest);
+    check_call(rt, alloc, method, target, body, &wanted);
 }
 
-fn check_table(rt: &impl Abort, alloc: Global, table: &str) -> Result<(), Fail> {
+fn check_table(rt: &impl Abort, alloc: Global, table: &str) {
     for row in table.lines() {
-        check_row(rt, alloc, row)?;
+        check_row(rt, alloc, row);
     }
-    Ok(())
 }
 
 // What a call is, in a word.
@@ -176,23 +210,20 @@ fn kind_of(call: &Call) -> &'static str {
 }
 
 #[test]
-fn each_route_once(rt: HostRuntime) -> Result<(), Fail> {
-    check_table(&rt, rt.alloc(), ROUTES)
+fn each_route_once(rt: HostRuntime) {
+    check_table(&rt, rt.alloc(), ROUTES);
 }
 
 #[test]
-fn the_first_fault_is_told(rt: HostRuntime) -> Result<(), Fail> {
-    let alloc = rt.alloc();
-    for table in [FIRST_FAULTS, BAD_UIDS, BAD_BODIES, BAD_SETTINGS] {
-        check_table(&rt, alloc, table)?;
+fn the_first_fault_is_told(rt: HostRuntime) {
+    for table in &[FIRST_FAULTS, BAD_UIDS, BAD_BODIES, BAD_SETTINGS] {
+        check_table(&rt, rt.alloc(), table);
     }
-    Ok(())
 }
 
 // The refusal of this name; its uid, id or key is `m`, and its document the third.
-fn refusal_named(alloc: Global, name: &str) -> Result<Refusal, Fail> {
-    let m = Word::new(alloc, "m")?;
-    Ok(match name {
+fn refusal_named(name: &str, m: Word) -> Refusal {
+    match name {
         "NoIndex" => Refusal::NoIndex { uid: m },
         "IndexExists" => Refusal::IndexExists { uid: m },
         "NoDocument" => Refusal::NoDocument { id: m },
@@ -212,34 +243,30 @@ fn refusal_named(alloc: Global, name: &str) -> Result<Refusal, Fail> {
         "NotSortable" => Refusal::NotSortable { attribute: m },
         "NotFilterable" => Refusal::NotFilterable { attribute: m },
         _ => Refusal::NotFacet { attribute: m },
-    })
-}
-
-#[test]
-fn replies_to_what_the_state_refuses(rt: HostRuntime) -> Result<(), Fail> {
-    let alloc = rt.alloc();
-    for row in BY_STATE.lines() {
-        let mut parts = row.split('~');
-        let refused = refusal_named(alloc, parts.next().unwrap_or(""))?;
-        let status = parts.next().unwrap_or("");
-        let code = parts.next().unwrap_or("");
-        let wanted = refusal(alloc, status, code, parts.next().unwrap_or(""))?;
-        let call = Call::Refused(refusal_reply(alloc, &refused)?);
-        let found = answer_of(alloc, &call)?;
-        assert!(rt; found == wanted, "{row}: {found}");
     }
-    Ok(())
+}
+
+fn check_refusal(rt: &impl Abort, alloc: Global, row: &str) {
+    let (name, rest) = row.split_once('~').unwrap_or((row, ""));
+    let refused = refusal_named(name, word(rt, alloc, "m"));
+    let reply = refusal_reply(alloc, &refused).expect(rt, "memory");
+    let found = reply_text(rt, alloc, &reply);
+    check_text(rt, &found, &wanted(rt, alloc, rest), name);
+}
+
+fn check_refusals(rt: &impl Abort, alloc: Global, table: &str) {
+    for row in table.lines() {
+        check_refusal(rt, alloc, row);
+    }
 }
 
 #[test]
-fn what_calls_say(rt: HostRuntime) -> Result<(), Fail> {
-    let alloc = rt.alloc();
-    match &call_of(
-        alloc,
-        "GET",
-        "/indexes/m/documents?fields=a%2Cb,&limit=007",
-        "",
-    )? {
+fn replies_to_what_the_state_refuses(rt: HostRuntime) {
+    check_refusals(&rt, rt.alloc(), BY_STATE);
+}
+
+fn check_documents(rt: &impl Abort, call: &Call) {
+    match call {
         Call::Read(
             ReadCall::Documents {
                 uid,
@@ -248,62 +275,78 @@ fn what_calls_say(rt: HostRuntime) -> Result<(), Fail> {
                 fields,
             },
         ) => {
-            assert_eq!(rt; uid.as_str(), "m");
-            assert_eq!(rt; (*offset, *limit, fields.len()), (0, 7, 3));
-            assert!(rt; fields.iter().any(|name| name.as_str() == "b"));
+            check_text(rt, uid.as_str(), "m", "uid");
+            check(rt, *offset == 0, "offset");
+            check(rt, *limit == 7, "limit");
+            check(rt, fields.len() == 3, "fields");
+            check(rt, fields.iter().any(|name| name.as_str() == "b"), "b");
         }
-        _ => assert!(rt; false, "documents"),
+        _ => check(rt, false, "documents"),
     }
-    match &call_of(alloc, "GET", "/indexes/m/documents/a%20b", "")? {
+}
+
+fn check_document(rt: &impl Abort, call: &Call) {
+    match call {
         Call::Read(ReadCall::Document { id, fields, .. }) => {
-            assert_eq!(rt; id.as_str(), "a%20b");
-            assert!(rt; fields.iter().all(|name| name.as_str() == "*"));
+            check_text(rt, id.as_str(), "a%20b", "id");
+            check(rt, fields.iter().all(|name| name.as_str() == "*"), "*");
         }
-        _ => assert!(rt; false, "document"),
+        _ => check(rt, false, "document"),
     }
-    Ok(())
-}
-
-// A call, and what it asks for or why it is refused.
-fn check(
-    rt: &impl Abort,
-    alloc: Global,
-    method: &str,
-    target: &str,
-    body: &str,
-    wanted: &str,
-) -> Result<(), Fail> {
-    let found = answer_of(alloc, &call_of(alloc, method, target, body)?)?;
-    assert!(rt; found.as_str() == wanted, "{found}");
-    Ok(())
 }
 
 #[test]
-fn ids_and_uids_at_their_limits(rt: HostRuntime) -> Result<(), Fail> {
+fn what_calls_say(rt: HostRuntime) {
     let alloc = rt.alloc();
-    let uid = "a".repeat(alloc, 400)?;
-    let target = format!(in alloc; "/indexes/{uid}")?;
-    check(&rt, alloc, "GET", &target, "", "index")?;
-    let target = format!(in alloc; "/indexes/{uid}b")?;
-    let wanted = refusal(alloc, "400", "invalid_index_uid", "Invalid index uid.")?;
-    check(&rt, alloc, "GET", &target, "", &wanted)?;
-    let id = "a".repeat(alloc, 511)?;
-    let body = format!(in alloc; "[\"{id}\"]")?;
-    check(&rt, alloc, "POST", BATCH, &body, "remove")?;
-    let body = format!(in alloc; "[\"{id}b\"]")?;
-    let wanted = refusal(alloc, "400", "invalid_document_id", "Id 1 is invalid.")?;
-    check(&rt, alloc, "POST", BATCH, &body, &wanted)
+    let target = "/indexes/m/documents?fields=a%2Cb,&limit=007";
+    check_documents(&rt, &call_of(&rt, alloc, "GET", target, ""));
+    let target = "/indexes/m/documents/a%20b";
+    check_document(&rt, &call_of(&rt, alloc, "GET", target, ""));
+}
+
+// An index with a uid of so many letters is asked for.
+fn check_uid_of(rt: &impl Abort, alloc: Global, letters: usize, wanted_row: &str) {
+    let mut target = string(rt, alloc, "/indexes/");
+    let uid = times(rt, alloc, "a", letters);
+    target.push_str(&uid).expect(rt, "memory");
+    let wanted = wanted(rt, alloc, wanted_row);
+    check_call(rt, alloc, "GET", &target, "", &wanted);
+}
+
+// A document with an id of so many letters is removed.
+fn check_id_of(rt: &impl Abort, alloc: Global, letters: usize, wanted_row: &str) {
+    let id = times(rt, alloc, "a", letters);
+    let body = format!(in alloc; "[\"{id}\"]").expect(rt, "memory");
+    let wanted = wanted(rt, alloc, wanted_row);
+    check_call(rt, alloc, "POST", BATCH, &body, &wanted);
+}
+
+const LONG_UID: &str = "400~invalid_index_uid~Invalid index uid.";
+
+const LONG_ID: &str = "400~invalid_document_id~Id 1 is invalid.";
+
+#[test]
+fn ids_and_uids_at_their_limits(rt: HostRuntime) {
+    let alloc = rt.alloc();
+    check_uid_of(&rt, alloc, 400, "index");
+    check_uid_of(&rt, alloc, 401, LONG_UID);
+    check_id_of(&rt, alloc, 511, "remove");
+    check_id_of(&rt, alloc, 512, LONG_ID);
+}
+
+const NO_OBJECT: &str = "400~malformed_payload~Document 1 is not an object.";
+
+const NO_JSON: &str = "400~malformed_payload~The body is not JSON.";
+
+fn check_depth(rt: &impl Abort, alloc: Global, depth: usize, wanted_row: &str) {
+    let (open, close) = (times(rt, alloc, "[", depth), times(rt, alloc, "]", depth));
+    let body = format!(in alloc; "{open}{close}").expect(rt, "memory");
+    let wanted = wanted(rt, alloc, wanted_row);
+    check_call(rt, alloc, "POST", DOCUMENTS, &body, &wanted);
 }
 
 #[test]
-fn bodies_nest_127_deep(rt: HostRuntime) -> Result<(), Fail> {
-    let alloc = rt.alloc();
-    let (open, close) = ("[".repeat(alloc, 127)?, "]".repeat(alloc, 127)?);
-    let deep = format!(in alloc; "{open}{close}")?;
-    let message = "Document 1 is not an object.";
-    let wanted = refusal(alloc, "400", "malformed_payload", message)?;
-    check(&rt, alloc, "POST", DOCUMENTS, &deep, &wanted)?;
-    let deeper = format!(in alloc; "[{deep}]")?;
-    let wanted = refusal(alloc, "400", "malformed_payload", "The body is not JSON.")?;
-    check(&rt, alloc, "POST", DOCUMENTS, &deeper, &wanted)
+fn bodies_nest_127_deep(rt: HostRuntime) {
+    check_depth(&rt, rt.alloc(), 127, NO_OBJECT);
+    check_depth(&rt, rt.alloc(), 128, NO_JSON);
 }

@@ -1,11 +1,12 @@
+use crate::checks::{check, check_text, times};
 use request_refusals::Refusal;
 use request_routes::{
-    Found, Route, check_uid, count_in, fields_in, find_route, read_query, split_target, text_in,
+    Found, Pair, Route, check_uid, count_in, fields_in, find_route, read_query, split_target,
+    text_in,
 };
-use search_base::Fault;
-use std::alloc::{AllocError, Global};
+use search_base::{Fault, Word};
+use std::alloc::Global;
 use std::process::Abort;
-use std::test::Fail;
 
 // A method, a target, and what they come to: the route, the uid and the id of the path, and the number of pairs.
 const ROUTES: &str = r#"GET~/health~Health `` `` 0
@@ -66,88 +67,99 @@ GET~/indexes/m/documents?fields&offset=-1~unknown offset
 PUT~/indexes/m/documents?primaryKey=~unknown primaryKey"#;
 
 // The route, the uid, the id and the number of pairs that a method and a target come to.
-fn asked(alloc: Global, method: &str, target: &str) -> Result<String, Fault<Refusal>> {
+fn asked(
+    rt: &impl Abort,
+    alloc: Global,
+    method: &str,
+    target: &str,
+) -> Result<String, Fault<Refusal>> {
     let (path, query) = split_target(target);
     let Found { route, uid, id } = find_route(alloc, method, path)?;
     check_uid(uid)?;
     let count = read_query(alloc, route, query)?.len();
-    Ok(format!(in alloc; "{route:?} `{uid}` `{id}` {count}")?)
+    let text = format!(in alloc; "{route:?} `{uid}` `{id}` {count}");
+    Ok(text.expect(rt, "memory"))
 }
 
-fn fault_text(alloc: Global, fault: &Fault<Refusal>) -> Result<String, AllocError> {
-    match fault {
+fn fault_text(rt: &impl Abort, alloc: Global, fault: &Fault<Refusal>) -> String {
+    let text = match fault {
+        Fault::Refused(Refusal::Unknown { name }) => {
+            format!(in alloc; "unknown {}", name.as_str())
+        }
         Fault::Refused(Refusal::NoRoute) => "no route".to_string(alloc),
         Fault::Refused(Refusal::MethodNotAllowed) => "no method".to_string(alloc),
         Fault::Refused(Refusal::InvalidUid) => "no uid".to_string(alloc),
-        Fault::Refused(Refusal::Unknown { name }) => format!(in alloc;
-            "unknown {name}",
-            name = name.as_str()
-        ),
         Fault::Refused(_) => "another refusal".to_string(alloc),
         Fault::NoMemory => "no memory".to_string(alloc),
-    }
+    };
+    text.expect(rt, "memory")
 }
 
 // A row of a table, whose parts stand between `~`.
-fn check_row(rt: &impl Abort, alloc: Global, row: &str) -> Result<(), Fail> {
+fn check_row(rt: &impl Abort, alloc: Global, row: &str) {
     let mut parts = row.split('~');
     let method = parts.next().unwrap_or("");
     let target = parts.next().unwrap_or("");
-    let wanted = parts.next().unwrap_or("");
-    let found = match asked(alloc, method, target) {
+    let found = match asked(rt, alloc, method, target) {
         Ok(text) => text,
-        Err(fault) => fault_text(alloc, &fault)?,
+        Err(fault) => fault_text(rt, alloc, &fault),
     };
-    assert!(rt; found.as_str() == wanted, "{row}: {found}");
-    Ok(())
+    check_text(rt, &found, parts.next().unwrap_or(""), row);
 }
 
-fn check_table(rt: &impl Abort, alloc: Global, table: &str) -> Result<(), Fail> {
+fn check_table(rt: &impl Abort, alloc: Global, table: &str) {
     for row in table.lines() {
-        check_row(rt, alloc, row)?;
+        check_row(rt, alloc, row);
     }
-    Ok(())
 }
 
 #[test]
-fn each_route_and_each_refusal(rt: HostRuntime) -> Result<(), Fail> {
+fn each_route_and_each_refusal(rt: HostRuntime) {
+    for table in &[ROUTES, NO_ROUTES, BAD_QUERIES] {
+        check_table(&rt, rt.alloc(), table);
+    }
+}
+
+fn check_length(rt: &impl Abort, alloc: Global, letters: usize, wanted: bool) {
+    let uid = times(rt, alloc, "a", letters);
+    check(rt, check_uid(&uid).is_ok() == wanted, &uid);
+}
+
+#[test]
+fn uids_at_their_limits(rt: HostRuntime) {
+    check_length(&rt, rt.alloc(), 400, true);
+    check_length(&rt, rt.alloc(), 401, false);
+}
+
+fn pairs(rt: &impl Abort, alloc: Global, route: Route, query: &str) -> Vec<Pair> {
+    read_query(alloc, route, query).expect(rt, "pairs")
+}
+
+fn fields(rt: &impl Abort, alloc: Global, pairs: &[Pair]) -> Vec<Word> {
+    fields_in(alloc, pairs).expect(rt, "memory")
+}
+
+fn check_key(rt: &impl Abort, alloc: Global, pairs: &[Pair]) {
+    let key = text_in(pairs, "primaryKey").expect(rt, "memory");
+    check(rt, key.is_some_and(|key| key.as_str() == "id"), "key");
+    let fields = fields(rt, alloc, pairs);
+    check(rt, fields.iter().all(|name| name.as_str() == "*"), "*");
+}
+
+#[test]
+fn what_query_strings_say(rt: HostRuntime) {
     let alloc = rt.alloc();
-    for table in [ROUTES, NO_ROUTES, BAD_QUERIES] {
-        check_table(&rt, alloc, table)?;
-    }
-    Ok(())
-}
-
-#[test]
-fn uids_at_their_limits(rt: HostRuntime) -> Result<(), Fail> {
-    let uid = "a".repeat(rt.alloc(), 400)?;
-    assert!(rt; check_uid(uid.as_str()).is_ok());
-    let longer = "a".repeat(rt.alloc(), 401)?;
-    assert!(rt; check_uid(longer.as_str()).is_err());
-    Ok(())
-}
-
-#[test]
-fn what_query_strings_say(rt: HostRuntime) -> Result<(), Fail> {
-    let alloc = rt.alloc();
-    match read_query(alloc, Route::ListDocuments, "fields=a%2Cb,&limit=007") {
-        Ok(pairs) => {
-            assert_eq!(rt; count_in(&pairs, "offset", 5), 5);
-            assert_eq!(rt; count_in(&pairs, "limit", 20), 7);
-            let fields = fields_in(alloc, &pairs)?;
-            assert_eq!(rt; fields.len(), 3);
-            assert!(rt; fields.iter().any(|name| name.as_str() == "b"));
-        }
-        Err(_) => assert!(rt; false, "fields and limit"),
-    }
-    match read_query(alloc, Route::AddDocuments, "primaryKey=a&primaryKey=%69d") {
-        Ok(pairs) => {
-            let key = text_in(&pairs, "primaryKey")?;
-            assert!(rt; key.is_some_and(|key| key.as_str() == "id"));
-            let fields = fields_in(alloc, &pairs)?;
-            assert!(rt; fields.iter().all(|name| name.as_str() == "*"));
-        }
-        Err(_) => assert!(rt; false, "primaryKey"),
-    }
-    Ok(())
+    let listed = pairs(&rt, alloc, Route::ListDocuments, "fields=a%2Cb,&limit=007");
+    check(&rt, count_in(&listed, "offset", 5) == 5, "offset");
+    check(&rt, count_in(&listed, "limit", 20) == 7, "limit");
+    let names = fields(&rt, alloc, &listed);
+    check(&rt, names.len() == 3, "fields");
+    check(&rt, names.iter().any(|name| name.as_str() == "b"), "b");
+    let added = pairs(
+        &rt,
+        alloc,
+        Route::AddDocuments,
+        "primaryKey=a&primaryKey=%69d",
+    );
+    check_key(&rt, alloc, &added);
 }

@@ -1,11 +1,11 @@
-use crate::calls::{answer_of, call_of, refusal};
+use crate::calls::{answer_of, call_of, refusal, wanted};
+use crate::checks::{add, check_text, times};
 use filter_tree::Filter;
 use request_calls::{Call, ReadCall};
 use search_base::Word;
 use search_call::{Criterion, SearchCall};
-use std::alloc::{AllocError, Global};
+use std::alloc::Global;
 use std::process::Abort;
-use std::test::Fail;
 
 const SEARCH: &str = "/indexes/m/search";
 
@@ -121,25 +121,32 @@ Q=a~400~bad_request~Unknown or malformed `Q`.
 q=a&=b~400~bad_request~Unknown or malformed ``.
 facets=a&limit=x&page=y~400~invalid_search_limit~Invalid `limit`."#;
 
-fn joined(alloc: Global, names: &[Word]) -> Result<String, AllocError> {
-    let mut text = String::new(alloc);
-    for (place, name) in names.iter().enumerate() {
-        if place > 0 {
-            text.push_str(",")?;
-        }
-        text.push_str(name.as_str())?;
+fn tell_names(rt: &impl Abort, names: &[Word], text: &mut String) {
+    let mut comma = "";
+    for name in names {
+        add(rt, text, comma);
+        add(rt, text, name.as_str());
+        comma = ",";
     }
-    Ok(text)
+}
+
+fn tell_facets(rt: &impl Abort, facets: &Option<Vec<Word>>, text: &mut String) {
+    match facets {
+        Some(names) => {
+            add(rt, text, "[");
+            tell_names(rt, names, text);
+            add(rt, text, "]");
+        }
+        None => add(rt, text, "-"),
+    }
 }
 
 // `+` stands behind an attribute from whose least value on hits are sorted.
-fn sorted(alloc: Global, criteria: &[Criterion]) -> Result<String, AllocError> {
-    let mut text = String::new(alloc);
+fn tell_sort(rt: &impl Abort, criteria: &[Criterion], text: &mut String) {
     for criterion in criteria {
-        text.push_str(criterion.attribute.as_str())?;
-        text.push_str(if criterion.up { "+" } else { "-" })?;
+        add(rt, text, criterion.attribute.as_str());
+        add(rt, text, if criterion.up { "+" } else { "-" });
     }
-    Ok(text)
 }
 
 fn filter_kind(filter: &Filter) -> &'static str {
@@ -152,141 +159,153 @@ fn filter_kind(filter: &Filter) -> &'static str {
     }
 }
 
-fn search_text(alloc: Global, call: &SearchCall) -> Result<String, AllocError> {
-    let facets = match &call.facets {
-        Some(names) => {
-            let names = joined(alloc, names)?;
-            format!(in alloc; "[{names}]")?
-        }
-        None => "-".to_string(alloc)?,
-    };
-    let sort = sorted(alloc, &call.sort)?;
-    let retrieve = joined(alloc, &call.retrieve)?;
-    format!(in alloc;
-        "{q}|{window:?}|{filter}|{facets}|{sort}|{strategy:?}|{costs}|{retrieve}",
-        q = call.q.as_str(),
-        window = call.window,
-        filter = filter_kind(&call.filter),
-        strategy = call.strategy,
-        costs = call.costs
-    )
+fn search_text(rt: &impl Abort, alloc: Global, call: &SearchCall) -> String {
+    let mut text = String::new(alloc);
+    let (q, filter) = (call.q.as_str(), filter_kind(&call.filter));
+    write!(text, "{q}|{:?}|{filter}|", call.window).expect(rt, "memory");
+    tell_facets(rt, &call.facets, &mut text);
+    add(rt, &mut text, "|");
+    tell_sort(rt, &call.sort, &mut text);
+    write!(text, "|{:?}|{}|", call.strategy, call.costs).expect(rt, "memory");
+    tell_names(rt, &call.retrieve, &mut text);
+    text
 }
 
 // The search that a request asks for, or the status and the body of its refusal.
-fn found(alloc: Global, method: &str, target: &str, body: &str) -> Result<String, Fail> {
-    match &call_of(alloc, method, target, body)? {
-        Call::Read(ReadCall::Search { call, .. }) => Ok(search_text(alloc, call)?),
-        other => Ok(answer_of(alloc, other)?),
+fn found(rt: &impl Abort, alloc: Global, method: &str, target: &str, body: &str) -> String {
+    match &call_of(rt, alloc, method, target, body) {
+        Call::Read(ReadCall::Search { call, .. }) => search_text(rt, alloc, call),
+        other => answer_of(rt, alloc, other),
     }
 }
 
-fn check_body(rt: &impl Abort, alloc: Global, body: &str, wanted: &str) -> Result<(), Fail> {
-    let found = found(alloc, "POST", SEARCH, body)?;
-    assert!(rt; found.as_str() == wanted, "{body}: {found}");
-    Ok(())
+fn check_body(rt: &impl Abort, alloc: Global, body: &str, wanted: &str) {
+    let found = found(rt, alloc, "POST", SEARCH, body);
+    check_text(rt, &found, wanted, body);
 }
 
-fn check_query(rt: &impl Abort, alloc: Global, query: &str, wanted: &str) -> Result<(), Fail> {
-    let target = format!(in alloc; "{SEARCH}?{query}")?;
-    let found = found(alloc, "GET", target.as_str(), "{")?;
-    assert!(rt; found.as_str() == wanted, "{query}: {found}");
-    Ok(())
+fn check_query(rt: &impl Abort, alloc: Global, query: &str, wanted: &str) {
+    let target = format!(in alloc; "{SEARCH}?{query}").expect(rt, "memory");
+    let found = found(rt, alloc, "GET", &target, "{");
+    check_text(rt, &found, wanted, query);
 }
 
-// What a row has behind its first part: a search, or a status, a code and a message.
-fn wanted(alloc: Global, row: &str) -> Result<String, AllocError> {
-    let mut parts = row.split('~');
-    let first = parts.next().unwrap_or("");
-    match (parts.next(), parts.next()) {
-        (Some(code), Some(message)) => refusal(alloc, first, code, message),
-        _ => first.to_string(alloc),
+fn check_bodies(rt: &impl Abort, alloc: Global, table: &str) {
+    for row in table.lines() {
+        let (body, rest) = row.split_once('~').unwrap_or((row, ""));
+        check_body(rt, alloc, body, &wanted(rt, alloc, rest));
     }
 }
 
-fn wrong_shape(alloc: Global, code: &str, name: &str) -> Result<String, AllocError> {
-    let code = format!(in alloc; "invalid_search_{code}")?;
-    let message = format!(in alloc; "Invalid `{name}`.")?;
-    refusal(alloc, "400", code.as_str(), message.as_str())
+fn check_queries(rt: &impl Abort, alloc: Global, table: &str) {
+    for row in table.lines() {
+        let (query, rest) = row.split_once('~').unwrap_or((row, ""));
+        check_query(rt, alloc, query, &wanted(rt, alloc, rest));
+    }
 }
 
 #[test]
-fn what_searches_say(rt: HostRuntime) -> Result<(), Fail> {
-    let alloc = rt.alloc();
-    for table in [BODIES, FAULTS] {
-        for row in table.lines() {
-            let (body, rest) = row.split_once('~').unwrap_or((row, ""));
-            check_body(&rt, alloc, body, wanted(alloc, rest)?.as_str())?;
-        }
+fn what_searches_say(rt: HostRuntime) {
+    check_bodies(&rt, rt.alloc(), BODIES);
+    check_bodies(&rt, rt.alloc(), FAULTS);
+    check_queries(&rt, rt.alloc(), QUERIES);
+    check_queries(&rt, rt.alloc(), QUERY_FAULTS);
+}
+
+fn wrong_shape(rt: &impl Abort, alloc: Global, code: &str, name: &str) -> String {
+    let code = format!(in alloc; "invalid_search_{code}").expect(rt, "memory");
+    let message = format!(in alloc; "Invalid `{name}`.").expect(rt, "memory");
+    refusal(rt, alloc, "400", &code, &message)
+}
+
+// A body of one member, of one behind `zz`, and of one before `a`.
+fn check_shape(
+    rt: &impl Abort,
+    alloc: Global,
+    name: &str,
+    value: &str,
+    wanted: &str,
+    unknown: &str,
+) {
+    let alone = format!(in alloc; "{{\"{name}\":{value}}}").expect(rt, "memory");
+    check_body(rt, alloc, &alone, wanted);
+    let behind = format!(in alloc; "{{\"zz\":1,\"{name}\":{value}}}").expect(rt, "memory");
+    check_body(rt, alloc, &behind, wanted);
+    let before = format!(in alloc; "{{\"{name}\":{value},\"a\":1}}").expect(rt, "memory");
+    check_body(rt, alloc, &before, unknown);
+}
+
+fn check_shapes(rt: &impl Abort, alloc: Global, row: &str, unknown: &str) {
+    let mut parts = row.split('~');
+    let name = parts.next().unwrap_or("");
+    let wanted = wrong_shape(rt, alloc, parts.next().unwrap_or(""), name);
+    for value in parts {
+        check_shape(rt, alloc, name, value, &wanted, unknown);
     }
-    for table in [QUERIES, QUERY_FAULTS] {
-        for row in table.lines() {
-            let (query, rest) = row.split_once('~').unwrap_or((row, ""));
-            check_query(&rt, alloc, query, wanted(alloc, rest)?.as_str())?;
-        }
+}
+
+fn check_all_shapes(rt: &impl Abort, alloc: Global, table: &str) {
+    let unknown = wanted(rt, alloc, "400~bad_request~Unknown or malformed `a`.");
+    for row in table.lines() {
+        check_shapes(rt, alloc, row, &unknown);
     }
-    Ok(())
+}
+
+fn check_first_of_two(rt: &impl Abort, alloc: Global, table: &str) {
+    for row in table.lines() {
+        let mut parts = row.split('~');
+        let body = parts.next().unwrap_or("");
+        let code = parts.next().unwrap_or("");
+        let wanted = wrong_shape(rt, alloc, code, parts.next().unwrap_or(""));
+        check_body(rt, alloc, body, &wanted);
+    }
 }
 
 // Each wrong shape is refused alone and before an unknown name, and behind one it is not.
 #[test]
-fn each_member_has_its_shape(rt: HostRuntime) -> Result<(), Fail> {
-    let alloc = rt.alloc();
-    let unknown = refusal(alloc, "400", "bad_request", "Unknown or malformed `a`.")?;
-    for row in WRONG_SHAPES.lines() {
-        let mut parts = row.split('~');
-        let name = parts.next().unwrap_or("");
-        let wanted = wrong_shape(alloc, parts.next().unwrap_or(""), name)?;
-        for value in parts {
-            let body = format!(in alloc; "{{\"{name}\":{value}}}")?;
-            check_body(&rt, alloc, body.as_str(), wanted.as_str())?;
-            let body = format!(in alloc; "{{\"zz\":1,\"{name}\":{value}}}")?;
-            check_body(&rt, alloc, body.as_str(), wanted.as_str())?;
-            let body = format!(in alloc; "{{\"{name}\":{value},\"a\":1}}")?;
-            check_body(&rt, alloc, body.as_str(), unknown.as_str())?;
-        }
+fn each_member_has_its_shape(rt: HostRuntime) {
+    check_all_shapes(&rt, rt.alloc(), WRONG_SHAPES);
+    check_first_of_two(&rt, rt.alloc(), FIRST_OF_TWO);
+}
+
+fn check_later(rt: &impl Abort, alloc: Global, name: &str) {
+    let message = format!(in alloc; "Not built: `{name}`.").expect(rt, "memory");
+    let wanted = refusal(rt, alloc, "501", "not_built", &message);
+    for value in &["null", "5", "\"a\""] {
+        let body = format!(in alloc; "{{\"{name}\":{value}}}").expect(rt, "memory");
+        check_body(rt, alloc, &body, &wanted);
     }
-    for row in FIRST_OF_TWO.lines() {
-        let mut parts = row.split('~');
-        let body = parts.next().unwrap_or("");
-        let code = parts.next().unwrap_or("");
-        let wanted = wrong_shape(alloc, code, parts.next().unwrap_or(""))?;
-        check_body(&rt, alloc, body, wanted.as_str())?;
-    }
-    Ok(())
+    check_query(rt, alloc, name, &wanted);
 }
 
 #[test]
-fn later_members_are_not_built(rt: HostRuntime) -> Result<(), Fail> {
-    let alloc = rt.alloc();
+fn later_members_are_not_built(rt: HostRuntime) {
     for name in LATER.split(',') {
-        let message = format!(in alloc; "Not built: `{name}`.")?;
-        let wanted = refusal(alloc, "501", "not_built", message.as_str())?;
-        for value in ["null", "5", "\"a\""] {
-            let body = format!(in alloc; "{{\"{name}\":{value}}}")?;
-            check_body(&rt, alloc, body.as_str(), wanted.as_str())?;
-        }
-        check_query(&rt, alloc, name, wanted.as_str())?;
+        check_later(&rt, rt.alloc(), name);
     }
-    Ok(())
 }
 
+// So many criteria by `a` and a last one by `b`.
+fn check_criteria(rt: &impl Abort, alloc: Global, count: usize, wanted: &str) {
+    let most = times(rt, alloc, "a:asc,", count);
+    let query = format!(in alloc; "sort={most}b:asc").expect(rt, "memory");
+    check_query(rt, alloc, &query, wanted);
+}
+
+fn check_brackets(rt: &impl Abort, alloc: Global, count: usize, wanted: &str) {
+    let brackets = times(rt, alloc, "(", count);
+    let body = format!(in alloc; "{{\"filter\":[\"a = 1\",\"{brackets}\"]}}");
+    check_body(rt, alloc, &body.expect(rt, "memory"), wanted);
+}
+
+const DEEP: &str = "400~invalid_search_filter~Filter text 2: deeper than 200 at byte 200.";
+
 #[test]
-fn limits_of_searches(rt: HostRuntime) -> Result<(), Fail> {
+fn limits_of_searches(rt: HostRuntime) {
     let alloc = rt.alloc();
-    let most = "a:asc,".repeat(alloc, 15)?;
-    let criteria = "a+".repeat(alloc, 16)?;
-    let query = format!(in alloc; "sort={most}b:asc")?;
-    let wanted = wrong_shape(alloc, "sort", "sort")?;
-    let whole = format!(in alloc;
-        "|Slice {{ offset: 0, limit: 20 }}|all|-|{criteria}|Last|false|*"
-    )?;
-    let whole = whole.replace(alloc, "a+|", "b+|")?;
-    check_query(&rt, alloc, query.as_str(), whole.as_str())?;
-    let query = format!(in alloc; "sort={most}a:asc,b:asc")?;
-    check_query(&rt, alloc, query.as_str(), wanted.as_str())?;
-    let brackets = "(".repeat(alloc, 201)?;
-    let body = format!(in alloc; "{{\"filter\":[\"a = 1\",\"{brackets}\"]}}")?;
-    let message = "Filter text 2: deeper than 200 at byte 200.";
-    let wanted = refusal(alloc, "400", "invalid_search_filter", message)?;
-    check_body(&rt, alloc, body.as_str(), wanted.as_str())
+    let most = times(&rt, alloc, "a+", 15);
+    let whole = format!(in alloc; "|Slice {{ offset: 0, limit: 20 }}|all|-|{most}b+|Last|false|*");
+    check_criteria(&rt, alloc, 15, &whole.expect(&rt, "memory"));
+    check_criteria(&rt, alloc, 16, &wrong_shape(&rt, alloc, "sort", "sort"));
+    check_brackets(&rt, alloc, 201, &wanted(&rt, alloc, DEEP));
 }

@@ -1,9 +1,10 @@
 ghost use Rattle.std.specs.Prelude.{[]};
 ghost use Rattle.search_base.specs.Graphs.{IsGraph};
 
-use bucket_sort::{Bucket, BucketStream, RuleSet};
+use bucket_sort::{Bucket, BucketLog, BucketStream, RecordLog, RuleSet};
 use condition_graph::Condition;
 use doc_sets::DocSet;
+use list_search::find;
 use rule_buckets::{RuleSource, Rules};
 use search_base::{CostKey, DocId, Graph, NoMemory, PathId, Rule, SortKey, Steps, Word};
 use std::alloc::Global;
@@ -121,5 +122,20 @@ fn a_query_without_words_gives_all_documents_at_once(rt: HostRuntime) -> Result<
     assert!(rt; first_bucket(alloc, &rules, 3)? == Some((CostKey::Down(SortKey::Missing), 3)));
     assert!(rt; first_bucket(alloc, &rules, 4)? == Some((CostKey::Up(SortKey::Missing), 3)));
     assert!(rt; first_bucket(alloc, &rules, 5)?.is_none());
+    Ok(())
+}
+
+#[test]
+fn the_asked_slice_is_found(rt: HostRuntime) -> Result<(), Fail> {
+    let alloc = rt.alloc();
+    let universe = DocSet::from_sorted(alloc, &[DocId(1), DocId(3), DocId(4)])?;
+    let graph = empty(alloc);
+    let rules = [Rule::Words, Rule::Down(Some(PathId(2)))];
+    let mut log: Box<dyn BucketLog> = Box::new(alloc, RecordLog::new(alloc))?;
+    let mut openings: Steps<Counted> = Steps::new();
+    let (log, steps) = (&mut log, &mut openings);
+    let found = find(alloc, &Bare, &graph, &rules, &universe, 1, 5, log, steps)?;
+    assert!(rt; found.hits.as_slice() == [DocId(3), DocId(4)].as_slice());
+    assert!(rt; found.matching.len() == 3);
     Ok(())
 }

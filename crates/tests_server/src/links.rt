@@ -1,14 +1,12 @@
 ghost use Rattle.std.specs.Prelude.{◌<◌};
 
-use crate::disks::empty_disk;
-use durable_machine::DurableMachine;
+use crate::checks::{add, bytes, check, text_of};
+use crate::disks::{crashed, empty_disk, serve_on};
 use http_wire::HeadKind;
 use outside_io::MemoryLink;
-use search_base::Steps;
-use search_server::{LinkEnd, Status, serve_link};
+use search_server::{LinkEnd, Status};
 use std::alloc::Global;
-use std::str;
-use std::test::Fail;
+use std::process::Abort;
 
 const ADD_AND_SEARCH: &[u8] =
     b"POST /indexes/m/documents HTTP/1.1\r\ncontent-length: 254\r\n\r\n[{\"id\":1,\
@@ -37,223 +35,239 @@ const NO_LENGTH: &[u8] =
     connection: close\r\n\r\n{\"code\":\"length_required\",\"message\":\"Length required.\",\
     \"type\":\"invalid_request\"}";
 
-// Serves a link that gives these bytes, at most so many at a time, and fails at these calls.
-fn serve(
-    alloc: Global,
-    input: &[u8],
-    failing: &[u64],
-    most: usize,
-) -> Result<(LinkEnd, Vec<u8>), Fail>
+// A link that gives these bytes, at most so many at a time, and fails at these calls.
+fn link(rt: &impl Abort, alloc: Global, input: &[u8], failing: &[u64], most: usize) -> MemoryLink
     requires { 0 < most }
 {
-    let input = input.to_vec(alloc)?;
-    let failing = failing.to_vec(alloc)?;
-    let mut link = MemoryLink::paced(alloc, input, failing, most)?;
-    let mut disk_a = empty_disk(alloc)?;
-    let mut disk_b = empty_disk(alloc)?;
-    let mut fetches: Steps<()> = Steps::new();
-    let mut machine = DurableMachine::opened(alloc, &mut disk_a, &mut disk_b, &mut fetches)?;
-    let end = serve_link(
-        alloc,
-        &mut machine,
-        &mut link,
-        &mut disk_a,
-        &mut disk_b,
-        &mut fetches,
-    );
-    Ok((end, link.written().to_vec(alloc)?))
+    let input = bytes(rt, alloc, input);
+    let failing = failing.to_vec(alloc).expect(rt, "memory");
+    MemoryLink::paced(alloc, input, failing, most).expect(rt, "memory")
 }
 
-fn ended(status: Status, requests: u64) -> LinkEnd {
-    LinkEnd {
-        status,
-        requests,
-        passed: 0,
+fn serve(rt: &impl Abort, alloc: Global, link: &mut MemoryLink) -> LinkEnd {
+    let mut disk_a = empty_disk(rt, alloc);
+    let mut disk_b = empty_disk(rt, alloc);
+    serve_on(rt, alloc, link, &mut disk_a, &mut disk_b)
+}
+
+fn check_end(rt: &impl Abort, end: LinkEnd, status: Status, requests: u64) {
+    check(rt, end.status == status, "status");
+    check(rt, end.requests == requests, "requests");
+    check(rt, end.passed == 0, "passed");
+}
+
+// A new machine serves a link, which ends so and on which this is written.
+fn check_served(
+    rt: &impl Abort,
+    alloc: Global,
+    link: MemoryLink,
+    status: Status,
+    requests: u64,
+    written: &[u8],
+) {
+    let mut served = link;
+    let end = serve(rt, alloc, &mut served);
+    check_end(rt, end, status, requests);
+    check(rt, served.written() == written, "written");
+}
+
+fn check_page_at(rt: &impl Abort, alloc: Global, most: usize)
+    requires { 0 < most }
+{
+    let link = link(rt, alloc, ADD_AND_SEARCH, &[], most);
+    check_served(rt, alloc, link, Status::Done, 2, ADDED_AND_FOUND);
+}
+
+#[test]
+fn add_documents_and_page_in_pieces_of_every_size(rt: HostRuntime) {
+    for most in 1..65_usize {
+        check_page_at(&rt, rt.alloc(), most);
+    }
+    check_page_at(&rt, rt.alloc(), 1 << 20);
+}
+
+// Requests that are not whole, and how many bytes stand there.
+const CUT_SHORT: [(&[u8], u64); 2] = [
+    (
+        b"POST /indexes/m/documents HTTP/1.1\r\ncontent-length: 2\r\n\r\n[",
+        58,
+    ),
+    (b"GET /health HT", 14),
+];
+
+#[test]
+fn input_that_ends_inside_a_request(rt: HostRuntime) {
+    for (input, rest) in &CUT_SHORT {
+        let link = link(&rt, rt.alloc(), input, &[], 4096);
+        let status = Status::CutShort { rest: *rest };
+        check_served(&rt, rt.alloc(), link, status, 0, b"");
     }
 }
 
-#[test]
-fn add_documents_and_page_in_pieces_of_every_size(rt: HostRuntime) -> Result<(), Fail> {
-    for most in 1..65 {
-        let (end, written) = serve(rt.alloc(), ADD_AND_SEARCH, &[], most)?;
-        assert_eq!(rt; end, ended(Status::Done, 2), "{most} at a time");
-        assert_eq!(rt; written.as_slice(), ADDED_AND_FOUND, "{most} at a time");
-    }
-    let (end, written) = serve(rt.alloc(), ADD_AND_SEARCH, &[], 1 << 20)?;
-    assert_eq!(rt; end, ended(Status::Done, 2));
-    assert_eq!(rt; written.as_slice(), ADDED_AND_FOUND);
-    Ok(())
+// A request without a route on a link that fails at a call.
+fn failing_link(rt: &impl Abort, alloc: Global, call: u64, most: usize) -> MemoryLink
+    requires { 0 < most }
+{
+    link(rt, alloc, b"GET /none HTTP/1.1\r\n\r\n", &[call], most)
 }
 
 #[test]
-fn input_that_ends_inside_a_request(rt: HostRuntime) -> Result<(), Fail> {
-    let post = b"POST /indexes/m/documents HTTP/1.1\r\ncontent-length: 2\r\n\r\n[";
-    let (end, written) = serve(rt.alloc(), post, &[], 4096)?;
-    assert_eq!(rt; end, ended(Status::CutShort { rest: 58 }, 0));
-    assert_eq!(rt; written.len(), 0);
-    let (end, _) = serve(rt.alloc(), b"GET /health HT", &[], 4096)?;
-    assert_eq!(rt; end, ended(Status::CutShort { rest: 14 }, 0));
-    Ok(())
-}
-
-#[test]
-fn a_read_or_a_write_that_fails_ends_the_link(rt: HostRuntime) -> Result<(), Fail> {
-    let request = b"GET /none HTTP/1.1\r\n\r\n";
-    let (end, written) = serve(rt.alloc(), request, &[0], 4096)?;
-    assert_eq!(rt; end, ended(Status::ReadFault, 0));
-    assert_eq!(rt; written.len(), 0);
-    let (end, written) = serve(rt.alloc(), request, &[1], 4096)?;
-    assert_eq!(rt; end, ended(Status::WriteFault, 1));
-    assert_eq!(rt; written.len(), 0);
-    let (end, written) = serve(rt.alloc(), request, &[2], 4096)?;
-    assert_eq!(rt; end, ended(Status::ReadFault, 1));
-    assert_eq!(rt; written.as_slice(), NO_ROUTE);
-    let (end, written) = serve(rt.alloc(), request, &[2], 100)?;
-    assert_eq!(rt; end, ended(Status::WriteFault, 1));
-    assert_eq!(rt; written.len(), 100);
-    Ok(())
-}
-
-#[test]
-fn a_refused_head_ends_the_link(rt: HostRuntime) -> Result<(), Fail> {
-    let input = b"GET /none HTTP/1.1\n\nPOST / HTTP/1.1\n\nGET /none HTTP/1.1\n\n";
-    let (end, written) = serve(rt.alloc(), input, &[], 4096)?;
-    let kind = HeadKind::NoLength;
-    assert_eq!(rt; end, ended(Status::BadHead { kind, number: 17 }, 1));
-    let mut wanted = NO_ROUTE.to_vec(rt.alloc())?;
-    wanted.extend_from_slice(NO_LENGTH)?;
-    assert_eq!(rt; written.as_slice(), wanted.as_slice());
-    Ok(())
-}
-
-#[test]
-fn refused_documents_leave_the_link_open(rt: HostRuntime) -> Result<(), Fail> {
-    let cases = [
-        ("x", "The body is not JSON."),
-        ("5", "The body is not a list."),
-        ("[{\"id\":1},7]", "Document 2 is not an object."),
-        (
-            "[{\"id\":1,\"a\":1.5}]",
-            "Document 1 has a number at `a` that is not whole.",
-        ),
-        ("[{\"id\":1},{\"a\":2}]", "Document 2 has no `id`."),
-        ("[{\"id\":\"a b\"}]", "Document 1 has an invalid id."),
-    ];
-    for (body, message) in cases {
-        let len = body.len();
-        let input = format!(in rt.alloc();
-            "POST /indexes/m/documents HTTP/1.1\ncontent-length: {len}\n\n{body}GET /none HTTP/1.1\n\n"
-        )?;
-        let (end, written) = serve(rt.alloc(), input.as_bytes(), &[], 4096)?;
-        assert_eq!(rt; end, ended(Status::Done, 2), "{message}");
-        let text = str::from_utf8(&written)?;
-        assert!(rt;
-            text.starts_with("HTTP/1.1 400 Bad Request\r\n"),
-            "{message}"
-        );
-        assert!(rt; text.contains(message), "{message}");
-    }
-    Ok(())
-}
-
-#[test]
-fn a_link_that_failed_once_is_served_afterwards(rt: HostRuntime) -> Result<(), Fail> {
-    let input = ADD_AND_SEARCH.to_vec(rt.alloc())?;
-    let mut link = MemoryLink::new(rt.alloc(), input, [0].to_vec(rt.alloc())?)?;
+fn a_read_or_a_write_that_fails_ends_the_link(rt: HostRuntime) {
     let alloc = rt.alloc();
-    let mut disk_a = empty_disk(alloc)?;
-    let mut disk_b = empty_disk(alloc)?;
-    let mut fetches: Steps<()> = Steps::new();
-    let mut machine = DurableMachine::opened(alloc, &mut disk_a, &mut disk_b, &mut fetches)?;
-    let end = serve_link(
-        alloc,
-        &mut machine,
-        &mut link,
-        &mut disk_a,
-        &mut disk_b,
-        &mut fetches,
+    let link = failing_link(&rt, alloc, 0, 4096);
+    check_served(&rt, alloc, link, Status::ReadFault, 0, b"");
+    let link = failing_link(&rt, alloc, 1, 4096);
+    check_served(&rt, alloc, link, Status::WriteFault, 1, b"");
+    let link = failing_link(&rt, alloc, 2, 4096);
+    check_served(&rt, alloc, link, Status::ReadFault, 1, NO_ROUTE);
+    let link = failing_link(&rt, alloc, 2, 100);
+    let hundred = NO_ROUTE.get(..100).unwrap_or(&[]);
+    check_served(&rt, alloc, link, Status::WriteFault, 1, hundred);
+}
+
+const BAD_HEAD: &[u8] = b"GET /none HTTP/1.1\n\nPOST / HTTP/1.1\n\nGET /none HTTP/1.1\n\n";
+
+#[test]
+fn a_refused_head_ends_the_link(rt: HostRuntime) {
+    let alloc = rt.alloc();
+    let link = link(&rt, alloc, BAD_HEAD, &[], 4096);
+    let mut wanted = bytes(&rt, alloc, NO_ROUTE);
+    add(&rt, &mut wanted, NO_LENGTH);
+    let kind = HeadKind::NoLength;
+    let status = Status::BadHead { kind, number: 17 };
+    check_served(&rt, alloc, link, status, 1, &wanted);
+}
+
+// A body, and why it has no documents.
+const REFUSED: [(&str, &str); 6] = [
+    ("x", "The body is not JSON."),
+    ("5", "The body is not a list."),
+    ("[{\"id\":1},7]", "Document 2 is not an object."),
+    (
+        "[{\"id\":1,\"a\":1.5}]",
+        "Document 1 has a number at `a` that is not whole.",
+    ),
+    ("[{\"id\":1},{\"a\":2}]", "Document 2 has no `id`."),
+    ("[{\"id\":\"a b\"}]", "Document 1 has an invalid id."),
+];
+
+// The documents of a body, and a request without a route.
+fn refused_link(rt: &impl Abort, alloc: Global, body: &str) -> MemoryLink {
+    let input = format!(in alloc;
+        "POST /indexes/m/documents HTTP/1.1\ncontent-length: {}\n\n{body}GET /none HTTP/1.1\n\n",
+        body.len()
     );
-    assert_eq!(rt; end, ended(Status::ReadFault, 0));
-    // What a crash leaves of the disks is opened again.
-    let mut disk_a = disk_a.after_crash(0)?;
-    let mut disk_b = disk_b.after_crash(0)?;
-    let mut machine = DurableMachine::opened(alloc, &mut disk_a, &mut disk_b, &mut fetches)?;
-    let end = serve_link(
-        alloc,
-        &mut machine,
-        &mut link,
-        &mut disk_a,
-        &mut disk_b,
-        &mut fetches,
+    link(rt, alloc, input.expect(rt, "memory").as_bytes(), &[], 4096)
+}
+
+fn check_refused(rt: &impl Abort, alloc: Global, body: &str, message: &str) {
+    let mut link = refused_link(rt, alloc, body);
+    let end = serve(rt, alloc, &mut link);
+    check_end(rt, end, Status::Done, 2);
+    let text = text_of(rt, link.written());
+    check(
+        rt,
+        text.starts_with("HTTP/1.1 400 Bad Request\r\n"),
+        message,
     );
-    assert_eq!(rt; end, ended(Status::Done, 2));
-    assert_eq!(rt; link.written(), ADDED_AND_FOUND);
-    Ok(())
+    check(rt, text.contains(message), message);
 }
 
 #[test]
-fn requests_and_replies_go_one_byte_at_a_time(rt: HostRuntime) -> Result<(), Fail> {
-    let rows = [
-        (
-            "/indexes",
-            "{\"uid\":\"e\"}",
-            "{\"indexUid\":\"e\",\"status\":\"succeeded\",\"taskUid\":1,\"type\":\"indexCreation\"}",
-        ),
-        (
-            "/indexes/e/search",
-            "{}",
-            "{\"estimatedTotalHits\":0,\"hits\":[],\"limit\":20,\"offset\":0,\"query\":\"\"}",
-        ),
-        (
-            "/indexes/m/search",
-            "{\"q\":\"dark knight\",\"attributesToRetrieve\":[\"id\"]}",
-            "{\"estimatedTotalHits\":3,\"hits\":[{\"id\":2},{\"id\":1},{\"id\":3}],\"limit\":20,\"offset\":0,\"query\":\"dark knight\"}",
-        ),
-        (
-            "/indexes/m/search",
-            "{\"q\":\"\\\"dark knight\\\"\",\"attributesToRetrieve\":[\"id\"]}",
-            "{\"estimatedTotalHits\":2,\"hits\":[{\"id\":2},{\"id\":1}],\"limit\":20,\"offset\":0,\"query\":\"\\\"dark knight\\\"\"}",
-        ),
-        (
-            "/indexes/m/search",
-            "{\"q\":\"dark\",\"attributesToRetrieve\":[\"id\"]}",
-            "{\"estimatedTotalHits\":4,\"hits\":[{\"id\":2},{\"id\":4},{\"id\":1},{\"id\":3}],\"limit\":20,\"offset\":0,\"query\":\"dark\"}",
-        ),
-        (
-            "/indexes/none/search",
-            "{}",
-            "{\"code\":\"index_not_found\",\"message\":\"No index `none`.\",\"type\":\"invalid_request\"}",
-        ),
-    ];
-    let mut input = String::from_str(rt.alloc(), str::from_utf8(ADD_AND_SEARCH)?)?;
-    let mut wanted = String::from_str(rt.alloc(), str::from_utf8(ADDED_AND_FOUND)?)?;
-    for (target, body, answer) in rows {
-        let size = body.len();
-        let request = format!(in rt.alloc();
-            "POST {target} HTTP/1.1\r\ncontent-length: {size}\r\n\r\n{body}"
-        )?;
-        input.push_str(&request)?;
-        let status = if answer.contains("not_found") {
-            "404 Not Found"
-        } else if answer.contains("taskUid") {
-            "202 Accepted"
-        } else {
-            "200 OK"
-        };
-        let size = answer.len();
-        let reply = format!(in rt.alloc();
-            "HTTP/1.1 {status}\r\ncontent-length: {size}\r\ncontent-type: application/json\r\n\r\n{answer}"
-        )?;
-        wanted.push_str(&reply)?;
+fn refused_documents_leave_the_link_open(rt: HostRuntime) {
+    for (body, message) in &REFUSED {
+        check_refused(&rt, rt.alloc(), body, message);
     }
-    for most in [1, 7, 1 << 20] {
-        let (end, written) = serve(rt.alloc(), input.as_bytes(), &[], most)?;
-        assert_eq!(rt; end, ended(Status::Done, 8), "{most} at a time");
-        assert_eq!(rt;
-            str::from_utf8(&written)?,
-            wanted.as_str(),
-            "{most} at a time"
-        );
+}
+
+// What a crash leaves of the disks is opened again.
+#[test]
+fn a_link_that_failed_once_is_served_afterwards(rt: HostRuntime) {
+    let alloc = rt.alloc();
+    let mut link = link(&rt, alloc, ADD_AND_SEARCH, &[0], usize::MAX);
+    let mut disk_a = empty_disk(&rt, alloc);
+    let mut disk_b = empty_disk(&rt, alloc);
+    let end = serve_on(&rt, alloc, &mut link, &mut disk_a, &mut disk_b);
+    check_end(&rt, end, Status::ReadFault, 0);
+    let mut disk_a = crashed(&rt, &disk_a, 0);
+    let mut disk_b = crashed(&rt, &disk_b, 0);
+    let end = serve_on(&rt, alloc, &mut link, &mut disk_a, &mut disk_b);
+    check_end(&rt, end, Status::Done, 2);
+    check(&rt, link.written() == ADDED_AND_FOUND, "written");
+}
+
+// A target, a body, and the status and the body of the reply.
+const EXCHANGES: [(&str, &str, &str, &str); 6] = [
+    (
+        "/indexes",
+        r#"{"uid":"e"}"#,
+        "202 Accepted",
+        r#"{"indexUid":"e","status":"succeeded","taskUid":1,"type":"indexCreation"}"#,
+    ),
+    (
+        "/indexes/e/search",
+        "{}",
+        "200 OK",
+        r#"{"estimatedTotalHits":0,"hits":[],"limit":20,"offset":0,"query":""}"#,
+    ),
+    (
+        "/indexes/m/search",
+        r#"{"q":"dark knight","attributesToRetrieve":["id"]}"#,
+        "200 OK",
+        r#"{"estimatedTotalHits":3,"hits":[{"id":2},{"id":1},{"id":3}],"limit":20,"offset":0,"query":"dark knight"}"#,
+    ),
+    (
+        "/indexes/m/search",
+        r#"{"q":"\"dark knight\"","attributesToRetrieve":["id"]}"#,
+        "200 OK",
+        r#"{"estimatedTotalHits":2,"hits":[{"id":2},{"id":1}],"limit":20,"offset":0,"query":"\"dark knight\""}"#,
+    ),
+    (
+        "/indexes/m/search",
+        r#"{"q":"dark","attributesToRetrieve":["id"]}"#,
+        "200 OK",
+        r#"{"estimatedTotalHits":4,"hits":[{"id":2},{"id":4},{"id":1},{"id":3}],"limit":20,"offset":0,"query":"dark"}"#,
+    ),
+    (
+        "/indexes/none/search",
+        "{}",
+        "404 Not Found",
+        r#"{"code":"index_not_found","message":"No index `none`.","type":"invalid_request"}"#,
+    ),
+];
+
+fn add_request(rt: &impl Abort, alloc: Global, target: &str, body: &str, input: &mut Vec<u8>) {
+    let request = format!(in alloc;
+        "POST {target} HTTP/1.1\r\ncontent-length: {}\r\n\r\n{body}",
+        body.len()
+    );
+    add(rt, input, request.expect(rt, "memory").as_bytes());
+}
+
+fn add_reply(rt: &impl Abort, alloc: Global, status: &str, body: &str, output: &mut Vec<u8>) {
+    let reply = format!(in alloc;
+        "HTTP/1.1 {status}\r\ncontent-length: {}\r\ncontent-type: application/json\r\n\r\n{body}",
+        body.len()
+    );
+    add(rt, output, reply.expect(rt, "memory").as_bytes());
+}
+
+fn check_exchanges(rt: &impl Abort, alloc: Global, most: usize)
+    requires { 0 < most }
+{
+    let mut input = bytes(rt, alloc, ADD_AND_SEARCH);
+    let mut output = bytes(rt, alloc, ADDED_AND_FOUND);
+    for (target, body, status, answer) in &EXCHANGES {
+        add_request(rt, alloc, target, body, &mut input);
+        add_reply(rt, alloc, status, answer, &mut output);
     }
-    Ok(())
+    let link = link(rt, alloc, &input, &[], most);
+    check_served(rt, alloc, link, Status::Done, 8, &output);
+}
+
+#[test]
+fn requests_and_replies_go_one_byte_at_a_time(rt: HostRuntime) {
+    check_exchanges(&rt, rt.alloc(), 1);
+    check_exchanges(&rt, rt.alloc(), 7);
+    check_exchanges(&rt, rt.alloc(), 1 << 20);
 }

@@ -1,13 +1,13 @@
 ghost use Rattle.std.specs.Prelude.{◌≡◌, false};
 
+use crate::checks::{bytes, check, check_text, text_of};
 use crate::disks::empty_disk;
 use link_doors::{Door, MemoryDoor};
 use outside_io::MemoryLink;
 use search_base::Steps;
 use search_server::{Status, run_search_server};
 use std::alloc::Global;
-use std::str;
-use std::test::Fail;
+use std::process::Abort;
 
 // What a run of the program came to.
 #[derive(Drop)]
@@ -20,194 +20,333 @@ struct Outcome {
 }
 
 // The words between blanks; `_` stands for a blank in a word.
-fn words_in(alloc: Global, text: &str) -> Result<Vec<String>, Fail> {
+fn words_in(rt: &impl Abort, alloc: Global, text: &str) -> Vec<String> {
     let mut words = Vec::new(alloc);
     for word in text.split(' ') {
-        if word.is_empty() {
-            continue;
+        if !word.is_empty() {
+            let spaced = word.replace(alloc, "_", " ").expect(rt, "memory");
+            words.push(spaced).expect(rt, "memory");
         }
-        let mut letters = String::new(alloc);
-        for letter in word.chars() {
-            letters.push(if letter == '_' { ' ' } else { letter })?;
-        }
-        words.push(letters)?;
     }
-    Ok(words)
+    words
 }
 
 // The numbers of one digit each.
-fn digits(alloc: Global, text: &str) -> Result<Vec<u64>, Fail> {
+fn digits(rt: &impl Abort, alloc: Global, text: &str) -> Vec<u64> {
     let mut numbers = Vec::new(alloc);
     for byte in text.bytes() {
-        numbers.push(u64::from(byte.saturating_sub(b'0')))?;
+        let number = u64::from(byte.saturating_sub(b'0'));
+        numbers.push(number).expect(rt, "memory");
     }
-    Ok(numbers)
+    numbers
 }
 
-// Runs the program with two empty disks, a pipe that gives no bytes and fails at these calls, and a door of these links,
-// which stand between bars.
+fn link(rt: &impl Abort, alloc: Global, input: &str, fails: &str) -> MemoryLink {
+    let failing = digits(rt, alloc, fails);
+    MemoryLink::new(alloc, bytes(rt, alloc, input.as_bytes()), failing).expect(rt, "memory")
+}
+
+// The links of these inputs, which stand between bars.
+fn links(rt: &impl Abort, alloc: Global, inputs: &str) -> Vec<MemoryLink> {
+    let mut links = Vec::new(alloc);
+    for input in inputs.split('|') {
+        links.push(link(rt, alloc, input, "")).expect(rt, "memory");
+    }
+    links
+}
+
+// Runs the program with two empty disks.
+fn run_on(
+    rt: &impl Abort,
+    alloc: Global,
+    words: &[String],
+    pipe: &mut MemoryLink,
+    door: &mut MemoryDoor,
+) -> Status
+    requires { door.old.is_out ≡ false }
+{
+    let mut fetches: Steps<()> = Steps::new();
+    let mut disk_a = empty_disk(rt, alloc);
+    let mut disk_b = empty_disk(rt, alloc);
+    run_search_server(
+        alloc,
+        words,
+        pipe,
+        door,
+        &mut disk_a,
+        &mut disk_b,
+        &mut fetches,
+    )
+}
+
+fn answers_of(rt: &impl Abort, alloc: Global, door: &MemoryDoor) -> String {
+    let mut answers = String::new(alloc);
+    for link in door.returned() {
+        let text = text_of(rt, link.written());
+        answers.push_str(text).expect(rt, "memory");
+        answers.push_str("|").expect(rt, "memory");
+    }
+    answers
+}
+
+// Runs the program with a pipe that gives no bytes and fails at these calls, and a door of these links.
 fn run(
+    rt: &impl Abort,
     alloc: Global,
     words: &str,
     pipe_fails: &str,
     inputs: &str,
     door_fails: &str,
-) -> Result<Outcome, Fail> {
-    let words = words_in(alloc, words)?;
-    let mut pipe = MemoryLink::new(alloc, Vec::new(alloc), digits(alloc, pipe_fails)?)?;
-    let mut links = Vec::new(alloc);
-    for input in inputs.split('|') {
-        links.push(MemoryLink::new(alloc, input.as_bytes().to_vec(alloc)?, Vec::new(alloc))?)?;
-    }
-    let mut door = MemoryDoor::new(alloc, links, digits(alloc, door_fails)?)?;
-    let mut fetches: Steps<()> = Steps::new();
-    let mut disk_a = empty_disk(alloc)?;
-    let mut disk_b = empty_disk(alloc)?;
-    let status = run_search_server(
-        alloc,
-        &words,
-        &mut pipe,
-        &mut door,
-        &mut disk_a,
-        &mut disk_b,
-        &mut fetches,
-    );
-    let mut answers = String::new(alloc);
-    for link in door.returned() {
-        answers.push_str(str::from_utf8(link.written())?)?;
-        answers.push_str("|")?;
-    }
-    Ok(Outcome {
+) -> Outcome {
+    let words = words_in(rt, alloc, words);
+    let mut pipe = link(rt, alloc, "", pipe_fails);
+    let links = links(rt, alloc, inputs);
+    let failing = digits(rt, alloc, door_fails);
+    let mut door = MemoryDoor::new(alloc, links, failing).expect(rt, "memory");
+    let status = run_on(rt, alloc, &words, &mut pipe, &mut door);
+    let told = text_of(rt, pipe.written());
+    Outcome {
         status: status.number(),
-        told: str::from_utf8(pipe.written())?.to_string(alloc)?,
-        answers,
-    })
+        told: told.to_string(alloc).expect(rt, "memory"),
+        answers: answers_of(rt, alloc, &door),
+    }
+}
+
+fn check_run(rt: &impl Abort, run: &Outcome, status: u8, told: &str, answers: &str, row: &str) {
+    check(rt, run.status == status, row);
+    check_text(rt, &run.told, told, row);
+    check_text(rt, &run.answers, answers, row);
 }
 
 const HEALTH: &str = "GET /health HTTP/1.1\r\nHost: x\r\n\r\n";
 
-#[test]
-fn words_that_are_no_command(rt: HostRuntime) -> Result<(), Fail> {
-    let rows = [
-        "",
-        "Pipe",
-        "pipes",
-        "pipe pipe",
-        "serve",
-        "serve 7700",
-        "serve 0 1",
-        "serve 65536 1",
-        "serve 7700 0",
-        "serve 7700 1000001",
-        "serve 07700 1",
-        "serve 7700 01",
-        "serve +7700 1",
-        "serve -1 1",
-        "serve 7700_ 1",
-        "serve _7700 1",
-        "serve 7700 1 1",
-        "serve 7700 18446744073709551617",
-        "demo",
-        "demo 1",
-        "demo 01 1",
-        "demo 1 0",
-        "demo 1 2147483647",
-        "demo 100001 1",
-        "demo 1 1 1",
-        "demo +1 1",
-        "demo 00 1",
-        "demo 1 x",
-        "Demo 1 1",
-    ];
-    for words in rows {
-        let run = run(rt.alloc(), words, "", HEALTH, "")?;
-        assert_eq!(rt; run.status, 2, "{words}");
-        assert_eq!(rt; run.told.as_str(), "", "{words}");
-        assert_eq!(rt; run.answers.as_str(), "", "{words}");
-    }
-    Ok(())
+const NO_COMMANDS: [&str; 29] = [
+    "",
+    "Pipe",
+    "pipes",
+    "pipe pipe",
+    "serve",
+    "serve 7700",
+    "serve 0 1",
+    "serve 65536 1",
+    "serve 7700 0",
+    "serve 7700 1000001",
+    "serve 07700 1",
+    "serve 7700 01",
+    "serve +7700 1",
+    "serve -1 1",
+    "serve 7700_ 1",
+    "serve _7700 1",
+    "serve 7700 1 1",
+    "serve 7700 18446744073709551617",
+    "demo",
+    "demo 1",
+    "demo 01 1",
+    "demo 1 0",
+    "demo 1 2147483647",
+    "demo 100001 1",
+    "demo 1 1 1",
+    "demo +1 1",
+    "demo 00 1",
+    "demo 1 x",
+    "Demo 1 1",
+];
+
+fn check_no_command(rt: &impl Abort, alloc: Global, words: &str) {
+    let run = run(rt, alloc, words, "", HEALTH, "");
+    check_run(rt, &run, 2, "", "", words);
 }
 
 #[test]
-fn links_of_a_door_are_served_one_after_the_other(rt: HostRuntime) -> Result<(), Fail> {
-    let two = "GET /health HTTP/1.1\r\nHost: x\r\n\r\n|GET /health HT";
-    let made_and_shown = "POST /indexes HTTP/1.1\r\ncontent-length: 11\r\n\r\n{\"uid\":\"m\"}|\
-        GET /indexes/m HTTP/1.0\r\n\r\n";
-    let refused = "POST /indexes HTTP/1.1\r\n\r\n|";
-    let healthy = "HTTP/1.1 200 OK\r\ncontent-length: 22\r\ncontent-type: application/json\r\n\r\n\
-        {\"status\":\"available\"}|";
-    let healthy_and_cut =
-        "HTTP/1.1 200 OK\r\ncontent-length: 22\r\ncontent-type: application/json\r\n\r\n\
-        {\"status\":\"available\"}||";
-    let made_and_seen =
-        "HTTP/1.1 202 Accepted\r\ncontent-length: 72\r\ncontent-type: application/json\r\n\r\n\
-        {\"indexUid\":\"m\",\"status\":\"succeeded\",\"taskUid\":0,\"type\":\"indexCreation\"}|\
-        HTTP/1.1 200 OK\r\ncontent-length: 29\r\ncontent-type: application/json\r\nconnection: close\r\n\r\n\
-        {\"primaryKey\":null,\"uid\":\"m\"}|";
-    let no_length =
-        "HTTP/1.1 411 Length Required\r\ncontent-length: 80\r\ncontent-type: application/json\r\n\
-        connection: close\r\n\r\n{\"code\":\"length_required\",\"message\":\"Length required.\",\
-        \"type\":\"invalid_request\"}||";
-    let first = "link 1 status 0 requests 1\n";
-    let both = "link 1 status 0 requests 1\nlink 2 status 8 requests 0\n";
-    let done = "link 1 status 0 requests 1\nlink 2 status 0 requests 1\n";
-    let bad = "link 1 status 9 requests 0\nlink 2 status 0 requests 0\n";
-    // words, calls of the pipe and of the door that fail, links, status, what the pipe is told, answers
-    let rows = [
-        ("serve 7700 3", "", "", two, 0, both, healthy_and_cut),
-        ("serve 7700 3", "", "0", two, 5, "", ""),
-        ("serve 7700 3", "", "1", two, 5, "", ""),
-        ("serve 7700 3", "", "2", two, 5, first, healthy),
-        ("serve 7700 3", "0", "", two, 4, "", healthy),
-        ("serve 7700 3", "1", "", two, 4, first, healthy_and_cut),
-        ("serve 7700 1", "", "", two, 0, first, healthy),
-        (
-            "serve 65535 1000000",
-            "",
-            "",
-            made_and_shown,
-            0,
-            done,
-            made_and_seen,
-        ),
-        ("serve 1 2", "", "", refused, 0, bad, no_length),
-    ];
-    for (words, pipe_fails, door_fails, inputs, status, told, answers) in rows {
-        let run = run(rt.alloc(), words, pipe_fails, inputs, door_fails)?;
-        assert_eq!(rt; run.status, status, "{words}");
-        assert_eq!(rt; run.told.as_bytes(), told.as_bytes());
-        assert_eq!(rt; run.answers.as_bytes(), answers.as_bytes());
+fn words_that_are_no_command(rt: HostRuntime) {
+    for words in &NO_COMMANDS {
+        check_no_command(&rt, rt.alloc(), words);
     }
-    Ok(())
+}
+
+const TWO: &str = "GET /health HTTP/1.1\r\nHost: x\r\n\r\n|GET /health HT";
+
+const MADE_AND_SHOWN: &str = "POST /indexes HTTP/1.1\r\ncontent-length: 11\r\n\r\n{\"uid\":\"m\"}|\
+    GET /indexes/m HTTP/1.0\r\n\r\n";
+
+const REFUSED: &str = "POST /indexes HTTP/1.1\r\n\r\n|";
+
+const HEALTHY: &str =
+    "HTTP/1.1 200 OK\r\ncontent-length: 22\r\ncontent-type: application/json\r\n\r\n\
+    {\"status\":\"available\"}|";
+
+const HEALTHY_AND_CUT: &str =
+    "HTTP/1.1 200 OK\r\ncontent-length: 22\r\ncontent-type: application/json\r\n\r\n\
+    {\"status\":\"available\"}||";
+
+const MADE_AND_SEEN: &str =
+    "HTTP/1.1 202 Accepted\r\ncontent-length: 72\r\ncontent-type: application/json\r\n\r\n\
+    {\"indexUid\":\"m\",\"status\":\"succeeded\",\"taskUid\":0,\"type\":\"indexCreation\"}|\
+    HTTP/1.1 200 OK\r\ncontent-length: 29\r\ncontent-type: application/json\r\nconnection: close\r\n\r\n\
+    {\"primaryKey\":null,\"uid\":\"m\"}|";
+
+const NO_LENGTH: &str =
+    "HTTP/1.1 411 Length Required\r\ncontent-length: 80\r\ncontent-type: application/json\r\n\
+    connection: close\r\n\r\n{\"code\":\"length_required\",\"message\":\"Length required.\",\
+    \"type\":\"invalid_request\"}||";
+
+const FIRST: &str = "link 1 status 0 requests 1\n";
+
+const BOTH: &str = "link 1 status 0 requests 1\nlink 2 status 8 requests 0\n";
+
+const DONE: &str = "link 1 status 0 requests 1\nlink 2 status 0 requests 1\n";
+
+const BAD: &str = "link 1 status 9 requests 0\nlink 2 status 0 requests 0\n";
+
+// The words, calls of the pipe and of the door that fail, links, the status, what the pipe is told, and answers.
+struct Row {
+    words: &'static str,
+    pipe_fails: &'static str,
+    door_fails: &'static str,
+    inputs: &'static str,
+    status: u8,
+    told: &'static str,
+    answers: &'static str,
+}
+
+const ROWS: [Row; 9] = [
+    Row {
+        words: "serve 7700 3",
+        pipe_fails: "",
+        door_fails: "",
+        inputs: TWO,
+        status: 0,
+        told: BOTH,
+        answers: HEALTHY_AND_CUT,
+    },
+    Row {
+        words: "serve 7700 3",
+        pipe_fails: "",
+        door_fails: "0",
+        inputs: TWO,
+        status: 5,
+        told: "",
+        answers: "",
+    },
+    Row {
+        words: "serve 7700 3",
+        pipe_fails: "",
+        door_fails: "1",
+        inputs: TWO,
+        status: 5,
+        told: "",
+        answers: "",
+    },
+    Row {
+        words: "serve 7700 3",
+        pipe_fails: "",
+        door_fails: "2",
+        inputs: TWO,
+        status: 5,
+        told: FIRST,
+        answers: HEALTHY,
+    },
+    Row {
+        words: "serve 7700 3",
+        pipe_fails: "0",
+        door_fails: "",
+        inputs: TWO,
+        status: 4,
+        told: "",
+        answers: HEALTHY,
+    },
+    Row {
+        words: "serve 7700 3",
+        pipe_fails: "1",
+        door_fails: "",
+        inputs: TWO,
+        status: 4,
+        told: FIRST,
+        answers: HEALTHY_AND_CUT,
+    },
+    Row {
+        words: "serve 7700 1",
+        pipe_fails: "",
+        door_fails: "",
+        inputs: TWO,
+        status: 0,
+        told: FIRST,
+        answers: HEALTHY,
+    },
+    Row {
+        words: "serve 65535 1000000",
+        pipe_fails: "",
+        door_fails: "",
+        inputs: MADE_AND_SHOWN,
+        status: 0,
+        told: DONE,
+        answers: MADE_AND_SEEN,
+    },
+    Row {
+        words: "serve 1 2",
+        pipe_fails: "",
+        door_fails: "",
+        inputs: REFUSED,
+        status: 0,
+        told: BAD,
+        answers: NO_LENGTH,
+    },
+];
+
+fn check_row(rt: &impl Abort, alloc: Global, row: &Row) {
+    let (words, pipe_fails, door_fails) = (row.words, row.pipe_fails, row.door_fails);
+    let run = run(rt, alloc, words, pipe_fails, row.inputs, door_fails);
+    check_run(rt, &run, row.status, row.told, row.answers, words);
 }
 
 #[test]
-fn a_demo_is_shown(rt: HostRuntime) -> Result<(), Fail> {
-    let none =
-        "documents 0\nsearch 1 total 0 ids\nsearch 2 total 0 ids\nsearch 3 total 0 ids\nsearch 4 total 0 ids\n\
-        search 5 total 0 ids\nsearch 6 total 0 ids\nsearch 7 total 0 ids\nsearch 8 total 0 ids\nsearch 9 total 0 ids\n\
-        search 10 total 0 ids\n";
-    let one =
-        "documents 1\nsearch 1 total 1 ids 1\nsearch 2 total 0 ids\nsearch 3 total 0 ids\nsearch 4 total 0 ids\n\
-        search 5 total 0 ids\nsearch 6 total 1 ids 1\nsearch 7 total 1 ids\nsearch 8 total 0 ids\nsearch 9 total 0 ids\n\
-        search 10 total 0 ids\n";
-    for (words, told) in [("demo 0 1", none), ("demo 1 1", one)] {
-        let run = run(rt.alloc(), words, "", HEALTH, "")?;
-        assert_eq!(rt; run.status, 0, "{words}");
-        assert_eq!(rt; run.told.as_str(), told, "{words}");
-        assert_eq!(rt; run.answers.as_str(), "", "{words}");
+fn links_of_a_door_are_served_one_after_the_other(rt: HostRuntime) {
+    for row in &ROWS {
+        check_row(&rt, rt.alloc(), row);
     }
-    let failed = run(rt.alloc(), "demo 1 1", "0", "", "")?;
-    assert_eq!(rt; failed.status, 4);
-    assert_eq!(rt; failed.told.as_str(), "");
-    Ok(())
+}
+
+const NO_DOCUMENT: &str =
+    "documents 0\nsearch 1 total 0 ids\nsearch 2 total 0 ids\nsearch 3 total 0 ids\nsearch 4 total 0 ids\n\
+    search 5 total 0 ids\nsearch 6 total 0 ids\nsearch 7 total 0 ids\nsearch 8 total 0 ids\nsearch 9 total 0 ids\n\
+    search 10 total 0 ids\n";
+
+const ONE_DOCUMENT: &str =
+    "documents 1\nsearch 1 total 1 ids 1\nsearch 2 total 0 ids\nsearch 3 total 0 ids\nsearch 4 total 0 ids\n\
+    search 5 total 0 ids\nsearch 6 total 1 ids 1\nsearch 7 total 1 ids\nsearch 8 total 0 ids\nsearch 9 total 0 ids\n\
+    search 10 total 0 ids\n";
+
+// The words, calls of the pipe that fail, the status and what the pipe is told.
+const DEMOS: [(&str, &str, u8, &str); 3] = [
+    ("demo 0 1", "", 0, NO_DOCUMENT),
+    ("demo 1 1", "", 0, ONE_DOCUMENT),
+    ("demo 1 1", "0", 4, ""),
+];
+
+fn check_demo(
+    rt: &impl Abort,
+    alloc: Global,
+    words: &str,
+    pipe_fails: &str,
+    status: u8,
+    told: &str,
+) {
+    let run = run(rt, alloc, words, pipe_fails, HEALTH, "");
+    check_run(rt, &run, status, told, "", words);
 }
 
 #[test]
-fn a_demo_is_the_same_again(rt: HostRuntime) -> Result<(), Fail> {
-    let first = run(rt.alloc(), "demo 2000 7", "", "", "")?;
-    let second = run(rt.alloc(), "demo 2000 7", "", "", "")?;
-    assert!(rt; first.told.starts_with("documents 2000\nsearch 1 total "));
-    assert_eq!(rt; first.told.as_str(), second.told.as_str());
-    Ok(())
+fn a_demo_is_shown(rt: HostRuntime) {
+    for (words, pipe_fails, status, told) in &DEMOS {
+        check_demo(&rt, rt.alloc(), words, pipe_fails, *status, told);
+    }
+}
+
+#[test]
+fn a_demo_is_the_same_again(rt: HostRuntime) {
+    let first = run(&rt, rt.alloc(), "demo 2000 7", "", "", "");
+    let second = run(&rt, rt.alloc(), "demo 2000 7", "", "", "");
+    let begins = first.told.starts_with("documents 2000\nsearch 1 total ");
+    check(&rt, begins, "begins");
+    check_text(&rt, &first.told, &second.told, "again");
 }

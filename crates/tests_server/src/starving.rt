@@ -2,13 +2,12 @@ ghost use Rattle.std.specs.Prelude.{◌≡◌, Some, length, ◌<◌};
 ghost use Rattle.outside_io.specs.Bytes.{Reads, Writes};
 ghost use Rattle.outside_io.specs.Faults.{HasCause};
 
-use crate::disks::empty_disk;
-use durable_machine::DurableMachine;
+use crate::checks::{add, bytes, check, text_of};
+use crate::disks::{crashed, empty_disk, serve_on};
 use outside_io::{Failed, Link, MemoryLink};
-use search_base::Steps;
-use search_server::{LinkEnd, Status, serve_link};
-use std::str;
-use std::test::Fail;
+use search_server::{LinkEnd, Status};
+use std::alloc::Global;
+use std::process::Abort;
 
 // A link in memory of which the first write finds no memory for what it would keep.
 #[derive(Drop)]
@@ -59,66 +58,42 @@ const ADD: &[u8] =
 
 const SEARCH: &[u8] = b"POST /indexes/m/search HTTP/1.1\r\ncontent-length: 0\r\n\r\n";
 
-#[test]
-fn a_link_that_starves_once_is_served_afterwards(rt: HostRuntime) -> Result<(), Fail> {
-    let mut input = ADD.to_vec(rt.alloc())?;
-    input.extend_from_slice(SEARCH)?;
-    let mut link = StarvesOnce {
-        link: MemoryLink::paced(rt.alloc(), input, Vec::new(rt.alloc()), ADD.len())?,
+fn starving(rt: &impl Abort, alloc: Global) -> StarvesOnce {
+    let mut input = bytes(rt, alloc, ADD);
+    add(rt, &mut input, SEARCH);
+    let link = MemoryLink::paced(alloc, input, Vec::new(alloc), ADD.len());
+    StarvesOnce {
+        link: link.expect(rt, "memory"),
         starved: false,
         read_faults: 0,
         write_faults: 0,
-    };
+    }
+}
+
+fn check_end(rt: &impl Abort, end: LinkEnd, status: Status) {
+    check(rt, end.status == status, "status");
+    check(rt, end.requests == 1, "requests");
+    check(rt, end.passed == 0, "passed");
+}
+
+const FOUND: &str =
+    r#"{"estimatedTotalHits":2,"hits":[{"id":1},{"id":"two"}],"limit":20,"offset":0,"query":""}"#;
+
+// What a crash leaves of the disks is opened again.
+#[test]
+fn a_link_that_starves_once_is_served_afterwards(rt: HostRuntime) {
     let alloc = rt.alloc();
-    let mut disk_a = empty_disk(alloc)?;
-    let mut disk_b = empty_disk(alloc)?;
-    let mut fetches: Steps<()> = Steps::new();
-    let mut machine = DurableMachine::opened(alloc, &mut disk_a, &mut disk_b, &mut fetches)?;
-    let end = serve_link(
-        alloc,
-        &mut machine,
-        &mut link,
-        &mut disk_a,
-        &mut disk_b,
-        &mut fetches,
-    );
-    let status = Status::WriteFault;
-    assert_eq!(rt;
-        end,
-        LinkEnd {
-            status,
-            requests: 1,
-            passed: 0
-        }
-    );
-    assert_eq!(rt; link.link.written().len(), 0);
-    // What a crash leaves of the disks is opened again.
-    let mut disk_a = disk_a.after_crash(0)?;
-    let mut disk_b = disk_b.after_crash(0)?;
-    let mut machine = DurableMachine::opened(alloc, &mut disk_a, &mut disk_b, &mut fetches)?;
-    let end = serve_link(
-        alloc,
-        &mut machine,
-        &mut link,
-        &mut disk_a,
-        &mut disk_b,
-        &mut fetches,
-    );
-    let status = Status::Done;
-    assert_eq!(rt;
-        end,
-        LinkEnd {
-            status,
-            requests: 1,
-            passed: 0
-        }
-    );
-    let written = str::from_utf8(link.link.written())?;
-    assert!(rt; written.starts_with("HTTP/1.1 200 OK\r\n"));
-    assert!(rt;
-        written.ends_with(
-            "{\"estimatedTotalHits\":2,\"hits\":[{\"id\":1},{\"id\":\"two\"}],\"limit\":20,\"offset\":0,\"query\":\"\"}"
-        )
-    );
-    Ok(())
+    let mut link = starving(&rt, alloc);
+    let mut disk_a = empty_disk(&rt, alloc);
+    let mut disk_b = empty_disk(&rt, alloc);
+    let end = serve_on(&rt, alloc, &mut link, &mut disk_a, &mut disk_b);
+    check_end(&rt, end, Status::WriteFault);
+    check(&rt, link.link.written().is_empty(), "nothing is written");
+    let mut disk_a = crashed(&rt, &disk_a, 0);
+    let mut disk_b = crashed(&rt, &disk_b, 0);
+    let end = serve_on(&rt, alloc, &mut link, &mut disk_a, &mut disk_b);
+    check_end(&rt, end, Status::Done);
+    let written = text_of(&rt, link.link.written());
+    check(&rt, written.starts_with("HTTP/1.1 200 OK\r\n"), "status");
+    check(&rt, written.ends_with(FOUND), "found");
 }

@@ -1,15 +1,15 @@
-ghost use Rattle.std.specs.Prelude.{◌≡◌, Some, IfOk};
+ghost use Rattle.std.specs.Prelude.{Some};
 ghost use Rattle.change_journal.specs.Fits.{IsSettled};
 ghost use Rattle.outside_io.specs.MemoryDisk.{contents_of};
 
-use durable_machine::DurableMachine;
+use crate::checks::{add, bytes, check, check_text, text_of};
+use crate::disks::{crashed, serve_on};
 use link_doors::MemoryDoor;
 use outside_io::{MemoryDisk, MemoryLink};
 use search_base::Steps;
-use search_server::{Status, run_search_server, serve_link};
+use search_server::{Status, run_search_server};
 use std::alloc::Global;
-use std::str;
-use std::test::Fail;
+use std::process::Abort;
 
 // What two disks hold after the first opening, and after an index `e` was made.
 const FIRST: &str = "0152414e4b49445801000000000000000d0000000000000001000000000000000000000000 00";
@@ -40,195 +40,212 @@ fn digit(letter: u8) -> u8 {
 }
 
 // The bytes of hexadecimal digits, between which blanks may stand.
-fn bytes_of(alloc: Global, text: &str) -> Result<Vec<u8>, Fail> {
+fn bytes_of(rt: &impl Abort, alloc: Global, text: &str) -> Vec<u8> {
     let mut bytes = Vec::new(alloc);
     let mut front: Option<u8> = None;
     for letter in text.bytes() {
-        if letter <= b' ' {
-            continue;
+        if letter > b' ' {
+            front = match front {
+                None => Some((digit(letter) & 15) * 16),
+                Some(high) => {
+                    let byte = high.saturating_add(digit(letter) & 15);
+                    bytes.push(byte).expect(rt, "memory");
+                    None
+                }
+            };
         }
-        front = match front {
-            None => Some(digit(letter)),
-            Some(high) => {
-                bytes.push((high & 15) * 16 + (digit(letter) & 15))?;
-                None
-            }
-        };
     }
-    Ok(bytes)
+    bytes
+}
+
+// The numbers from one on to 39.
+fn calls_from(rt: &impl Abort, alloc: Global, from: u64) -> Vec<u64> {
+    let mut calls = Vec::new(alloc);
+    for call in from..40 {
+        calls.push(call).expect(rt, "memory");
+    }
+    calls
 }
 
 // A disk with these bytes that fails at all calls from one on.
-fn disk(alloc: Global, content: &str, from: u64) -> Result<MemoryDisk, Fail>
-    ensures { IfOk result (λ disk. IsSettled (Some (contents_of disk))) }
+fn disk(rt: &impl Abort, alloc: Global, content: &str, from: u64) -> MemoryDisk
+    ensures { IsSettled (Some (contents_of result)) }
 {
-    let mut failing = Vec::new(alloc);
-    for call in from..40 {
-        failing.push(call)?;
-    }
-    Ok(MemoryDisk::new(alloc, bytes_of(alloc, content)?, failing)?)
+    let content = bytes_of(rt, alloc, content);
+    let failing = calls_from(rt, alloc, from);
+    MemoryDisk::new(alloc, content, failing).expect(rt, "memory")
 }
 
-fn status_text(alloc: Global, status: &Status) -> Result<String, Fail> {
-    let mut text = String::new(alloc);
-    match status {
-        Status::Damaged { disk, place, found } => {
-            text.push_str(disk.to_string(alloc)?.as_str())?;
-            text.push(' ')?;
-            text.push_str(place.to_string(alloc)?.as_str())?;
-            text.push(' ')?;
-            match found {
-                Some(byte) => text.push_str(byte.to_string(alloc)?.as_str())?,
-                None => text.push_str("end")?,
-            }
-        }
-        other => text.push_str(other.number().to_string(alloc)?.as_str())?,
-    }
-    Ok(text)
+fn status_text(rt: &impl Abort, alloc: Global, status: &Status) -> String {
+    let text = match status {
+        Status::Damaged {
+            disk,
+            place,
+            found: Some(byte),
+        } => format!(in alloc; "{disk} {place} {byte}"),
+        Status::Damaged {
+            disk,
+            place,
+            found: None,
+        } => format!(in alloc; "{disk} {place} end"),
+        other => format!(in alloc; "{}", other.number()),
+    };
+    text.expect(rt, "memory")
 }
 
-fn run(alloc: Global, input: &str, disk_a: MemoryDisk, disk_b: MemoryDisk) -> Result<Outcome, Fail>
+fn run_on(
+    rt: &impl Abort,
+    alloc: Global,
+    pipe: &mut MemoryLink,
+    disk_a: &mut MemoryDisk,
+    disk_b: &mut MemoryDisk,
+) -> Status
+    requires settled_a { IsSettled (Some (contents_of disk_a.old)) }
+    requires settled_b { IsSettled (Some (contents_of disk_b.old)) }
+{
+    let word = "pipe".to_string(alloc).expect(rt, "memory");
+    let words = Vec::from_array(alloc, [word]).expect(rt, "memory");
+    let door = MemoryDoor::new(alloc, Vec::new(alloc), Vec::new(alloc));
+    let mut door = door.expect(rt, "memory");
+    let mut fetches: Steps<()> = Steps::new();
+    run_search_server(alloc, &words, pipe, &mut door, disk_a, disk_b, &mut fetches)
+}
+
+fn run(
+    rt: &impl Abort,
+    alloc: Global,
+    input: &str,
+    disk_a: MemoryDisk,
+    disk_b: MemoryDisk,
+) -> Outcome
     requires settled_a { IsSettled (Some (contents_of disk_a)) }
     requires settled_b { IsSettled (Some (contents_of disk_b)) }
 {
-    let mut words = Vec::new(alloc);
-    words.push("pipe".to_string(alloc)?)?;
-    let mut pipe = MemoryLink::new(alloc, input.as_bytes().to_vec(alloc)?, Vec::new(alloc))?;
-    let mut door = MemoryDoor::new(alloc, Vec::new(alloc), Vec::new(alloc))?;
+    let input = bytes(rt, alloc, input.as_bytes());
+    let mut pipe = MemoryLink::new(alloc, input, Vec::new(alloc)).expect(rt, "memory");
     let (mut disk_a, mut disk_b) = (disk_a, disk_b);
-    let mut fetches: Steps<()> = Steps::new();
-    let status = run_search_server(
-        alloc,
-        &words,
-        &mut pipe,
-        &mut door,
-        &mut disk_a,
-        &mut disk_b,
-        &mut fetches,
-    );
-    Ok(Outcome {
-        status: status_text(alloc, &status)?,
-        told: str::from_utf8(pipe.written())?.to_string(alloc)?,
+    let status = run_on(rt, alloc, &mut pipe, &mut disk_a, &mut disk_b);
+    let told = text_of(rt, pipe.written());
+    Outcome {
+        status: status_text(rt, alloc, &status),
+        told: told.to_string(alloc).expect(rt, "memory"),
         disk_a,
         disk_b,
-    })
+    }
+}
+
+const THREE: &str = "0152414e4b49445801000000000000000d0000000000000003000000000000000000000000 00";
+
+const INSIDE: &str =
+    "0152414e4b49445801000000000000000e0000000000000001000000000000000001000000ff01";
+
+// The machine refuses to make an index again that is there.
+const TAKEN: &str = "0152414e4b49445801000000000000000d0000000000000001000000000000000000000000 01
+    0000000000000000 07000000 01 01000000 65 00 01 0100000000000000 07000000 01 01000000 65 00 00";
+
+// The status, disk 0, disk 1, the call from which disk 0 fails, disk 0 and disk 1 then.
+const OPENINGS: [(&str, &str, &str, u64, &str, &str); 9] = [
+    ("0", "", "", 40, FIRST, ""),
+    ("0", FIRST, "", 40, FIRST, ""),
+    ("0", "", WITH_E, 40, "", WITH_E),
+    ("0 24 3", THREE, "", 40, THREE, ""),
+    ("1 8 1", FIRST, FIRST, 40, FIRST, FIRST),
+    ("0 37 255", INSIDE, "", 40, INSIDE, ""),
+    ("0 70 1", TAKEN, "", 40, TAKEN, ""),
+    ("6", FIRST, "", 0, FIRST, ""),
+    ("6", "", "", 2, "", ""),
+];
+
+fn opened(rt: &impl Abort, alloc: Global, a: &str, b: &str, from: u64) -> Outcome {
+    let disk_a = disk(rt, alloc, a, from);
+    let disk_b = disk(rt, alloc, b, 40);
+    run(rt, alloc, "", disk_a, disk_b)
+}
+
+fn check_content(rt: &impl Abort, alloc: Global, disk: &MemoryDisk, wanted: &str) {
+    let wanted = bytes_of(rt, alloc, wanted);
+    check(rt, disk.content() == wanted.as_slice(), "content");
 }
 
 // Runs on two disks, what the program says and what stands there then. Disk 0 fails from a call on.
 #[test]
-fn what_opening_two_disks_comes_to(rt: HostRuntime) -> Result<(), Fail> {
+fn what_opening_two_disks_comes_to(rt: HostRuntime) {
     let alloc = rt.alloc();
-    let three = "0152414e4b49445801000000000000000d0000000000000003000000000000000000000000 00";
-    let inside = "0152414e4b49445801000000000000000e0000000000000001000000000000000001000000ff01";
-    let taken = "0152414e4b49445801000000000000000d0000000000000001000000000000000000000000 01
-        0000000000000000 07000000 01 01000000 65 00 01 0100000000000000 07000000 01 01000000 65 00 00";
-    let rows = [
-        // status, disk 0, disk 1, the call from which disk 0 fails, disk 0 and disk 1 then
-        ("0", "", "", 40, FIRST, ""),
-        ("0", FIRST, "", 40, FIRST, ""),
-        ("0", "", WITH_E, 40, "", WITH_E),
-        ("0 24 3", three, "", 40, three, ""),
-        ("1 8 1", FIRST, FIRST, 40, FIRST, FIRST),
-        ("0 37 255", inside, "", 40, inside, ""),
-        // The machine refuses to make an index again that is there.
-        ("0 70 1", taken, "", 40, taken, ""),
-        ("6", FIRST, "", 0, FIRST, ""),
-        ("6", "", "", 2, "", ""),
-    ];
-    for (status, a, b, from, then_a, then_b) in &rows {
-        let ran = run(alloc, "", disk(alloc, a, *from)?, disk(alloc, b, 40)?)?;
-        assert_eq!(rt; ran.status.as_str(), *status);
-        assert!(rt;
-            ran.disk_a.content() == bytes_of(alloc, then_a)?.as_slice(),
-            "{status}"
-        );
-        assert!(rt;
-            ran.disk_b.content() == bytes_of(alloc, then_b)?.as_slice(),
-            "{status}"
-        );
+    for (status, a, b, from, then_a, then_b) in &OPENINGS {
+        let ran = opened(&rt, alloc, a, b, *from);
+        check_text(&rt, &ran.status, status, "status");
+        check_content(&rt, alloc, &ran.disk_a, then_a);
+        check_content(&rt, alloc, &ran.disk_b, then_b);
     }
-    Ok(())
+}
+
+// The call from which disk 0 fails, how many later writes the crash lets through, the status, and whether the change
+// is there.
+const STOPS: [(u64, u64, &str, bool); 8] = [
+    (2, 0, "6", false),
+    (2, 1, "6", false),
+    (3, 1, "6", false),
+    (4, 0, "6", false),
+    (4, 1, "6", true),
+    (5, 0, "6", false),
+    (5, 1, "6", true),
+    (6, 0, "0", true),
+];
+
+fn stopped(rt: &impl Abort, alloc: Global, from: u64) -> Outcome {
+    let disk_a = disk(rt, alloc, FIRST, from);
+    let disk_b = disk(rt, alloc, "", 40);
+    run(rt, alloc, MAKE_E, disk_a, disk_b)
+}
+
+// Whether the list of indexes after a crash has one.
+fn check_listed(rt: &impl Abort, alloc: Global, ran: &Outcome, kept: u64, is_there: bool) {
+    let disk_a = crashed(rt, &ran.disk_a, kept);
+    let disk_b = crashed(rt, &ran.disk_b, kept);
+    let again = run(rt, alloc, LIST, disk_a, disk_b);
+    check_text(rt, &again.status, "0", "status");
+    check(rt, again.told.contains("\"total\":1") == is_there, "total");
 }
 
 // A change is there or not after a crash, and there wherever its reply was begun. Disk 0 holds no index and fails from a
 // call on: opening makes the calls 0 and 1, recording the change the calls 2 to 5.
 #[test]
-fn a_stop_while_a_change_is_recorded(rt: HostRuntime) -> Result<(), Fail> {
+fn a_stop_while_a_change_is_recorded(rt: HostRuntime) {
     let alloc = rt.alloc();
-    let rows = [
-        // the call, how many later writes the crash lets through, the status, whether the change is there
-        (2, 0, "6", false),
-        (2, 1, "6", false),
-        (3, 1, "6", false),
-        (4, 0, "6", false),
-        (4, 1, "6", true),
-        (5, 0, "6", false),
-        (5, 1, "6", true),
-        (6, 0, "0", true),
-    ];
-    for (from, kept, status, is_there) in &rows {
-        let ran = run(
-            alloc,
-            MAKE_E,
-            disk(alloc, FIRST, *from)?,
-            disk(alloc, "", 40)?,
-        )?;
-        assert_eq!(rt; ran.status.as_str(), *status);
-        assert_eq!(rt; ran.told.is_empty(), *status == "6");
-        let again = run(
-            alloc,
-            LIST,
-            ran.disk_a.after_crash(*kept)?,
-            ran.disk_b.after_crash(*kept)?,
-        )?;
-        assert_eq!(rt; again.status.as_str(), "0");
-        assert_eq!(rt;
-            again.told.contains("\"total\":1"),
-            *is_there,
-            "{from} {kept}"
-        );
+    for (from, kept, status, is_there) in &STOPS {
+        let ran = stopped(&rt, alloc, *from);
+        check_text(&rt, &ran.status, status, "status");
+        check(&rt, ran.told.is_empty() == (*status == "6"), status);
+        check_listed(&rt, alloc, &ran, *kept, *is_there);
     }
-    Ok(())
 }
 
-// A request that gives the settings of `e` one displayed attribute of nine million bytes.
-fn large_patch(alloc: Global, letter: u8) -> Result<Vec<u8>, Fail> {
-    let mut text = Vec::with_capacity(alloc, 9_000_200)?;
-    text.extend_from_slice(
-        b"PATCH /indexes/e/settings HTTP/1.1\r\nContent-Length: 9000028\r\n\r\n",
-    )?;
-    text.extend_from_slice(b"{\"displayedAttributes\":[\"")?;
-    for _ in 0..9_000_000 {
-        text.push(letter)?;
-    }
-    text.extend_from_slice(b"\"]}")?;
-    Ok(text)
+const PATCH_HEAD: &[u8] =
+    b"PATCH /indexes/e/settings HTTP/1.1\r\nContent-Length: 9000028\r\n\r\n{\"displayedAttributes\":[\"";
+
+// Adds a request that gives the settings of `e` one displayed attribute of nine million bytes.
+fn add_patch(rt: &impl Abort, alloc: Global, letter: &str, input: &mut Vec<u8>) {
+    let attribute = letter.repeat(alloc, 9_000_000).expect(rt, "memory");
+    add(rt, input, PATCH_HEAD);
+    add(rt, input, attribute.as_bytes());
+    add(rt, input, b"\"]}");
 }
 
 // The second of two such patches makes the journal longer than 16 MiB, so that a checkpoint is made on disk 1.
 #[test]
-fn a_long_journal_ends_in_a_checkpoint(rt: HostRuntime) -> Result<(), Fail> {
+fn a_long_journal_ends_in_a_checkpoint(rt: HostRuntime) {
     let alloc = rt.alloc();
-    let mut disk_a = disk(alloc, FIRST, 40)?;
-    let mut disk_b = disk(alloc, "", 40)?;
-    let mut fetches: Steps<()> = Steps::new();
-    let mut input = large_patch(alloc, b'a')?;
-    input.extend_from_slice(&large_patch(alloc, b'b')?)?;
-    let mut link = MemoryLink::new(alloc, input, Vec::new(alloc))?;
-    let mut machine = DurableMachine::opened(alloc, &mut disk_a, &mut disk_b, &mut fetches)?;
-    let end = serve_link(
-        alloc,
-        &mut machine,
-        &mut link,
-        &mut disk_a,
-        &mut disk_b,
-        &mut fetches,
-    );
-    assert_eq!(rt; end.status.number(), 0);
-    assert_eq!(rt; end.requests, 2);
-    assert_eq!(rt; end.passed, 0);
-    let header = bytes_of(alloc, "0152414e4b4944580200000000000000")?;
-    assert!(rt; disk_b.content().len() > 9_000_000);
-    assert!(rt; disk_b.content().starts_with(header.as_slice()));
-    Ok(())
+    let mut disk_a = disk(&rt, alloc, FIRST, 40);
+    let mut disk_b = disk(&rt, alloc, "", 40);
+    let mut input = Vec::new(alloc);
+    add_patch(&rt, alloc, "a", &mut input);
+    add_patch(&rt, alloc, "b", &mut input);
+    let mut link = MemoryLink::new(alloc, input, Vec::new(alloc)).expect(&rt, "memory");
+    let end = serve_on(&rt, alloc, &mut link, &mut disk_a, &mut disk_b);
+    check(&rt, end.status.number() == 0, "status");
+    check(&rt, end.requests == 2, "requests");
+    check(&rt, end.passed == 0, "passed");
+    let header = bytes_of(&rt, alloc, "0152414e4b4944580200000000000000");
+    check(&rt, disk_b.content().len() > 9_000_000, "length");
+    check(&rt, disk_b.content().starts_with(&header), "header");
 }

@@ -2,11 +2,12 @@ ghost use Rattle.std.specs.Prelude.{◌≡◌, filter, true, IfOk};
 ghost use Rattle.bucket_sort.specs.Buckets.{AreAmong};
 ghost use Rattle.bucket_sort.specs.Tables.{number_at, lesser_number, least_from, is_kept, key_of};
 
+use crate::checks::{check, check_text, set_of};
 use bucket_sort::*;
 use doc_sets::DocSet;
 use search_base::{CostKey, DocId, NoMemory, Steps};
 use std::alloc::Global;
-use std::test::Fail;
+use std::process::Abort;
 
 struct Counted;
 
@@ -139,120 +140,109 @@ const DARK: [[u32; 6]; 4] = [
     [0, 0, 2, 0, 2, 1],
 ];
 
-fn all_of(alloc: Global, count: u32) -> Result<DocSet, NoMemory> {
-    let mut set = DocSet::new(alloc);
-    for id in 0..count {
-        let _new = set.insert(DocId(id))?;
+const DARK_TABLE: Table<'static> = Table {
+    levels: 6,
+    rows: &DARK,
+};
+
+fn tell_openings(rt: &impl Abort, rows: &[Opening], text: &mut String) {
+    for row in rows {
+        let key = match &row.key {
+            CostKey::Number(key) => *key,
+            _ => 99,
+        };
+        write!(text, "({},{key},{}) ", row.level, row.size).expect(rt, "memory");
     }
-    Ok(set)
 }
 
-// Adds the ids of the hits and what was opened, as text.
-fn shown(
+fn page_of(
+    rt: &impl Abort,
     alloc: Global,
     offset: u64,
     limit: u64,
     log: &mut Box<dyn BucketLog>,
-) -> Result<String, Fail> {
-    let table = Table {
-        levels: 6,
-        rows: &DARK,
-    };
+) -> Vec<DocId> {
+    let all = set_of(rt, alloc, &[0, 1, 2, 3]);
     let mut openings = Steps::<Counted>::new();
-    let hits = page(
-        alloc,
-        &table,
-        all_of(alloc, 4)?,
-        offset,
-        limit,
-        log,
-        &mut openings,
-    )?;
+    let hits = page(alloc, &DARK_TABLE, all, offset, limit, log, &mut openings);
+    hits.expect(rt, "memory")
+}
+
+// The ids of the hits and what was opened, as text.
+fn recorded(rt: &impl Abort, alloc: Global, offset: u64, limit: u64) -> String {
+    let record = RecordLog::new(alloc);
+    let mut log: Box<dyn BucketLog> = Box::new(alloc, record).expect(rt, "memory");
     let mut text = String::new(alloc);
-    for id in &hits {
-        text = format!(in alloc; "{text}{} ", id.0)?;
+    for id in &page_of(rt, alloc, offset, limit, &mut log) {
+        write!(text, "{} ", id.0).expect(rt, "memory");
     }
-    match log.heard() {
-        Some(rows) => {
-            for row in rows {
-                let key = match &row.key {
-                    CostKey::Number(key) => *key,
-                    _ => 99,
-                };
-                text = format!(in alloc; "{text}({},{key},{}) ", row.level, row.size)?;
-            }
-        }
-        None => {}
+    if let Some(rows) = log.heard() {
+        tell_openings(rt, rows, &mut text);
     }
-    Ok(text)
+    text
 }
 
-fn recorded(alloc: Global, offset: u64, limit: u64) -> Result<String, Fail> {
-    let mut log: Box<dyn BucketLog> = Box::new(alloc, RecordLog::new(alloc))?;
-    shown(alloc, offset, limit, &mut log)
+fn check_page(rt: &impl Abort, alloc: Global, offset: u64, limit: u64, wanted: &str) {
+    check_text(rt, &recorded(rt, alloc, offset, limit), wanted, "page");
+}
+
+const WHOLE_PAGE: &str = "1 3 0 2 (1,0,4) (2,0,4) (3,2,4) (4,0,2) (5,1,1) (5,2,1) (4,1,1) (4,3,1) ";
+
+#[test]
+fn whole_page_opens_each_class(rt: HostRuntime) {
+    check_page(&rt, rt.alloc(), 0, 20, WHOLE_PAGE);
 }
 
 #[test]
-fn whole_page_opens_each_class(rt: HostRuntime) -> Result<(), Fail> {
-    let text = recorded(rt.alloc(), 0, 20)?;
-    assert_eq!(rt;
-        text.as_str(),
-        "1 3 0 2 (1,0,4) (2,0,4) (3,2,4) (4,0,2) (5,1,1) (5,2,1) (4,1,1) (4,3,1) "
-    );
-    Ok(())
+fn first_hit_opens_five(rt: HostRuntime) {
+    let wanted = "1 (1,0,4) (2,0,4) (3,2,4) (4,0,2) (5,1,1) ";
+    check_page(&rt, rt.alloc(), 0, 1, wanted);
 }
 
 #[test]
-fn first_hit_opens_five(rt: HostRuntime) -> Result<(), Fail> {
-    let text = recorded(rt.alloc(), 0, 1)?;
-    assert_eq!(rt; text.as_str(), "1 (1,0,4) (2,0,4) (3,2,4) (4,0,2) (5,1,1) ");
-    Ok(())
+fn bucket_before_the_window_is_passed_whole(rt: HostRuntime) {
+    let wanted = "0 (1,0,4) (2,0,4) (3,2,4) (4,0,2) (4,1,1) ";
+    check_page(&rt, rt.alloc(), 2, 1, wanted);
 }
 
 #[test]
-fn bucket_before_the_window_is_passed_whole(rt: HostRuntime) -> Result<(), Fail> {
-    let text = recorded(rt.alloc(), 2, 1)?;
-    assert_eq!(rt; text.as_str(), "0 (1,0,4) (2,0,4) (3,2,4) (4,0,2) (4,1,1) ");
-    Ok(())
-}
-
-#[test]
-fn window_with_no_hit_opens_nothing(rt: HostRuntime) -> Result<(), Fail> {
-    assert_eq!(rt; recorded(rt.alloc(), 0, 0)?.as_str(), "");
-    assert_eq!(rt; recorded(rt.alloc(), 4, 3)?.as_str(), "");
-    assert_eq!(rt; recorded(rt.alloc(), u64::MAX, u64::MAX)?.as_str(), "");
-    Ok(())
+fn window_with_no_hit_opens_nothing(rt: HostRuntime) {
+    check_page(&rt, rt.alloc(), 0, 0, "");
+    check_page(&rt, rt.alloc(), 4, 3, "");
+    check_page(&rt, rt.alloc(), u64::MAX, u64::MAX, "");
 }
 
 // Whether the first two hits that are asked for are refused.
 fn both_refused<R: RuleSet>(
+    rt: &impl Abort,
     alloc: Global,
     rules: &R,
     universe: DocSet,
     log: &mut Box<dyn BucketLog>,
-) -> Result<bool, NoMemory>
+) -> bool
     requires { AreAmong (R.documents rules.now) universe.ids }
 {
     let mut openings = Steps::<Counted>::new();
-    let mut stream = HitStream::new(alloc, rules, universe, 0, 9)?;
+    let mut stream = HitStream::new(alloc, rules, universe, 0, 9).expect(rt, "memory");
     let first = stream.next_hit(alloc, log, &mut openings).is_err();
     let second = stream.next_hit(alloc, log, &mut openings).is_err();
-    Ok(first & second)
+    first & second
+}
+
+fn count_of(heard: Option<&[Opening]>) -> usize {
+    match heard {
+        Some(rows) => rows.len(),
+        None => 99,
+    }
 }
 
 #[test]
-fn refused_log_stops_the_search(rt: HostRuntime) -> Result<(), Fail> {
+fn refused_log_stops_the_search(rt: HostRuntime) {
     let alloc = rt.alloc();
-    let mut log: Box<dyn BucketLog> = Box::new(alloc, RefuseLog::new(alloc, 2))?;
-    let table = Table {
-        levels: 6,
-        rows: &DARK,
-    };
-    assert!(rt; both_refused(alloc, &table, all_of(alloc, 4)?, &mut log)?);
-    let told = match log.heard() {
-        Some(rows) => rows.len(),
-        None => 99,
-    };
-    assert_eq!(rt; told, 2);
-    Ok(())
+    let refusing = RefuseLog::new(alloc, 2);
+    let mut log: Box<dyn BucketLog> = Box::new(alloc, refusing).expect(&rt, "memory");
+    let all = set_of(&rt, alloc, &[0, 1, 2, 3]);
+    let refused = both_refused(&rt, alloc, &DARK_TABLE, all, &mut log);
+    check(&rt, refused, "refused");
+    check(&rt, count_of(log.heard()) == 2, "two are told");
 }

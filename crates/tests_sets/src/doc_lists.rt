@@ -1,61 +1,57 @@
+use crate::checks::{check, check_ids, set_of};
 use doc_sets::{
     Bits, DocSet, DocSetBuilder, operations_are_on_members, sets_are_their_members, union_of,
 };
-use search_base::{DocId, NoMemory};
+use search_base::DocId;
 use std::alloc::Global;
-use std::test::Fail;
-
-// A set of ids given in any order.
-fn set_of(alloc: Global, ids: &[u32]) -> Result<DocSet, NoMemory> {
-    let mut set = DocSet::new(alloc);
-    for id in ids {
-        let _new = set.insert(DocId(*id))?;
-    }
-    Ok(set)
-}
-
-// Whether the set lists these ids.
-fn lists(set: &DocSet, ids: &[u32]) -> bool {
-    let mut same = set.len() == ids.len() as u64;
-    for (place, id) in set.iter().enumerate() {
-        same = same & (ids.get(place) == Some(&id.0));
-    }
-    same
-}
+use std::process::Abort;
 
 #[test]
-fn three_ids_and_three_others(rt: HostRuntime) -> Result<(), Fail> {
+fn three_ids_and_three_others(rt: HostRuntime) {
     let alloc = rt.alloc();
-    let left = DocSet::from_sorted(alloc, &[DocId(1), DocId(3), DocId(5)])?;
-    let right = DocSet::from_sorted(alloc, &[DocId(3), DocId(5), DocId(8)])?;
-    assert!(rt; lists(&left.and(alloc, &right)?, &[3, 5]));
-    assert!(rt; lists(&left.or(alloc, &right)?, &[1, 3, 5, 8]));
-    assert!(rt; lists(&left.minus(alloc, &right)?, &[1]));
-    Ok(())
+    let left = DocSet::from_sorted(alloc, &[DocId(1), DocId(3), DocId(5)]);
+    let right = DocSet::from_sorted(alloc, &[DocId(3), DocId(5), DocId(8)]);
+    let (left, right) = (left.expect(&rt, "memory"), right.expect(&rt, "memory"));
+    let both = left.and(alloc, &right).expect(&rt, "memory");
+    check_ids(&rt, &both, &[3, 5], "both");
+    let either = left.or(alloc, &right).expect(&rt, "memory");
+    check_ids(&rt, &either, &[1, 3, 5, 8], "either");
+    let alone = left.minus(alloc, &right).expect(&rt, "memory");
+    check_ids(&rt, &alone, &[1], "alone");
 }
 
 // What each change tells.
-fn changes(set: &mut DocSet) -> Result<[bool; 4], NoMemory> {
-    let again = set.insert(DocId(3))?;
-    let new = set.insert(DocId(4))?;
-    set.reserve(1)?;
+fn check_changes(rt: &impl Abort, set: &mut DocSet) {
+    let again = set.insert(DocId(3)).expect(rt, "memory");
+    check(rt, !again, "3 is there");
+    let new = set.insert(DocId(4)).expect(rt, "memory");
+    check(rt, new, "4 is new");
+    set.reserve(1).expect(rt, "memory");
     let reserved = set.insert_reserved(DocId(9));
-    let absent = set.remove(DocId(2));
-    Ok([again, new, reserved, absent])
+    check(rt, reserved, "9 is new");
+    let removed = set.remove(DocId(2));
+    check(rt, !removed, "2 is not there");
 }
 
+// An id, and the least greater one of 1, 3, 4, 5 and 9.
+const NEXT: [(u32, Option<DocId>); 4] = [
+    (0, Some(DocId(1))),
+    (5, Some(DocId(9))),
+    (8, Some(DocId(9))),
+    (9, None),
+];
+
 #[test]
-fn a_set_is_changed_in_place(rt: HostRuntime) -> Result<(), Fail> {
-    let mut set = set_of(rt.alloc(), &[5, 3, 1])?;
-    let copy = set.clone()?;
-    assert_eq!(rt; changes(&mut set)?, [false, true, true, false]);
-    assert!(rt; lists(&set, &[1, 3, 4, 5, 9]) & lists(&copy, &[1, 3, 5]));
-    assert_eq!(rt; set.first(), Some(DocId(1)));
-    assert_eq!(rt; set.next_after(DocId(0)), Some(DocId(1)));
-    assert_eq!(rt; set.next_after(DocId(5)), Some(DocId(9)));
-    assert_eq!(rt; set.next_after(DocId(8)), Some(DocId(9)));
-    assert!(rt; set.next_after(DocId(9)).is_none());
-    Ok(())
+fn a_set_is_changed_in_place(rt: HostRuntime) {
+    let mut set = set_of(&rt, rt.alloc(), &[5, 3, 1]);
+    let copy = set.clone().expect(&rt, "memory");
+    check_changes(&rt, &mut set);
+    check_ids(&rt, &set, &[1, 3, 4, 5, 9], "changed");
+    check_ids(&rt, &copy, &[1, 3, 5], "copy");
+    check(&rt, set.first() == Some(DocId(1)), "first");
+    for (id, next) in &NEXT {
+        check(&rt, set.next_after(DocId(*id)) == *next, "next");
+    }
 }
 
 #[test]
@@ -63,7 +59,10 @@ fn the_empty_set(rt: HostRuntime) {
     let mut set = DocSet::new(rt.alloc());
     operations_are_on_members();
     sets_are_their_members();
-    assert!(rt; set.is_empty() & set.first().is_none() & !set.remove(DocId(0)));
+    check(&rt, set.is_empty(), "empty");
+    check(&rt, set.first().is_none(), "no first");
+    let removed = set.remove(DocId(0));
+    check(&rt, !removed, "nothing is removed");
 }
 
 // The next number of a sequence that looks random.
@@ -73,20 +72,20 @@ fn next(seed: u64) -> u64 {
 }
 
 // About one of so many ids below a limit, in order.
-fn some_ids(alloc: Global, seed: u64, limit: u32, one_of: u64) -> Result<Vec<DocId>, NoMemory> {
+fn some_ids(rt: &impl Abort, alloc: Global, seed: u64, limit: u32, one_of: u64) -> Vec<DocId> {
     let mut ids = Vec::new(alloc);
     let mut state = seed;
     for id in 0..limit {
         state = next(state);
         if state >> 33 & one_of == 0 {
-            ids.push(DocId(id))?;
+            ids.push(DocId(id)).expect(rt, "memory");
         }
     }
-    Ok(ids)
+    ids
 }
 
 fn is_in(ids: &[DocId], id: u32) -> bool {
-    ids.iter().any(|each| each.0 == id)
+    ids.contains(&DocId(id))
 }
 
 // Whether the set is of these ids, by each of its calls.
@@ -102,15 +101,9 @@ fn is_of(set: &DocSet, ids: &[DocId]) -> bool {
 }
 
 // The ids below a limit that one list and the other choose together.
-fn chosen(
-    alloc: Global,
-    limit: u32,
-    left: &[DocId],
-    right: &[DocId],
-    rule: u8,
-) -> Result<Vec<DocId>, NoMemory> {
+fn chosen(rt: &impl Abort, alloc: Global, left: &[DocId], right: &[DocId], rule: u8) -> Vec<DocId> {
     let mut ids = Vec::new(alloc);
-    for id in 0..limit {
+    for id in 0..LIMIT {
         let (l, r) = (is_in(left, id), is_in(right, id));
         let keep = match rule {
             0 => l & r,
@@ -118,129 +111,166 @@ fn chosen(
             _ => l & !r,
         };
         if keep {
-            ids.push(DocId(id))?;
+            ids.push(DocId(id)).expect(rt, "memory");
         }
     }
-    Ok(ids)
+    ids
 }
 
-fn sorted(alloc: Global, ids: &[DocId]) -> Result<DocSet, NoMemory> {
-    let mut builder = DocSetBuilder::new(alloc, 0)?;
+fn sorted(rt: &impl Abort, alloc: Global, ids: &[DocId]) -> DocSet {
+    let mut builder = DocSetBuilder::new(alloc, 0).expect(rt, "memory");
     for id in ids {
-        builder.add_id(*id)?;
+        builder.add_id(*id).expect(rt, "memory");
     }
-    builder.finish(alloc)
+    builder.finish(alloc).expect(rt, "memory")
 }
 
 // A set of these ids that is a list, however many they are.
-fn inserted(alloc: Global, ids: &[DocId]) -> Result<DocSet, NoMemory> {
+fn inserted(rt: &impl Abort, alloc: Global, ids: &[DocId]) -> DocSet {
     let mut set = DocSet::new(alloc);
     for id in ids {
-        let _new = set.insert(*id)?;
+        let _new = set.insert(*id).expect(rt, "memory");
     }
-    Ok(set)
+    set
 }
 
-// Whether the operations on two sets are those on their ids, which are below a limit.
-fn agree_on(
-    alloc: Global,
-    l: &DocSet,
-    r: &DocSet,
-    ls: &[DocId],
-    rs: &[DocId],
-) -> Result<bool, NoMemory> {
-    let both = chosen(alloc, LIMIT, ls, rs, 0)?;
-    let either = chosen(alloc, LIMIT, ls, rs, 1)?;
-    let alone = chosen(alloc, LIMIT, ls, rs, 2)?;
-    let met = is_of(&l.and(alloc, r)?, both.as_slice()) & (l.and_len(r) == both.len() as u64);
-    let joined = is_of(&l.or(alloc, r)?, either.as_slice());
-    let united = is_of(&union_of(alloc, &[l, r])?, either.as_slice());
-    let left = is_of(&l.minus(alloc, r)?, alone.as_slice());
-    Ok(is_of(l, ls) & is_of(r, rs) & met & joined & united & left)
+// The ids of two sets, which are below a limit: of both, of either, and of the first alone.
+#[derive(Drop)]
+struct Wanted {
+    both: Vec<DocId>,
+    either: Vec<DocId>,
+    alone: Vec<DocId>,
+}
+
+fn wanted_of(rt: &impl Abort, alloc: Global, left: &[DocId], right: &[DocId]) -> Wanted {
+    Wanted {
+        both: chosen(rt, alloc, left, right, 0),
+        either: chosen(rt, alloc, left, right, 1),
+        alone: chosen(rt, alloc, left, right, 2),
+    }
+}
+
+// The operations on two sets are those on their ids.
+fn check_operations(rt: &impl Abort, alloc: Global, l: &DocSet, r: &DocSet, wanted: &Wanted) {
+    let both = l.and(alloc, r).expect(rt, "memory");
+    check(rt, is_of(&both, &wanted.both), "both");
+    check(rt, l.and_len(r) == wanted.both.len() as u64, "length");
+    let joined = l.or(alloc, r).expect(rt, "memory");
+    check(rt, is_of(&joined, &wanted.either), "either");
+    let united = union_of(alloc, &[l, r]).expect(rt, "memory");
+    check(rt, is_of(&united, &wanted.either), "united");
+    let alone = l.minus(alloc, r).expect(rt, "memory");
+    check(rt, is_of(&alone, &wanted.alone), "alone");
 }
 
 const LIMIT: u32 = 260;
 
-// Whether the operations on sets of one of so many ids are those on the lists, in each form.
-fn agree_at(alloc: Global, left: u64, right: u64) -> Result<bool, NoMemory> {
-    let ls = some_ids(alloc, left, LIMIT, left)?;
-    let rs = some_ids(alloc, right ^ 77, 190, right)?;
-    let (many, few) = (
-        sorted(alloc, ls.as_slice())?,
-        inserted(alloc, ls.as_slice())?,
-    );
-    let (others, other) = (
-        sorted(alloc, rs.as_slice())?,
-        inserted(alloc, rs.as_slice())?,
-    );
-    let bits = agree_on(alloc, &many, &others, ls.as_slice(), rs.as_slice())?;
-    let lists = agree_on(alloc, &few, &other, ls.as_slice(), rs.as_slice())?;
-    let mixed = agree_on(alloc, &many, &other, ls.as_slice(), rs.as_slice())?;
-    let turned = agree_on(alloc, &few, &others, ls.as_slice(), rs.as_slice())?;
-    Ok(bits & lists & mixed & turned)
+// A set of these ids in each of its two forms.
+#[derive(Drop)]
+struct Forms {
+    bits: DocSet,
+    list: DocSet,
+}
+
+fn forms_of(rt: &impl Abort, alloc: Global, ids: &[DocId]) -> Forms {
+    let bits = sorted(rt, alloc, ids);
+    let list = inserted(rt, alloc, ids);
+    check(rt, is_of(&bits, ids), "bits");
+    check(rt, is_of(&list, ids), "list");
+    Forms { bits, list }
+}
+
+// The operations on sets of one of so many ids are those on the lists, in each form.
+fn check_sets(rt: &impl Abort, alloc: Global, left: u64, right: u64) {
+    let ls = some_ids(rt, alloc, left, LIMIT, left);
+    let rs = some_ids(rt, alloc, right ^ 77, 190, right);
+    let wanted = wanted_of(rt, alloc, &ls, &rs);
+    let l = forms_of(rt, alloc, &ls);
+    let r = forms_of(rt, alloc, &rs);
+    check_operations(rt, alloc, &l.bits, &r.bits, &wanted);
+    check_operations(rt, alloc, &l.list, &r.list, &wanted);
+    check_operations(rt, alloc, &l.bits, &r.list, &wanted);
+    check_operations(rt, alloc, &l.list, &r.bits, &wanted);
 }
 
 #[test]
-fn dense_and_sparse_sets_agree(rt: HostRuntime) -> Result<(), Fail> {
-    let alloc = rt.alloc();
-    for left in [0_u64, 3, 127, 1023] {
-        for right in [1_u64, 31, 1023] {
-            assert!(rt; agree_at(alloc, left, right)?);
+fn dense_and_sparse_sets_agree(rt: HostRuntime) {
+    for left in &[0_u64, 3, 127, 1023] {
+        for right in &[1_u64, 31, 1023] {
+            check_sets(&rt, rt.alloc(), *left, *right);
         }
     }
-    Ok(())
+}
+
+const COME: [u32; 11] = [0, 63, 64, 127, 128, 500, 699, 700, 767, 768, 999_999];
+
+const GONE: [u32; 8] = [0, 63, 64, 1, 2, 3, 999_999, 4_000_000_000];
+
+fn check_insert(rt: &impl Abort, many: &mut DocSet, few: &mut DocSet, id: u32) {
+    let one = many.insert(DocId(id)).expect(rt, "memory");
+    let other = few.insert(DocId(id)).expect(rt, "memory");
+    check(rt, one == other, "insert");
+}
+
+fn check_remove(rt: &impl Abort, many: &mut DocSet, few: &mut DocSet, id: u32) {
+    let one = many.remove(DocId(id));
+    let other = few.remove(DocId(id));
+    check(rt, one == other, "remove");
+}
+
+fn check_reserved(rt: &impl Abort, many: &mut DocSet, few: &mut DocSet) {
+    many.reserve(2).expect(rt, "memory");
+    few.reserve(2).expect(rt, "memory");
+    let one = many.insert_reserved(DocId(65));
+    let other = few.insert_reserved(DocId(65));
+    check(rt, one == other, "insert reserved");
 }
 
 // A set of bits and one of a list, changed alike, stay alike.
-fn changed_alike(alloc: Global, ids: &[DocId]) -> Result<bool, NoMemory> {
-    let mut many = sorted(alloc, ids)?;
-    let mut few = DocSet::new(alloc);
-    for id in ids {
-        let _new = few.insert(*id)?;
+fn check_changed_alike(rt: &impl Abort, alloc: Global, ids: &[DocId]) {
+    let mut many = sorted(rt, alloc, ids);
+    let mut few = inserted(rt, alloc, ids);
+    for id in &COME {
+        check_insert(rt, &mut many, &mut few, *id);
     }
-    let mut same = true;
-    for id in [0_u32, 63, 64, 127, 128, 500, 699, 700, 767, 768, 999_999] {
-        same = same & (many.insert(DocId(id))? == few.insert(DocId(id))?);
+    for id in &GONE {
+        check_remove(rt, &mut many, &mut few, *id);
     }
-    for id in [0_u32, 63, 64, 1, 2, 3, 999_999, 4_000_000_000] {
-        same = same & (many.remove(DocId(id)) == few.remove(DocId(id)));
-    }
-    many.reserve(2)?;
-    few.reserve(2)?;
-    same = same & (many.insert_reserved(DocId(65)) == few.insert_reserved(DocId(65)));
-    let gone = many.minus(alloc, &few)?;
-    Ok(same & (many.len() == few.len()) & gone.is_empty())
+    check_reserved(rt, &mut many, &mut few);
+    check(rt, many.len() == few.len(), "length");
+    let gone = many.minus(alloc, &few).expect(rt, "memory");
+    check(rt, gone.is_empty(), "alike");
 }
 
 #[test]
-fn sets_change_alike(rt: HostRuntime) -> Result<(), Fail> {
-    let alloc = rt.alloc();
-    for one_of in [0_u64, 1, 7, 63, 1023] {
-        let ids = some_ids(alloc, one_of, 700, one_of)?;
-        assert!(rt; changed_alike(alloc, ids.as_slice())?);
+fn sets_change_alike(rt: HostRuntime) {
+    for one_of in &[0_u64, 1, 7, 63, 1023] {
+        let ids = some_ids(&rt, rt.alloc(), *one_of, 700, *one_of);
+        check_changed_alike(&rt, rt.alloc(), &ids);
     }
-    Ok(())
 }
 
-#[test]
-fn bits_at_the_borders(rt: HostRuntime) -> Result<(), Fail> {
-    let alloc = rt.alloc();
-    let mut bits = Bits::new(alloc, 1_000_000)?;
-    bits.set(DocId(999_999));
-    bits.set(DocId(64));
-    bits.set(DocId(63));
-    bits.set(DocId(0));
-    assert_eq!(rt; bits.count(), 4);
-    assert_eq!(rt; bits.first(), Some(DocId(0)));
-    bits.unset(DocId(0));
-    bits.unset(DocId(4_000_000_000));
-    assert!(rt;
-        bits.contains(DocId(999_999)) & !bits.contains(DocId(0)) & !bits.contains(DocId(u32::MAX))
-    );
+fn check_sum(rt: &impl Abort, bits: &Bits, wanted: u64) {
     let mut sum = 0_u64;
     for id in bits.iter() {
         sum = sum.wrapping_add(u64::from(id.0));
     }
-    assert_eq!(rt; sum, 999_999 + 64 + 63);
-    Ok(())
+    check(rt, sum == wanted, "sum");
+}
+
+#[test]
+fn bits_at_the_borders(rt: HostRuntime) {
+    let mut bits = Bits::new(rt.alloc(), 1_000_000).expect(&rt, "memory");
+    bits.set(DocId(999_999));
+    bits.set(DocId(64));
+    bits.set(DocId(63));
+    bits.set(DocId(0));
+    check(&rt, bits.count() == 4, "four");
+    check(&rt, bits.first() == Some(DocId(0)), "first");
+    bits.unset(DocId(0));
+    bits.unset(DocId(4_000_000_000));
+    check(&rt, bits.contains(DocId(999_999)), "the last");
+    check(&rt, !bits.contains(DocId(0)), "unset");
+    check(&rt, !bits.contains(DocId(u32::MAX)), "outside");
+    check_sum(&rt, &bits, 999_999 + 64 + 63);
 }

@@ -7,6 +7,8 @@
 #[cfg(test)]
 mod buckets;
 #[cfg(test)]
+mod checks;
+#[cfg(test)]
 mod doc_lists;
 #[cfg(test)]
 mod pages;

@@ -1,6 +1,7 @@
+use crate::checks::check;
 use sorted_pages::{SortedPages, is_increasing};
 use std::alloc::Global;
-use std::test::Fail;
+use std::process::Abort;
 
 // Numbers that look random.
 fn next(seed: &mut u64) -> u64 {
@@ -12,70 +13,72 @@ fn next(seed: &mut u64) -> u64 {
 
 // An increasing list of some numbers below a bound, from a least on.
 fn batch(
+    rt: &impl Abort,
     alloc: Global,
     seed: &mut u64,
     size: usize,
     low: u64,
     width: u64,
-) -> Result<Vec<u64>, Fail> {
+) -> Vec<u64> {
     let mut made = Vec::new(alloc);
     for _ in 0..size {
-        made.push(low.wrapping_add(next(seed).checked_rem(width).unwrap_or(0)))?;
+        let number = next(seed).checked_rem(width).unwrap_or(0);
+        made.push(low.wrapping_add(number)).expect(rt, "memory");
     }
     made.sort_unstable();
     made.dedup();
-    Ok(made)
+    made
 }
 
 // The plain lists.
-fn put(alloc: Global, list: &[u64], come: &[u64]) -> Result<Vec<u64>, Fail> {
-    let mut both = Vec::from_slice(alloc, list)?;
-    both.extend_from_slice(come)?;
+fn put(rt: &impl Abort, alloc: Global, list: &[u64], come: &[u64]) -> Vec<u64> {
+    let mut both = Vec::from_slice(alloc, list).expect(rt, "memory");
+    both.extend_from_slice(come).expect(rt, "memory");
     both.sort_unstable();
     both.dedup();
-    Ok(both)
+    both
 }
 
-fn out(alloc: Global, list: &[u64], gone: &[u64]) -> Result<Vec<u64>, Fail> {
+fn out(rt: &impl Abort, alloc: Global, list: &[u64], gone: &[u64]) -> Vec<u64> {
     let mut left = Vec::new(alloc);
     for x in list {
         if gone.binary_search(x).is_err() {
-            left.push(*x)?;
+            left.push(*x).expect(rt, "memory");
         }
     }
-    Ok(left)
+    left
 }
 
-// Whether the pages answer as the list does.
-fn same(alloc: Global, pages: &SortedPages, list: &[u64], seed: &mut u64) -> Result<bool, Fail> {
-    let mut told = Vec::new(alloc);
-    for x in pages.iter() {
-        told.push(x)?;
-    }
+fn joined(rt: &impl Abort, alloc: Global, pages: &SortedPages) -> Vec<u64> {
     let mut joined = Vec::new(alloc);
     for page in pages.pages() {
-        joined.extend_from_slice(page)?;
+        joined.extend_from_slice(page).expect(rt, "memory");
     }
-    let mut good = pages.len() == list.len()
-        && pages.is_empty() == list.is_empty()
-        && pages.first() == list.first().copied()
-        && told.as_slice() == list
-        && joined.as_slice() == list;
+    joined
+}
+
+// The pages answer at a number as the list does.
+fn check_at(rt: &impl Abort, pages: &SortedPages, list: &[u64], least: u64) {
+    let found = list.binary_search(&least);
+    check(rt, pages.contains(least) == found.is_ok(), "contains");
+    let place = match found {
+        Ok(place) => place,
+        Err(place) => place,
+    };
+    let rest = list.get(place..).unwrap_or(&[]);
+    check(rt, pages.from(least).eq(rest.iter().copied()), "from");
+}
+
+// The pages answer as the list does.
+fn check_same(rt: &impl Abort, alloc: Global, pages: &SortedPages, list: &[u64], seed: &mut u64) {
+    check(rt, pages.len() == list.len(), "length");
+    check(rt, pages.is_empty() == list.is_empty(), "emptiness");
+    check(rt, pages.first() == list.first().copied(), "first");
+    check(rt, pages.iter().eq(list.iter().copied()), "entries");
+    check(rt, joined(rt, alloc, pages).as_slice() == list, "pages");
     for i in 0..6_u64 {
-        let least = sought(list, i, seed);
-        let place = match list.binary_search(&least) {
-            Ok(place) => place,
-            Err(place) => place,
-        };
-        let mut told = Vec::new(alloc);
-        for y in pages.from(least) {
-            told.push(y)?;
-        }
-        good = good
-            && pages.contains(least) == list.binary_search(&least).is_ok()
-            && told.as_slice() == list.get(place..).unwrap_or(&[]);
+        check_at(rt, pages, list, sought(list, i, seed));
     }
-    Ok(good)
 }
 
 // A number in the list or beside one, or any.
@@ -89,115 +92,120 @@ fn sought(list: &[u64], i: u64, seed: &mut u64) -> u64 {
     picked.unwrap_or(any % 300_000).wrapping_add(i % 3)
 }
 
-// A change of both: room is made, entries come, and others go. None where they do not agree.
+// A change of both: room is made, entries come, and others go.
 fn step(
+    rt: &impl Abort,
     alloc: Global,
     pages: &mut SortedPages,
     list: &[u64],
     gone: &[u64],
     come: &[u64],
     seed: &mut u64,
-) -> Result<Vec<u64>, Fail> {
-    if !is_increasing(come) {
-        return Ok(Vec::new(alloc));
-    }
-    if !is_increasing(gone) {
-        return Ok(Vec::new(alloc));
-    }
-    pages.reserve(alloc, come)?;
-    let reserved = same(alloc, pages, list, seed)?;
+) -> Vec<u64> {
+    assert!(rt; is_increasing(come));
+    assert!(rt; is_increasing(gone));
+    pages.reserve(alloc, come).expect(rt, "memory");
+    check_same(rt, alloc, pages, list, seed);
     pages.insert_reserved(come);
-    let both = put(alloc, list, come)?;
-    let inserted = same(alloc, pages, both.as_slice(), seed)?;
+    let both = put(rt, alloc, list, come);
+    check_same(rt, alloc, pages, &both, seed);
     pages.remove_all(gone);
-    let left = out(alloc, both.as_slice(), gone)?;
-    let removed = same(alloc, pages, left.as_slice(), seed)?;
-    if !reserved || !inserted || !removed {
-        Err("the pages are not the list")?;
+    let left = out(rt, alloc, &both, gone);
+    check_same(rt, alloc, pages, &left, seed);
+    left
+}
+
+fn size_of(turn: u64, round: u64) -> usize {
+    match turn.wrapping_add(round) % 7 {
+        0 => 1,
+        1 => 511 + (turn % 3) as usize,
+        2 => 1023 + (turn % 4) as usize,
+        3 => 5000,
+        4 => 40,
+        5 => 0,
+        _ => 2000,
     }
-    Ok(left)
+}
+
+// The least number that comes, and how far on others do: all over the list, in one place, at the end, over and over.
+fn range_of(turn: u64) -> (u64, u64) {
+    match turn % 4 {
+        0 => (0, 100_000),
+        1 => (50_000, 3_000),
+        2 => (turn.wrapping_mul(10_000).wrapping_add(100_000), 9_000),
+        _ => (0, 200),
+    }
+}
+
+// What goes, where these come.
+fn lost(rt: &impl Abort, alloc: Global, seed: &mut u64, turn: u64, come: &[u64]) -> Vec<u64> {
+    match turn % 5 {
+        0 => batch(rt, alloc, seed, 3000, 0, 300_000),
+        1 => batch(rt, alloc, seed, 1, 0, 100_000),
+        2 => batch(rt, alloc, seed, 4000, 40_000, 4_000),
+        3 => Vec::new(alloc),
+        _ => put(rt, alloc, come, &[]),
+    }
+}
+
+fn take_turn(
+    rt: &impl Abort,
+    alloc: Global,
+    pages: &mut SortedPages,
+    list: &[u64],
+    turn: u64,
+    round: u64,
+    seed: &mut u64,
+) -> Vec<u64> {
+    let (low, width) = range_of(turn);
+    let come = batch(rt, alloc, seed, size_of(turn, round), low, width);
+    let gone = lost(rt, alloc, seed, turn, &come);
+    step(rt, alloc, pages, list, &gone, &come, seed)
+}
+
+// All of the list goes, and a few numbers come again.
+fn check_emptied(
+    rt: &impl Abort,
+    alloc: Global,
+    pages: &mut SortedPages,
+    list: &[u64],
+    seed: &mut u64,
+) {
+    let all = put(rt, alloc, list, &[]);
+    let none = step(rt, alloc, pages, list, &all, &[], seed);
+    check(rt, none.is_empty(), "none are left");
+    let come = batch(rt, alloc, seed, 3, 10, 100);
+    let few = step(rt, alloc, pages, &none, &[], &come, seed);
+    check(rt, few.len() == come.len(), "all come");
+}
+
+fn take_turns(rt: &impl Abort, alloc: Global, round: u64, seed: &mut u64) {
+    let mut pages = SortedPages::new(alloc);
+    let mut list = Vec::new(alloc);
+    check_same(rt, alloc, &pages, &list, seed);
+    for turn in 0..14_u64 {
+        list = take_turn(rt, alloc, &mut pages, &list, turn, round, seed);
+    }
+    check_emptied(rt, alloc, &mut pages, &list, seed);
 }
 
 #[test]
-fn random_batches(rt: HostRuntime) -> Result<(), Fail> {
-    let alloc = rt.alloc();
+fn random_batches(rt: HostRuntime) {
     let mut seed = 7;
-    for round in 0..3 {
-        let mut pages = SortedPages::new(alloc);
-        let mut list = Vec::new(alloc);
-        assert!(rt; same(alloc, &pages, list.as_slice(), &mut seed)?);
-        for turn in 0..14_u64 {
-            let size = match (turn + round) % 7 {
-                0 => 1,
-                1 => 511 + (turn % 3) as usize,
-                2 => 1023 + (turn % 4) as usize,
-                3 => 5000,
-                4 => 40,
-                5 => 0,
-                _ => 2000,
-            };
-            // All over the list, in one place, at the end, over and over.
-            let (low, width) = match turn % 4 {
-                0 => (0, 100_000),
-                1 => (50_000, 3_000),
-                2 => (100_000 + turn * 10_000, 9_000),
-                _ => (0, 200),
-            };
-            let come = batch(alloc, &mut seed, size, low, width)?;
-            let lost = match turn % 5 {
-                0 => batch(alloc, &mut seed, 3000, 0, 300_000)?,
-                1 => batch(alloc, &mut seed, 1, 0, 100_000)?,
-                2 => batch(alloc, &mut seed, 4000, 40_000, 4_000)?,
-                3 => Vec::new(alloc),
-                _ => put(alloc, come.as_slice(), &[])?,
-            };
-            list = step(
-                alloc,
-                &mut pages,
-                list.as_slice(),
-                lost.as_slice(),
-                come.as_slice(),
-                &mut seed,
-            )?;
-        }
-        let all = put(alloc, list.as_slice(), &[])?;
-        list = step(
-            alloc,
-            &mut pages,
-            list.as_slice(),
-            all.as_slice(),
-            &[],
-            &mut seed,
-        )?;
-        assert_eq!(rt; list.len(), 0);
-        let come = batch(alloc, &mut seed, 3, 10, 100)?;
-        list = step(
-            alloc,
-            &mut pages,
-            list.as_slice(),
-            &[],
-            come.as_slice(),
-            &mut seed,
-        )?;
-        assert_eq!(rt; list.len(), come.len());
+    for round in 0..3_u64 {
+        take_turns(&rt, rt.alloc(), round, &mut seed);
     }
-    Ok(())
 }
 
+const ENDS: &[u64] = &[0, 1, u64::MAX - 1, u64::MAX];
+
 #[test]
-fn ends_of_numbers(rt: HostRuntime) -> Result<(), Fail> {
+fn ends_of_numbers(rt: HostRuntime) {
     let alloc = rt.alloc();
     let mut seed = 3;
     let mut pages = SortedPages::new(alloc);
-    let list = step(alloc, &mut pages, &[], &[], &[0, u64::MAX], &mut seed)?;
-    let list = step(
-        alloc,
-        &mut pages,
-        list.as_slice(),
-        &[0],
-        &[0, 1, u64::MAX - 1, u64::MAX],
-        &mut seed,
-    )?;
-    assert_eq!(rt; list.as_slice(), [1, u64::MAX - 1, u64::MAX].as_slice());
-    Ok(())
+    let come = &[0, u64::MAX];
+    let list = step(&rt, alloc, &mut pages, &[], &[], come, &mut seed);
+    let list = step(&rt, alloc, &mut pages, &list, &[0], ENDS, &mut seed);
+    check(&rt, list.as_slice() == &ENDS[1..], "ends");
 }

@@ -1,12 +1,13 @@
 ghost use Rattle.std.specs.Prelude.{◌≡◌, ◌<◌, ◌≤◌, IfOk};
 ghost use Rattle.condition_graph.specs.Promise.{IsCondition, IsConditionGraph};
 
+use crate::checks::{check, check_ids, set_of};
 use condition_graph::{Condition, ConditionEdge, ConditionGraph};
 use doc_sets::DocSet;
 use path_costs::{PathCosts, Resolve};
-use search_base::{DocId, NoMemory, Word};
+use search_base::{NoMemory, Word};
 use std::alloc::Global;
-use std::test::Fail;
+use std::process::Abort;
 
 // The documents of two conditions, the second of which may be refused.
 #[derive(Drop)]
@@ -53,14 +54,6 @@ impl Resolve for TwoSets {
     }
 }
 
-fn lists(set: &DocSet, ids: &[u32]) -> bool {
-    let mut same = set.len() == ids.len() as u64;
-    for (place, id) in set.iter().enumerate() {
-        same = same & (ids.get(place) == Some(&id.0));
-    }
-    same
-}
-
 // An edge from the first node to the second.
 fn edge(alloc: Global, number: u8, cost: u32) -> Result<ConditionEdge, NoMemory>
     requires number { number < 7 }
@@ -95,37 +88,54 @@ fn two_edges(alloc: Global) -> Result<ConditionGraph, NoMemory>
     Ok(ConditionGraph { nodes: 2, edges })
 }
 
-fn two_costs(alloc: Global, refuses: bool) -> Result<PathCosts<TwoSets>, NoMemory> {
-    let graph = two_edges(alloc)?;
+fn two_costs(rt: &impl Abort, alloc: Global, refuses: bool) -> PathCosts<TwoSets> {
+    let graph = two_edges(alloc).expect(rt, "memory");
     let sets = TwoSets {
-        first: DocSet::from_sorted(alloc, &[DocId(2)])?,
-        second: DocSet::from_sorted(alloc, &[DocId(1), DocId(2)])?,
+        first: set_of(rt, alloc, &[2]),
+        second: set_of(rt, alloc, &[1, 2]),
         refuses,
     };
-    let universe = DocSet::from_sorted(alloc, &[DocId(1), DocId(2), DocId(9)])?;
-    PathCosts::new(alloc, graph, sets, universe)
+    let universe = set_of(rt, alloc, &[1, 2, 9]);
+    PathCosts::new(alloc, graph, sets, universe).expect(rt, "memory")
+}
+
+// The next cost, and the documents that have it.
+fn check_next(
+    rt: &impl Abort,
+    alloc: Global,
+    costs: &mut PathCosts<TwoSets>,
+    wanted: u32,
+    ids: &[u32],
+) {
+    let next = costs.next_cost(alloc).expect(rt, "memory");
+    let (cost, docs) = next.expect(rt, "a cost");
+    check(rt, cost == wanted, "cost");
+    check_ids(rt, &docs, ids, "documents");
+}
+
+fn check_no_next(rt: &impl Abort, alloc: Global, costs: &mut PathCosts<TwoSets>) {
+    let next = costs.next_cost(alloc).expect(rt, "memory");
+    check(rt, next.is_none(), "no cost is left");
+}
+
+fn check_refused(rt: &impl Abort, alloc: Global, costs: &mut PathCosts<TwoSets>) {
+    let refused = costs.next_cost(alloc).is_err();
+    check(rt, refused, "refused");
 }
 
 #[test]
-fn two_edges_between_two_nodes(rt: HostRuntime) -> Result<(), Fail> {
-    let alloc = rt.alloc();
-    let mut costs = two_costs(alloc, false)?;
-    let (cost, docs) = costs.next_cost(alloc)?.ok_or("no first")?;
-    assert!(rt; cost == 1 && lists(&docs, &[2]));
-    let (cost, docs) = costs.next_cost(alloc)?.ok_or("no second")?;
-    assert!(rt; cost == 3 && lists(&docs, &[1]));
-    assert!(rt; costs.next_cost(alloc)?.is_none());
-    assert!(rt; costs.next_cost(alloc)?.is_none());
-    Ok(())
+fn two_edges_between_two_nodes(rt: HostRuntime) {
+    let mut costs = two_costs(&rt, rt.alloc(), false);
+    check_next(&rt, rt.alloc(), &mut costs, 1, &[2]);
+    check_next(&rt, rt.alloc(), &mut costs, 3, &[1]);
+    check_no_next(&rt, rt.alloc(), &mut costs);
+    check_no_next(&rt, rt.alloc(), &mut costs);
 }
 
 #[test]
-fn a_greater_cost_is_not_asked_for(rt: HostRuntime) -> Result<(), Fail> {
-    let alloc = rt.alloc();
-    let mut costs = two_costs(alloc, true)?;
-    let (cost, docs) = costs.next_cost(alloc)?.ok_or("no first")?;
-    assert!(rt; cost == 1 && lists(&docs, &[2]));
-    assert!(rt; costs.next_cost(alloc).is_err());
-    assert!(rt; costs.next_cost(alloc).is_err());
-    Ok(())
+fn a_greater_cost_is_not_asked_for(rt: HostRuntime) {
+    let mut costs = two_costs(&rt, rt.alloc(), true);
+    check_next(&rt, rt.alloc(), &mut costs, 1, &[2]);
+    check_refused(&rt, rt.alloc(), &mut costs);
+    check_refused(&rt, rt.alloc(), &mut costs);
 }

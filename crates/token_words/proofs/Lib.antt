@@ -1,2 +1,4 @@
+pub mod AsciiLemmas
+pub mod SpansLemmas
 pub mod Steps
 pub mod WordsLemmas

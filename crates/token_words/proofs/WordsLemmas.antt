@@ -14,11 +14,11 @@ use Rattle.unicode_segmentation.specs.Segments.{has_alphanumeric, is_alphanumeri
 use Rattle.unicode_segmentation.specs.Word.{word_bounds}
 
 -- no bytes are no word
-is_word-nil : is_word [] ≡ false
+pub is_word-nil : is_word [] ≡ false
 unfolding is_word has_alphanumeric
 is_word-nil = ap (λ cs. list_any is_alphanumeric cs && not (is_empty (normal []))) chars-nil
 
-word_has_bytes : (segment : List ℕ) → is_word segment ≡ true → 0 < length segment
+pub word_has_bytes : (segment : List ℕ) → is_word segment ≡ true → 0 < length segment
 word_has_bytes [] h = absurd (let never = is_word-nil in cc)
 word_has_bytes (b ∷ bs) h = omega arith
 

@@ -9,10 +9,15 @@ use unicode_normalization::to_nfkd;
 
 /// The normal form of a text: its compatibility decomposition (NFKD of UAX #15) without the
 /// nonspacing marks (general category Mn), fully case folded. Texts of one normal form count as
-/// the same word: `É` and `e`, `ﬁ` and `fi`, `ß` and `SS`.
+/// the same word: `É` and `e`, `ﬁ` and `fi`, `ß` and `SS`. Of a text that is ASCII this is its
+/// lower case.
 pub fn normal(alloc: Global, text: &str) -> Result<Word, NoMemory>
     ensures { IfOk result (λ word. word ≡ normal text.now) }
 {
+    if text.is_ascii() {
+        let lowered = text.to_ascii_lowercase(alloc)?;
+        return Word::from_string(lowered);
+    }
     let decomposed = to_nfkd(alloc, text)?;
     let kept = without_marks(alloc, decomposed.as_str())?;
     let folded = default_case_fold_str(alloc, kept.as_str())?;

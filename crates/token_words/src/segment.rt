@@ -26,15 +26,19 @@ pub fn word_of(alloc: Global, segment: &str) -> Result<Option<Word>, NoMemory>
 }
 
 // Whether the segment holds a letter or a number.
-fn has_alphanumeric(segment: &str) -> bool
+pub fn has_alphanumeric(segment: &str) -> bool
     ensures { result ≡ list_any is_alphanumeric (chars segment.now) }
 {
     segment.chars().any(|c| is_alphanumeric(c))
 }
 
+// Whether the character is a letter or a number. Of an ASCII character no table is asked.
 fn is_alphanumeric(c: char) -> bool
     ensures { result ≡ is_alphanumeric c }
 {
+    if c.is_ascii() {
+        return c.is_ascii_alphanumeric();
+    }
     is_alphabetic(c) || is_number(GeneralCategory::for_char(c))
 }
 

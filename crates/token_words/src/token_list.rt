@@ -43,7 +43,7 @@ pub fn tokens(alloc: Global, text: &str) -> Result<Vec<Token>, NoMemory>
 }
 
 // The position of a word, where one of the separators since the last word is hard or none is.
-fn next_position(last: Option<u128>, hard: bool) -> u128
+pub fn next_position(last: Option<u128>, hard: bool) -> u128
     requires { unwrap_or last 0 < 2 ^ 127 }
     ensures { result ≡ next_position last hard }
 {

@@ -1,14 +1,20 @@
-use Rattle.std.proofs.Common.{◌≡◌, ◌++◌, ◌∙◌, map, ap₂, subst}
-use Rattle.facet_index.specs.Places.{place_of, leaf_key, mark_key, keys_of}
-use Rattle.facet_index.proofs.KeyLemmas.{places_by_kind}
+use Rattle.std.proofs.Common.{◌++◌, ◌∙◌, ap}
+use Rattle.facet_keys.specs.Keys.{IsNarrow}
+use Rattle.facet_index.specs.Ends.{ends_of}
+use Rattle.facet_index.specs.Places.{places_of, leaf_facets, mark_facets}
+use Rattle.facet_index.proofs.KeyLemmas.{places_by_kind, all_both}
 use Rattle.facet_index.proofs.places.places_of.Goals as goal
 
 pub returns-clause-places : goal.returns-clause-places
-returns-clause-places c =
-    subst (λ d. c.add_marks.new.places.items ≡ map place_of (keys_of d)) c.document.view_is
+returns-clause-places c = λ id.
+    c.in_ok-add_ends.ensures.places
+    ∙ ap (λ places. places ++ places_of (ends_of c.args.leaves.now))
     (c.in_ok-add_marks.ensures.places
-    ∙ ap₂ (λ places marks. places ++ map (λ x. place_of (mark_key x)) marks)
-    (c.in_ok-add_leaves.ensures.places
-    ∙ ap₂ (λ places leaves. places ++ map (λ x. place_of (leaf_key x)) leaves) c.new-places.ensures.items c.as_slice.ensures.value)
-    c.as_slice-2.ensures.value
-    ∙ places_by_kind (record { id = c.document.inside.id.0; leaves = c.document.inside.leaves.items; marks = c.document.inside.marks.items }))
+    ∙ ap (λ places. places ++ places_of (mark_facets c.args.marks.now))
+    (c.in_ok-add_leaves.ensures.places ∙ ap (λ places. places ++ places_of (leaf_facets c.args.leaves.now)) c.new-places.ensures.items))
+    ∙ places_by_kind (leaf_facets c.args.leaves.now) (mark_facets c.args.marks.now) (ends_of c.args.leaves.now)
+
+pub returns-clause-narrow : goal.returns-clause-narrow
+returns-clause-narrow c = λ id.
+    all_both (λ x. IsNarrow x.0 x.1) (leaf_facets c.args.leaves.now) _ c.in_ok-add_leaves.ensures.narrow
+    (all_both (λ x. IsNarrow x.0 x.1) (mark_facets c.args.marks.now) (ends_of c.args.leaves.now) c.in_ok-add_marks.ensures.narrow c.in_ok-add_ends.ensures.narrow)

@@ -3,4 +3,4 @@ use Rattle.search_base.specs.Graphs.{IsPlaced}
 use Rattle.tests_ranking.proofs.costs.blocks.Given as goal
 
 abbrev pub invariant-loop-text : goal.invariant-loop-text
-invariant-loop-text l = record { placed : AllByRecursion (IsPlaced l.items) l.blocks.items }
+invariant-loop-text g l = record { placed : AllByRecursion (IsPlaced l.items) l.blocks.items }

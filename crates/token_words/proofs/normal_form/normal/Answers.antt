@@ -4,12 +4,18 @@ use Rattle.std.specs.Str.{chars}
 use Rattle.caseless.specs.Caseless.{default_case_fold}
 use Rattle.unicode_normalization.specs.Forms.{nfkd}
 use Rattle.token_words.specs.Normal.{normal, is_kept}
+use Rattle.token_words.proofs.AsciiLemmas.{normal-ascii}
 use Rattle.token_words.proofs.normal_form.normal.Goals as goal
+
+pub returns-then-is_ascii : goal.returns-then-is_ascii
+returns-then-is_ascii c =
+    subst (λ bs. IfOk c.from_string.result (λ word. word ≡ bs))
+    (c.in_ok-lowered.ensures.ok ∙ sym (normal-ascii c.args.text.now c.if-is_ascii.ensures.cases)) c.from_string.ensures
 
 pub returns : goal.returns
 unfolding normal
 returns c =
     let decomposed = sym (chars_from_encodes (nfkd (chars c.args.text.now)) c.as_str.result.now c.as_str.utf8 (sym (c.as_str.ensures.value ∙ c.in_ok-decomposed.ensures))) in
     let kept = sym (chars_from_encodes (filter is_kept (chars c.as_str.result.now)) c.as_str-2.result.now c.as_str-2.utf8 (sym (c.as_str-2.ensures.value ∙ c.in_ok-kept.ensures))) in
-    subst (λ bs. IfOk c.from_string.result (λ word. word ≡ bs))
-    (c.in_ok-folded.ensures ∙ ap (λ cs. encode_utf8_all (default_case_fold cs)) (kept ∙ ap (filter is_kept) decomposed)) c.from_string.ensures
+    subst (λ bs. IfOk c.from_string-2.result (λ word. word ≡ bs))
+    (c.in_ok-folded.ensures ∙ ap (λ cs. encode_utf8_all (default_case_fold cs)) (kept ∙ ap (filter is_kept) decomposed)) c.from_string-2.ensures

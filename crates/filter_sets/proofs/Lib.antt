@@ -1,0 +1,5 @@
+pub mod JoinLemmas
+pub mod SelectLemmas
+pub mod TestLemmas
+pub mod NumberLemmas
+pub mod EndLemmas

@@ -1,0 +1,335 @@
+-- What the facet index answers is what tests ask of rows.
+use Rattle.std.proofs.Common.{◌≡◌, ℕ, ℤ, suc, zero, ◌+◌, ◌<◌, ◌≤◌, Bool, true, false, not, ◌&&◌, ◌||◌, ◌==◌, cond, int_lt, List, [], ◌∷◌, ◌++◌, map, drop, length, get_or, Option, Some, None, Result, Ok, Err, refl, sym, ap, ap₂, subst, ◌∙◌, arith, drop-cons}
+use Rattle.std.specs.List.{filter, list_any, AllByRecursion}
+use Rattle.std.specs.Result.{IfOk}
+use Rattle.std.specs.Str.{bytes_eq}
+use Rattle.std.specs.Int.{w128}
+use Rattle.std.specs.Int.RustNames.{FitsSigned}
+use Rattle.search_base.specs.declared.document.Leaf.{Leaf}
+use Rattle.search_base.specs.declared.document.Mark.{Mark}
+use Rattle.search_base.specs.declared.document.MarkKind.{MarkKind}
+use Rattle.search_base.specs.declared.document.MarkKind.TheVariants.{Exists, Null, Empty}
+use Rattle.search_base.specs.declared.value.FacetValue.{FacetValue}
+use Rattle.search_base.specs.declared.value.FacetValue.TheVariants as facet
+use Rattle.search_base.specs.RowsView.{RowsView}
+use Rattle.search_base.specs.SortKeys.{leaves_under}
+use Rattle.token_words.specs.Normal.{normal}
+use Rattle.filter_tree.specs.Number.{number_of}
+use Rattle.row_filter.specs.Holds as row
+use Rattle.row_filter.specs.Holds.{is_equal, some_value, some_number, marks_under}
+use Rattle.doc_sets.specs.Sets.{has, union}
+use Rattle.doc_sets.specs.SetView.{SetView}
+use Rattle.doc_sets.specs.Membership.{AreByMembers}
+use Rattle.postings.specs.Dictionary.{PostingsView}
+use Rattle.facet_keys.specs.Keys.{leaf, IsNarrowValue, IsNarrow}
+use Rattle.facet_index.specs.LeavesView.{LeavesView}
+use Rattle.facet_index.specs.Documents.{is_same, is_kind, is_number_that, is_between, has_value, has_mark, has_number_that, passes_at}
+use Rattle.facet_index.specs.Batches.{document_at}
+use Rattle.facet_index.specs.Ends.{ends_of}
+use Rattle.facet_index.specs.Places.{leaf_facets, mark_facets, IsNarrowDocument, IsIndexOf}
+use Rattle.facet_index.proofs.TestLemmas.{any_same, any_where, filter_same, has_filter}
+use Rattle.facet_index.proofs.KeyLemmas.{and_false, or_false, bytes_same, bytes_itself}
+use Rattle.facet_index.proofs.RangeLemmas.{leaves_narrow, first_part}
+use Rattle.facet_index.proofs.SortDocLemmas.{if_passes, passes_is, documents_apart}
+use Rattle.filter_sets.specs.Selects.{leaves_of, marks_of, AreRowsOf, Selects, AreBetween}
+use Rattle.filter_sets.proofs.JoinLemmas.{one_more, filter_none}
+
+-- ---- documents and rows
+
+-- a document that is there is narrow
+abbrev IsNarrowAt : Option LeavesView → Type 0
+IsNarrowAt None = Unit {0}
+IsNarrowAt (Some x) = IsNarrowDocument x
+
+narrow_at : (d : ℕ) (documents : List LeavesView) → AllByRecursion IsNarrowDocument documents → IsNarrowAt (document_at d documents)
+narrow_at d [] all = tt
+narrow_at d (x ∷ xs) all = by (x.id == d) (narrow_at d xs all.1)
+  where
+    by : (b : Bool) → IsNarrowAt (document_at d xs) → IsNarrowAt (cond b (Some x) (document_at d xs))
+    by true later = all.0
+    by false later = later
+
+-- a test of documents is one of their rows
+pub selects_of : (index : PostingsView) (f : LeavesView → Bool) (g : RowsView → Bool) (ids docs : List ℕ)
+    → ((x : LeavesView) (rows : RowsView) → IsNarrowDocument x → rows.leaves ≡ x.leaves → rows.marks ≡ x.marks → f x ≡ g rows)
+    → ((rows : RowsView) → rows.leaves ≡ [] → rows.marks ≡ [] → false ≡ g rows)
+    → ((documents : List LeavesView) → IsIndexOf index documents → docs ≡ filter (passes_at f documents) ids) → Selects index g ids docs
+selects_of index f g ids docs says nothing answer = λ documents rows of are.
+    answer documents of ∙ filter_same (passes_at f documents) (λ d. g (rows d)) ids
+    (λ d. passes_is f d documents (documents_apart documents of.keys.apart) ∙ one (document_at d documents) (narrow_at d documents of.narrow) (rows d) (are.leaves d) (are.marks d))
+  where
+    one : (o : Option LeavesView) → IsNarrowAt o → (rows : RowsView) → rows.leaves ≡ leaves_of o → rows.marks ≡ marks_of o → if_passes f o ≡ g rows
+    one None narrow rows leaves marks = nothing rows leaves marks
+    one (Some x) narrow rows leaves marks = says x rows narrow leaves marks
+
+-- tests that say one of the same rows
+pub selects_same : (index : PostingsView) (g h : RowsView → Bool) (ids docs : List ℕ) → ((rows : RowsView) → g rows ≡ h rows) → Selects index g ids docs → Selects index h ids docs
+selects_same index g h ids docs same selects = λ documents rows of are. selects documents rows of are ∙ filter_same _ _ ids (λ d. same (rows d))
+
+any_under : (p : Leaf → Bool) (path : ℕ) (leaves : List Leaf) → list_any (λ x. (x.path.0 == path) && p x) leaves ≡ list_any p (leaves_under path leaves)
+any_under p path [] = refl
+any_under p path (x ∷ xs) = by (x.path.0 == path) (any_under p path xs)
+  where
+    by : (b : Bool) → list_any (λ y. (y.path.0 == path) && p y) xs ≡ list_any p (leaves_under path xs)
+        → ((b && p x) || list_any (λ y. (y.path.0 == path) && p y) xs) ≡ list_any p (cond b (x ∷ leaves_under path xs) (leaves_under path xs))
+    by true later = ap (λ b. p x || b) later
+    by false later = later
+
+any_marked : (p : Mark → Bool) (path : ℕ) (marks : List Mark) → list_any (λ x. (x.path.0 == path) && p x) marks ≡ list_any p (marks_under path marks)
+any_marked p path [] = refl
+any_marked p path (x ∷ xs) = by (x.path.0 == path) (any_marked p path xs)
+  where
+    by : (b : Bool) → list_any (λ y. (y.path.0 == path) && p y) xs ≡ list_any p (marks_under path xs)
+        → ((b && p x) || list_any (λ y. (y.path.0 == path) && p y) xs) ≡ list_any p (cond b (x ∷ marks_under path xs) (marks_under path xs))
+    by true later = ap (λ b. p x || b) later
+    by false later = later
+
+-- ---- one test
+
+pub value_selects : (index : PostingsView) (path : ℕ) (v : FacetValue) (ids docs : List ℕ)
+    → ((documents : List LeavesView) → IsIndexOf index documents → docs ≡ filter (passes_at (has_value v path) documents) ids)
+    → Selects index (λ rows. some_value (is_same v) (leaves_under path rows.leaves)) ids docs
+value_selects index path v ids docs = selects_of index (has_value v path) (λ rows. some_value (is_same v) (leaves_under path rows.leaves)) ids docs
+    (λ x rows narrow leaves marks. any_under (λ y. is_same v y.value) path x.leaves ∙ ap (λ ls. some_value (is_same v) (leaves_under path ls)) (sym leaves))
+    (λ rows leaves marks. ap (λ ls. some_value (is_same v) (leaves_under path ls)) (sym leaves))
+
+numbers_same : (passes wanted : ℤ → Bool) → ((n : ℤ) → FitsSigned w128 n → passes n ≡ wanted n) → (path : ℕ) (leaves : List Leaf)
+    → AllByRecursion (λ x. IsNarrow x.path.0 (leaf x.value)) leaves
+    → list_any (λ x. (x.path.0 == path) && is_number_that passes x.value) leaves ≡ list_any (λ x. (x.path.0 == path) && row.is_number_that wanted x.value) leaves
+numbers_same passes wanted says path leaves all = any_where (λ x. IsNarrow x.path.0 (leaf x.value)) _ _ leaves all
+    (λ x narrow. ap (λ b. (x.path.0 == path) && b) (one x.value narrow.1))
+  where
+    one : (v : FacetValue) → IsNarrowValue v → is_number_that passes v ≡ row.is_number_that wanted v
+    one (facet.Number n) h = says n h
+    one (facet.Text t) h = refl
+
+pub number_selects : (index : PostingsView) (path : ℕ) (passes wanted : ℤ → Bool) (ids docs : List ℕ) → ((n : ℤ) → FitsSigned w128 n → passes n ≡ wanted n)
+    → ((documents : List LeavesView) → IsIndexOf index documents → docs ≡ filter (passes_at (has_number_that passes path) documents) ids)
+    → Selects index (λ rows. some_number wanted (leaves_under path rows.leaves)) ids docs
+number_selects index path passes wanted ids docs says = selects_of index (has_number_that passes path) (λ rows. some_number wanted (leaves_under path rows.leaves)) ids docs
+    (λ x rows narrow leaves marks.
+    numbers_same passes wanted says path x.leaves (leaves_narrow x.leaves (first_part (leaf_facets x.leaves) (mark_facets x.marks ++ ends_of x.leaves) narrow))
+    ∙ any_under (λ y. row.is_number_that wanted y.value) path x.leaves
+    ∙ ap (λ ls. some_number wanted (leaves_under path ls)) (sym leaves))
+    (λ rows leaves marks. ap (λ ls. some_number wanted (leaves_under path ls)) (sym leaves))
+
+kind_same : (a b : MarkKind) → is_kind a b ≡ row.is_kind a b
+kind_same Exists Exists = refl
+kind_same Exists Null = refl
+kind_same Exists Empty = refl
+kind_same Null Exists = refl
+kind_same Null Null = refl
+kind_same Null Empty = refl
+kind_same Empty Exists = refl
+kind_same Empty Null = refl
+kind_same Empty Empty = refl
+
+pub mark_selects : (index : PostingsView) (path : ℕ) (kind : MarkKind) (ids docs : List ℕ)
+    → ((documents : List LeavesView) → IsIndexOf index documents → docs ≡ filter (passes_at (has_mark kind path) documents) ids)
+    → Selects index (λ rows. row.has_mark kind (marks_under path rows.marks)) ids docs
+mark_selects index path kind ids docs = selects_of index (has_mark kind path) (λ rows. row.has_mark kind (marks_under path rows.marks)) ids docs
+    (λ x rows narrow leaves marks. any_marked (λ y. is_kind kind y.kind) path x.marks
+    ∙ any_same _ _ (marks_under path x.marks) (λ y. kind_same kind y.kind)
+    ∙ ap (λ ms. row.has_mark kind (marks_under path ms)) (sym marks))
+    (λ rows leaves marks. ap (λ ms. row.has_mark kind (marks_under path ms)) (sym marks))
+
+-- ---- a text as a value
+
+bytes_turned : (a b : List ℕ) → bytes_eq a b ≡ bytes_eq b a
+bytes_turned a b = by (bytes_eq a b) (bytes_eq b a) refl refl
+  where
+    turn : (x y : List ℕ) → bytes_eq x y ≡ true → bytes_eq y x ≡ true
+    turn x y h = subst (λ z. bytes_eq z x ≡ true) (bytes_same x y h) (bytes_itself x)
+
+    by : (u v : Bool) → u ≡ bytes_eq a b → v ≡ bytes_eq b a → u ≡ v
+    by true v s t = sym (t ∙ turn a b (sym s))
+    by false true s t = s ∙ turn b a (sym t)
+    by false false s t = refl
+
+-- whether a value is the number that a text writes, if it writes one
+abbrev pub is_written : Option ℤ → FacetValue → Bool
+is_written None v = false
+is_written (Some n) v = is_same (facet.Number n) v
+
+equal_is : (text : List ℕ) (v : FacetValue) → (is_same (facet.Text (normal text)) v || is_written (number_of text) v) ≡ is_equal text v
+equal_is text (facet.Number n) = by (number_of text)
+  where
+    turned : (a b : Bool) → (a && b) ≡ (b && a)
+    turned true true = refl
+    turned true false = refl
+    turned false true = refl
+    turned false false = refl
+
+    by : (o : Option ℤ) → is_written o (facet.Number n) ≡ row.is_number n o
+    by None = refl
+    by (Some m) = turned (not (int_lt m n)) (not (int_lt n m))
+equal_is text (facet.Text form) = by (number_of text) ∙ bytes_turned (normal text) form
+  where
+    or_false : (b : Bool) → (b || false) ≡ b
+    or_false true = refl
+    or_false false = refl
+
+    by : (o : Option ℤ) → (bytes_eq (normal text) form || is_written o (facet.Text form)) ≡ bytes_eq (normal text) form
+    by None = or_false (bytes_eq (normal text) form)
+    by (Some m) = or_false (bytes_eq (normal text) form)
+
+any_or : {X : Type 0} (p q : X → Bool) (xs : List X) → (list_any p xs || list_any q xs) ≡ list_any (λ x. p x || q x) xs
+any_or p q [] = refl
+any_or p q (x ∷ xs) = by (p x) (q x) (list_any p xs) (list_any q xs) ∙ ap (λ b. (p x || q x) || b) (any_or p q xs)
+  where
+    by : (a b c d : Bool) → ((a || c) || (b || d)) ≡ ((a || b) || (c || d))
+    by true b c d = refl
+    by false true true d = refl
+    by false true false d = refl
+    by false false c d = refl
+
+pub equal_to : (text : List ℕ) (leaves : List Leaf)
+    → (some_value (is_same (facet.Text (normal text))) leaves || some_value (is_written (number_of text)) leaves) ≡ some_value (is_equal text) leaves
+equal_to text leaves = any_or (λ x. is_same (facet.Text (normal text)) x.value) (λ x. is_written (number_of text) x.value) leaves
+    ∙ any_same _ _ leaves (λ x. equal_is text x.value)
+
+pub none_written : (leaves : List Leaf) → some_value (is_written None) leaves ≡ false
+none_written [] = refl
+none_written (x ∷ xs) = none_written xs
+
+-- ---- one of some texts
+
+-- whether a document has a value equal to one of the texts
+abbrev pub equals_any : ℕ → List (List ℕ) → RowsView → Bool
+equals_any path texts rows = list_any (λ text. some_value (is_equal text) (leaves_under path rows.leaves)) texts
+
+-- what is left of the texts adds to the documents that were found as all texts do
+abbrev pub AddsEqual : PostingsView → ℕ → List (List ℕ) → List ℕ → List (List ℕ) → List ℕ → Type 0
+AddsEqual index path left found texts ids = (documents : List LeavesView) (rows : ℕ → RowsView) → IsIndexOf index documents → AreRowsOf rows documents
+    → (d : ℕ) → ((equals_any path left (rows d) && has ids d) || has found d) ≡ (equals_any path texts (rows d) && has ids d)
+
+pub equal_none : (index : PostingsView) (path : ℕ) (texts : List (List ℕ)) (found ids : List ℕ) → found ≡ [] → AddsEqual index path texts found texts ids
+equal_none index path texts found ids none = λ documents rows of are d.
+    ap (λ xs. (equals_any path texts (rows d) && has ids d) || has xs d) none ∙ or_false (equals_any path texts (rows d) && has ids d)
+  where
+    or_false : (b : Bool) → (b || false) ≡ b
+    or_false true = refl
+    or_false false = refl
+
+pub equal_more : AreByMembers → (index : PostingsView) (path : ℕ) (texts : List (List ℕ)) (i : ℕ) (text docs found more ids : List ℕ) → i < length texts
+    → text ≡ get_or texts i text → Selects index (λ rows. some_value (is_equal text) (leaves_under path rows.leaves)) ids docs → more ≡ union docs found
+    → AddsEqual index path (drop i texts) found texts ids → AddsEqual index path (drop (i + 1) texts) more texts ids
+equal_more by_members index path texts i text docs found more ids inside is selects made adds = λ documents rows of are d.
+    let e : suc i ≡ i + 1 = omega arith in
+    ap (λ b. (equals_any path (drop (i + 1) texts) (rows d) && has ids d) || b)
+    (ap (λ xs. has xs d) made ∙ by_members.union docs found d
+    ∙ ap (λ b. b || has found d) (ap (λ xs. has xs d) (selects documents rows of are)
+    ∙ has_filter (λ e. some_value (is_equal text) (leaves_under path (rows e).leaves)) ids d))
+    ∙ one_more (equals_any path (drop (i + 1) texts) (rows d)) (some_value (is_equal text) (leaves_under path (rows d).leaves)) (has ids d) (has found d)
+    ∙ ap (λ ts. (equals_any path ts (rows d) && has ids d) || has found d)
+    (ap₂ (λ t n. t ∷ drop n texts) is (sym e) ∙ sym (drop-cons texts i text inside)) ∙ adds documents rows of are d
+
+pub equal_added : (index : PostingsView) (path : ℕ) (texts : List (List ℕ)) (i : ℕ) (found docs ids : List ℕ) → length texts ≤ i
+    → AddsEqual index path (drop i texts) found texts ids
+    → ((passes : ℕ → Bool) → ((d : ℕ) → has found d ≡ (passes d && has ids d)) → docs ≡ filter passes ids)
+    → Selects index (equals_any path texts) ids docs
+equal_added index path texts i found docs ids past adds finish = λ documents rows of are.
+    finish (λ d. equals_any path texts (rows d)) (λ d.
+    ap (λ ts. (equals_any path ts (rows d) && has ids d) || has found d) (sym (none texts i past)) ∙ adds documents rows of are d)
+  where
+    none : (ts : List (List ℕ)) (n : ℕ) → length ts ≤ n → drop n ts ≡ []
+    none [] zero h = refl
+    none [] (suc n) h = refl
+    none (t ∷ ts) zero h = absurd (omega arith)
+    none (t ∷ ts) (suc n) h = none ts n (omega arith)
+
+-- ---- answers of the index
+
+pub value_answer : {E : Type 0} (index : PostingsView) (path : ℕ) (v : FacetValue) (ids : List ℕ) (r : Result SetView E)
+    → IfOk r (λ docs. (documents : List LeavesView) → IsIndexOf index documents → docs.ids ≡ filter (passes_at (has_value v path) documents) ids)
+    → IfOk r (λ docs. Selects index (λ rows. some_value (is_same v) (leaves_under path rows.leaves)) ids docs.ids)
+value_answer index path v ids (Ok docs) h = value_selects index path v ids docs.ids h
+value_answer index path v ids (Err e) h = tt
+
+pub number_answer : {E : Type 0} (index : PostingsView) (path : ℕ) (low high low' high' : ℤ) → low' ≡ low → high' ≡ high → (ids : List ℕ) (r : Result SetView E)
+    → IfOk r (λ docs. (documents : List LeavesView) → IsIndexOf index documents → docs.ids ≡ filter (passes_at (has_number_that (is_between low' high') path) documents) ids)
+    → IfOk r (λ docs. (wanted : ℤ → Bool) → AreBetween low high wanted
+    → Selects index (λ rows. some_number wanted (leaves_under path rows.leaves)) ids docs.ids)
+number_answer index path low high low' high' e f ids (Ok docs) h = λ wanted are.
+    number_selects index path (is_between low' high') wanted ids docs.ids (λ n fits. ap₂ (λ (a b : ℤ). is_between a b n) e f ∙ are n fits) h
+number_answer index path low high low' high' e f ids (Err x) h = tt
+
+pub mark_answer : {E : Type 0} (index : PostingsView) (path : ℕ) (kind : MarkKind) (ids : List ℕ) (r : Result SetView E)
+    → IfOk r (λ docs. (documents : List LeavesView) → IsIndexOf index documents → docs.ids ≡ filter (passes_at (has_mark kind path) documents) ids)
+    → IfOk r (λ docs. Selects index (λ rows. row.has_mark kind (marks_under path rows.marks)) ids docs.ids)
+mark_answer index path kind ids (Ok docs) h = mark_selects index path kind ids docs.ids h
+mark_answer index path kind ids (Err e) h = tt
+
+-- the numbers that a test wants
+pub wanted_answer : {E : Type 0} (index : PostingsView) (path : ℕ) (low high low' high' : ℤ) → low' ≡ low → high' ≡ high → (wanted : ℤ → Bool) (ids : List ℕ)
+    → AreBetween low high wanted → (r : Result SetView E) → IfOk r (λ docs. (wanted : ℤ → Bool) → AreBetween low' high' wanted
+    → Selects index (λ rows. some_number wanted (leaves_under path rows.leaves)) ids docs.ids)
+    → IfOk r (λ docs. Selects index (λ rows. some_number wanted (leaves_under path rows.leaves)) ids docs.ids)
+wanted_answer index path low high low' high' e f wanted ids are (Ok docs) h = h wanted (λ n fits. ap₂ (λ (a b : ℤ). is_between a b n) e f ∙ are n fits)
+wanted_answer index path low high low' high' e f wanted ids are (Err x) h = tt
+
+-- no number of 128 bits is wanted
+abbrev pub AreNone : (ℤ → Bool) → Type 0
+AreNone wanted = (n : ℤ) → FitsSigned w128 n → wanted n ≡ false
+
+pub none_wanted : (index : PostingsView) (path : ℕ) (wanted : ℤ → Bool) (ids docs : List ℕ) → docs ≡ [] → AreNone wanted
+    → Selects index (λ rows. some_number wanted (leaves_under path rows.leaves)) ids docs
+none_wanted index path wanted ids docs none never = number_selects index path (λ n. false) wanted ids docs (λ n fits. sym (never n fits))
+    (λ documents of. none ∙ filter_none (passes_at (has_number_that (λ n. false) path) documents) ids (λ d. nowhere d documents))
+  where
+    no_number : (v : FacetValue) → is_number_that (λ n. false) v ≡ false
+    no_number (facet.Number n) = refl
+    no_number (facet.Text t) = refl
+
+    no_leaf : (leaves : List Leaf) → list_any (λ x. (x.path.0 == path) && is_number_that (λ n. false) x.value) leaves ≡ false
+    no_leaf [] = refl
+    no_leaf (x ∷ xs) = ap₂ (λ a b. ((x.path.0 == path) && a) || b) (no_number x.value) (no_leaf xs) ∙ ap (λ b. b || false) (and_false (x.path.0 == path))
+
+    nowhere : (d : ℕ) (documents : List LeavesView) → passes_at (has_number_that (λ n. false) path) documents d ≡ false
+    nowhere d [] = refl
+    nowhere d (x ∷ xs) = ap₂ (λ a b. ((x.id == d) && a) || b) (no_leaf x.leaves) (nowhere d xs) ∙ ap (λ b. b || false) (and_false (x.id == d))
+
+-- ---- an equal text
+
+pub both_equal : (index : PostingsView) (path : ℕ) (text : List ℕ) (n : ℤ) (ids docs more all : List ℕ) → Some n ≡ number_of text
+    → Selects index (λ rows. some_value (is_same (facet.Text (normal text))) (leaves_under path rows.leaves)) ids docs
+    → Selects index (λ rows. some_value (is_same (facet.Number n)) (leaves_under path rows.leaves)) ids more
+    → ((passes other : ℕ → Bool) → docs ≡ filter passes ids → more ≡ filter other ids → all ≡ filter (λ d. passes d || other d) ids)
+    → Selects index (λ rows. some_value (is_equal text) (leaves_under path rows.leaves)) ids all
+both_equal index path text n ids docs more all written forms numbers joined = λ documents rows of are.
+    joined (λ d. some_value (is_same (facet.Text (normal text))) (leaves_under path (rows d).leaves))
+    (λ d. some_value (is_same (facet.Number n)) (leaves_under path (rows d).leaves)) (forms documents rows of are) (numbers documents rows of are)
+    ∙ filter_same _ (λ d. some_value (is_equal text) (leaves_under path (rows d).leaves)) ids
+    (λ d. ap (λ o. some_value (is_same (facet.Text (normal text))) (leaves_under path (rows d).leaves) || some_value (is_written o) (leaves_under path (rows d).leaves)) written
+    ∙ equal_to text (leaves_under path (rows d).leaves))
+
+pub form_equal : (index : PostingsView) (path : ℕ) (text : List ℕ) (ids docs : List ℕ) → None ≡ number_of text
+    → Selects index (λ rows. some_value (is_same (facet.Text (normal text))) (leaves_under path rows.leaves)) ids docs
+    → Selects index (λ rows. some_value (is_equal text) (leaves_under path rows.leaves)) ids docs
+form_equal index path text ids docs written = selects_same index _ (λ rows. some_value (is_equal text) (leaves_under path rows.leaves)) ids docs
+    (λ rows. sym (or_false (some_value (is_same (facet.Text (normal text))) (leaves_under path rows.leaves)))
+    ∙ ap (λ b. some_value (is_same (facet.Text (normal text))) (leaves_under path rows.leaves) || b)
+    (sym (none_written (leaves_under path rows.leaves)) ∙ ap (λ o. some_value (is_written o) (leaves_under path rows.leaves)) written)
+    ∙ equal_to text (leaves_under path rows.leaves))
+
+pub either_answer : {E : Type 0} (index : PostingsView) (path : ℕ) (text form : List ℕ) (n n' : ℤ) (ids docs more : List ℕ) → n' ≡ n → form ≡ normal text → Some n ≡ number_of text
+    → Selects index (λ rows. some_value (is_same (facet.Text form)) (leaves_under path rows.leaves)) ids docs
+    → Selects index (λ rows. some_value (is_same (facet.Number n')) (leaves_under path rows.leaves)) ids more
+    → (r : Result SetView E)
+    → IfOk r (λ both. (passes other : ℕ → Bool) → docs ≡ filter passes ids → more ≡ filter other ids → both.ids ≡ filter (λ d. passes d || other d) ids)
+    → IfOk r (λ both. Selects index (λ rows. some_value (is_equal text) (leaves_under path rows.leaves)) ids both.ids)
+either_answer index path text form n n' ids docs more e is written forms numbers (Ok both) h = both_equal index path text n ids docs more both.ids written
+    (subst (λ f. Selects index (λ rows. some_value (is_same (facet.Text f)) (leaves_under path rows.leaves)) ids docs) is forms)
+    (subst (λ (k : ℤ). Selects index (λ rows. some_value (is_same (facet.Number k)) (leaves_under path rows.leaves)) ids more) e numbers) h
+either_answer index path text form n n' ids docs more e is written forms numbers (Err x) h = tt
+
+pub equal_added_answer : {E : Type 0} (index : PostingsView) (path : ℕ) (texts : List (List ℕ)) (i : ℕ) (found ids : List ℕ) → length texts ≤ i
+    → AddsEqual index path (drop i texts) found texts ids → (r : Result SetView E)
+    → IfOk r (λ docs. (passes : ℕ → Bool) → ((d : ℕ) → has found d ≡ (passes d && has ids d)) → docs.ids ≡ filter passes ids)
+    → IfOk r (λ docs. Selects index (equals_any path texts) ids docs.ids)
+equal_added_answer index path texts i found ids past adds (Ok docs) h = equal_added index path texts i found docs.ids ids past adds h
+equal_added_answer index path texts i found ids past adds (Err e) h = tt
+
+-- a path that is not there is met by none
+pub none_at : (index : PostingsView) (ids docs : List ℕ) → docs ≡ [] → Selects index (λ rows. false) ids docs
+none_at index ids docs none = λ documents rows of are. none ∙ filter_none (λ d. false) ids (λ d. refl)

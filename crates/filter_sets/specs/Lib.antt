@@ -1,0 +1,2 @@
+-- Sets of documents that pass a filter.
+pub mod Selects

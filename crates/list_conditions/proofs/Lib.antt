@@ -1,0 +1,2 @@
+-- Lemmas on conditions.
+pub mod MeetLemmas

@@ -1,0 +1,2 @@
+-- Conditions, and the documents that meet them.
+pub mod Meeting

@@ -1,0 +1,15 @@
+-- The documents that meet a condition.
+use Rattle.std.specs.Prelude.{◌≡◌, ℕ, List, Option}
+use Rattle.std.specs.List.{filter}
+use Rattle.postings.specs.Documents.{Document, places_of}
+use Rattle.postings.specs.Dictionary.{PostingsView}
+use Rattle.postings.specs.Fresh.{StandsFor}
+use Rattle.posting_sets.specs.Blocks.{HaveRanks}
+use Rattle.condition_graph.specs.declared.condition.Condition.{Condition}
+use Rattle.condition_graph.specs.Meets.{meets}
+
+-- these are those of a universe, whatever documents the postings stand for, where each place has the rank of its path
+abbrev pub AreMeeting : PostingsView → List (Option ℕ) → Condition → List ℕ → List ℕ → Type 0
+AreMeeting view ranks condition universe ids =
+    (documents : List Document) → StandsFor view documents → HaveRanks ranks documents
+    → ids ≡ filter (λ id. meets (places_of id documents) condition) universe

@@ -1,0 +1,3 @@
+pub mod IdLemmas
+pub mod PartLemmas
+pub mod AfterLemmas

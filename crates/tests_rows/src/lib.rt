@@ -1,0 +1,8 @@
+//! Tests of what an index keeps of its documents.
+//!
+//! They stand in a crate of their own, so that the crates they try are proved once and not twice. The crate has nothing
+//! but tests, and promises nothing.
+#![tactic(auto)]
+
+#[cfg(test)]
+mod rows;

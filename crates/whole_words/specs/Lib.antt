@@ -1,0 +1,2 @@
+-- Documents by the whole query.
+pub mod Costs
