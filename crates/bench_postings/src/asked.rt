@@ -9,7 +9,7 @@ use search_base::{DocId, NoMemory, Term, Word};
 use std::alloc::Global;
 
 /// The first documents, of which there are `size`.
-pub fn all_of(alloc: Global, size: u32) -> Result<DocSet, NoMemory> {
+pub(crate) fn all_of(alloc: Global, size: u32) -> Result<DocSet, NoMemory> {
     let mut builder = DocSetBuilder::new(alloc, 0)?;
     for number in 0..size {
         builder.add_id(DocId(number))?;
@@ -18,7 +18,7 @@ pub fn all_of(alloc: Global, size: u32) -> Result<DocSet, NoMemory> {
 }
 
 /// Goes over each list, and counts places.
-pub fn walked(alloc: Global, postings: &Postings) -> Result<u64, NoMemory> {
+pub(crate) fn walked(alloc: Global, postings: &Postings) -> Result<u64, NoMemory> {
     let every = Word::new(alloc, "")?;
     let mut count: u64 = 0;
     for (_word, list) in postings.with_prefix(&every) {
@@ -55,7 +55,7 @@ fn greatest(sets: Vec<DocSet>) -> u64 {
 }
 
 /// Asks one question about the documents, and counts those of the answer.
-pub fn asked(
+pub(crate) fn asked(
     alloc: Global,
     postings: &Postings,
     what: &str,

@@ -41,7 +41,7 @@ fn commit(alloc: Global, postings: &mut Postings, change: Change) -> Result<(), 
 }
 
 /// Puts so many thousand documents in, a thousand at once.
-pub fn fill(alloc: Global, postings: &mut Postings, thousands: u32) -> Result<(), NoMemory> {
+pub(crate) fn fill(alloc: Global, postings: &mut Postings, thousands: u32) -> Result<(), NoMemory> {
     for batch in 0..thousands {
         let mut change = Change::new(alloc);
         for number in 0..1_000_u32 {
@@ -54,7 +54,7 @@ pub fn fill(alloc: Global, postings: &mut Postings, thousands: u32) -> Result<()
 }
 
 /// Puts one more document in.
-pub fn put(alloc: Global, postings: &mut Postings, document: u32) -> Result<u64, NoMemory> {
+pub(crate) fn put(alloc: Global, postings: &mut Postings, document: u32) -> Result<u64, NoMemory> {
     let mut change = Change::new(alloc);
     put_in(alloc, &mut change, document, 0)?;
     commit(alloc, postings, change)?;
@@ -62,7 +62,7 @@ pub fn put(alloc: Global, postings: &mut Postings, document: u32) -> Result<u64,
 }
 
 /// Takes a document out and puts it in with other words. Each is taken once before one is taken again.
-pub fn replace(
+pub(crate) fn replace(
     alloc: Global,
     postings: &mut Postings,
     size: u32,

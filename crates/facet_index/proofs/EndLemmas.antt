@@ -1,6 +1,6 @@
 -- The values that come first under the paths of a document.
-use Rattle.std.proofs.Common.{◌≡◌, ℕ, ℤ, Bool, true, false, ◌&&◌, ◌||◌, ◌==◌, cond, int_lt, List, [], ◌∷◌, ◌++◌, Option, None, Some, map, flat_map, append_assoc, refl, sym, ap, ap₂, subst, ◌∙◌}
-use Rattle.std.specs.List.{filter, list_any}
+use Rattle.std.proofs.Common.{◌≡◌, ℕ, Bool, true, false, ◌&&◌, ◌||◌, ◌==◌, cond, List, [], ◌∷◌, ◌++◌, Option, None, Some, map, flat_map, append_assoc, refl, sym, ap, ap₂, subst, ◌∙◌}
+use Rattle.std.specs.List.{list_any}
 use Rattle.std.proofs.lemmas.Bool.{eqb-true}
 use Rattle.std.proofs.lemmas.List.{map-append}
 use Rattle.std.proofs.lemmas.List.Folds.{list_any-append}
@@ -8,15 +8,14 @@ use Rattle.search_base.specs.declared.document.Leaf.{Leaf}
 use Rattle.search_base.specs.declared.document.MarkKind.{MarkKind}
 use Rattle.search_base.specs.declared.document.Place.{Place}
 use Rattle.search_base.specs.declared.value.FacetValue.{FacetValue}
-use Rattle.search_base.specs.declared.value.FacetValue.TheVariants as facet
 use Rattle.search_base.specs.SortKeys.{leaves_under, sooner, first_by}
-use Rattle.facet_keys.specs.Keys.{Facet, leaf, mark, least, greatest}
+use Rattle.facet_keys.specs.Keys.{Facet, leaf, mark, counted, spelling}
 use Rattle.facet_index.specs.LeavesView.{LeavesView}
 use Rattle.facet_index.specs.Documents.{is_same}
 use Rattle.facet_index.specs.Ends.{value_before, first_value, end_facet, if_end, end_at, ends_at, ends_of, new_ends, has_path, paths_of}
 use Rattle.facet_index.specs.Places.{key_of, place_of, places_of, AreNarrow}
 use Rattle.facet_index.proofs.TestLemmas.{any_and, any_same}
-use Rattle.facet_index.proofs.KeyLemmas.{all_both, any_flat, any_never, and_false, or_false, has_facet, is_facet, facets_say}
+use Rattle.facet_index.proofs.KeyLemmas.{all_both, any_flat, any_never, counted_none, and_false, or_false, has_facet, is_facet, facets_say}
 
 -- ---- one leaf more
 
@@ -156,7 +155,11 @@ end_says up path v document =
     (λ x. ap (λ b. (x.path.0 == path) && b) (no_leaf up x.value) ∙ and_false (x.path.0 == path)))
     (ap₂ (λ a b. a || b) (any_never (λ x. (x.path.0 == path) && is_facet (end_facet up v) (mark x.kind)) document.marks
     (λ x. ap (λ b. (x.path.0 == path) && b) (no_mark up x.kind) ∙ and_false (x.path.0 == path)))
-    (ends_say up path v document.leaves))
+    (ap₂ (λ a b. a || b) (ends_say up path v document.leaves)
+    (counted_none (is_wanted path (end_facet up v)) [] document.leaves
+    (λ q t. ap (λ b. (q == path) && b) (no_text up t) ∙ and_false (q == path))
+    (λ q t s. ap (λ b. (q == path) && b) (no_spelling up t s) ∙ and_false (q == path)))
+    ∙ or_false (is_that v (first_value up path document.leaves))))
   where
     no_leaf : (up : Bool) (w : FacetValue) → is_facet (end_facet up v) (leaf w) ≡ false
     no_leaf true w = refl
@@ -165,3 +168,11 @@ end_says up path v document =
     no_mark : (up : Bool) (k : MarkKind) → is_facet (end_facet up v) (mark k) ≡ false
     no_mark true k = refl
     no_mark false k = refl
+
+    no_text : (up : Bool) (t : List ℕ) → is_facet (end_facet up v) (counted t) ≡ false
+    no_text true t = refl
+    no_text false t = refl
+
+    no_spelling : (up : Bool) (t s : List ℕ) → is_facet (end_facet up v) (spelling t s) ≡ false
+    no_spelling true t s = refl
+    no_spelling false t s = refl

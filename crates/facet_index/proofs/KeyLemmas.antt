@@ -14,7 +14,6 @@ use Rattle.std.proofs.lemmas.List.Folds.{list_any-append}
 use Rattle.std.proofs.lemmas.Map.Lookups.{exact_bytes}
 use Rattle.std.proofs.lemmas.Map.Text.{is_eq-slice_cmp}
 use Rattle.search_base.specs.declared.document.Leaf.{Leaf}
-use Rattle.search_base.specs.declared.document.Mark.{Mark}
 use Rattle.search_base.specs.declared.document.MarkKind.{MarkKind}
 use Rattle.search_base.specs.declared.document.MarkKind.TheVariants.{Exists, Null, Empty}
 use Rattle.search_base.specs.declared.value.FacetValue.{FacetValue}
@@ -22,20 +21,27 @@ use Rattle.search_base.specs.declared.value.FacetValue.TheVariants as facet
 use Rattle.sorted_pages.specs.Entries.{has}
 use Rattle.postings.specs.Dictionary.{PostingsView, word_cmp, list_at, some_list}
 use Rattle.postings.specs.Documents.{entry_of, is_place, stands}
-use Rattle.facet_keys.specs.Keys.{Facet, leaf, mark, least, greatest, key_bytes, IsNarrow}
+use Rattle.facet_keys.specs.Keys.{Facet, leaf, mark, least, greatest, counted, spelling, key_bytes, IsNarrow}
 use Rattle.facet_keys.specs.Laws.{AreApart}
+use Rattle.facet_counts.specs.Counts.{text_of}
 use Rattle.facet_index.specs.LeavesView.{LeavesView}
 use Rattle.facet_index.specs.Documents.{is_same, is_kind, has_value, has_mark, passes_at}
 use Rattle.facet_index.specs.Ends.{first_value, end_facet, if_end, end_at, ends_at, ends_of, paths_of}
+use Rattle.facet_index.specs.Counted.{has_text, new_counted, counted_from, counted_of}
 use Rattle.facet_index.specs.Places.{leaf_facets, mark_facets, facets_of, key_of, keys_of, place_of, places_of, keyed, IsNarrowDocument, IsIndexOf, has_document}
-use Rattle.facet_index.proofs.TestLemmas.{same_bool, both, never, any_map, any_where, any_same, any_and, filter_same}
+use Rattle.facet_index.proofs.TestLemmas.{same_bool, both, any_map, any_where, any_same, any_and, filter_same}
 
 -- ---- the places of a document
 
-pub places_by_kind : (xs ys zs : List (ℕ × Facet)) → (places_of xs ++ places_of ys) ++ places_of zs ≡ places_of (xs ++ (ys ++ zs))
-places_by_kind xs ys zs =
-    append_assoc (places_of xs) (places_of ys) (places_of zs)
-    ∙ sym (map-append (λ x. place_of (key_of x)) xs (ys ++ zs) ∙ ap (λ ps. places_of xs ++ ps) (map-append (λ x. place_of (key_of x)) ys zs))
+pub places_by_kind : (xs ys zs ws : List (ℕ × Facet))
+    → ((places_of xs ++ places_of ys) ++ places_of zs) ++ places_of ws ≡ places_of (xs ++ (ys ++ (zs ++ ws)))
+places_by_kind xs ys zs ws =
+    append_assoc (places_of xs ++ places_of ys) (places_of zs) (places_of ws)
+    ∙ append_assoc (places_of xs) (places_of ys) (places_of zs ++ places_of ws)
+    ∙ sym (of xs (ys ++ (zs ++ ws)) ∙ ap (λ ps. places_of xs ++ ps) (of ys (zs ++ ws) ∙ ap (λ ps. places_of ys ++ ps) (of zs ws)))
+  where
+    of : (fs gs : List (ℕ × Facet)) → places_of (fs ++ gs) ≡ places_of fs ++ places_of gs
+    of fs gs = map-append (λ x. place_of (key_of x)) fs gs
 
 pub all_both : {X : Type 0} (P : X → Type 0) (xs ys : List X) → AllByRecursion P xs → AllByRecursion P ys → AllByRecursion P (xs ++ ys)
 all_both P [] ys h k = k
@@ -70,7 +76,7 @@ times m n = same_bool (m * 2 ^ 32 == n * 2 ^ 32) (m == n)
 entry_is : (id d : ℕ) (key : List ℕ) → (entry_of id (place_of key) == d * 2 ^ 32) ≡ (id == d)
 entry_is id d key = let e : entry_of id (place_of key) ≡ id * 2 ^ 32 = omega arith in ap (λ v. v == d * 2 ^ 32) e ∙ times id d
 
-stands_at : (key : List ℕ) (d : ℕ) (documents : List LeavesView) → stands key (d * 2 ^ 32) (map keyed documents) ≡ passes_at (has_key key) documents d
+pub stands_at : (key : List ℕ) (d : ℕ) (documents : List LeavesView) → stands key (d * 2 ^ 32) (map keyed documents) ≡ passes_at (has_key key) documents d
 stands_at key d [] = refl
 stands_at key d (document ∷ documents) = ap₂ (λ a b. a || b)
     (ap (list_any (is_place key (d * 2 ^ 32) document.id)) (sym (map_twice place_of key_of (facets_of document)))
@@ -80,7 +86,7 @@ stands_at key d (document ∷ documents) = ap₂ (λ a b. a || b)
     (stands_at key d documents)
 
 -- an entry is of a document as a whole
-round : (key : List ℕ) (entry : ℕ) (documents : List LeavesView) → stands key entry (map keyed documents) ≡ true → (id : ℕ) × (entry ≡ id * 2 ^ 32)
+pub round : (key : List ℕ) (entry : ℕ) (documents : List LeavesView) → stands key entry (map keyed documents) ≡ true → (id : ℕ) × (entry ≡ id * 2 ^ 32)
 round key entry [] h = absurd (cc)
 round key entry (document ∷ documents) h = here (round key entry documents) (facets_of document) h
   where
@@ -98,7 +104,7 @@ round key entry (document ∷ documents) h = here (round key entry documents) (f
         by rest false same s h = rest h
 
 -- the document has a place in a list of such entries
-document_has : (d : ℕ) (entries : List ℕ) → ((e : ℕ) → has entries e ≡ true → (id : ℕ) × (e ≡ id * 2 ^ 32)) → has_document d entries ≡ has entries (d * 2 ^ 32)
+pub document_has : (d : ℕ) (entries : List ℕ) → ((e : ℕ) → has entries e ≡ true → (id : ℕ) × (e ≡ id * 2 ^ 32)) → has_document d entries ≡ has entries (d * 2 ^ 32)
 document_has d [] whole = refl
 document_has d (e ∷ es) whole =
     let first : (id : ℕ) × (e ≡ id * 2 ^ 32) = whole e (ap (λ b. b || has es e) (eq-eqb e e refl)) in
@@ -161,6 +167,8 @@ is_facet (leaf v) (leaf w) = is_same v w
 is_facet (mark a) (mark b) = is_kind a b
 is_facet (least v) (least w) = is_same v w
 is_facet (greatest v) (greatest w) = is_same v w
+is_facet (counted s) (counted t) = bytes_eq t s
+is_facet (spelling s x) (spelling t y) = bytes_eq t s && bytes_eq y x
 is_facet _ _ = false
 
 facet_same : (f g : Facet) → is_facet f g ≡ true → f ≡ g
@@ -168,30 +176,52 @@ facet_same (leaf v) (leaf w) h = ap leaf (same_value v w h)
 facet_same (leaf v) (mark b) h = absurd (cc)
 facet_same (leaf v) (least w) h = absurd (cc)
 facet_same (leaf v) (greatest w) h = absurd (cc)
+facet_same (leaf v) (counted t) h = absurd (cc)
+facet_same (leaf v) (spelling t y) h = absurd (cc)
 facet_same (mark a) (leaf w) h = absurd (cc)
 facet_same (mark a) (mark b) h = ap mark (kind_same a b h)
 facet_same (mark a) (least w) h = absurd (cc)
 facet_same (mark a) (greatest w) h = absurd (cc)
+facet_same (mark a) (counted t) h = absurd (cc)
+facet_same (mark a) (spelling t y) h = absurd (cc)
 facet_same (least v) (leaf w) h = absurd (cc)
 facet_same (least v) (mark b) h = absurd (cc)
 facet_same (least v) (least w) h = ap least (same_value v w h)
 facet_same (least v) (greatest w) h = absurd (cc)
+facet_same (least v) (counted t) h = absurd (cc)
+facet_same (least v) (spelling t y) h = absurd (cc)
 facet_same (greatest v) (leaf w) h = absurd (cc)
 facet_same (greatest v) (mark b) h = absurd (cc)
 facet_same (greatest v) (least w) h = absurd (cc)
 facet_same (greatest v) (greatest w) h = ap greatest (same_value v w h)
+facet_same (greatest v) (counted t) h = absurd (cc)
+facet_same (greatest v) (spelling t y) h = absurd (cc)
+facet_same (counted s) (leaf w) h = absurd (cc)
+facet_same (counted s) (mark b) h = absurd (cc)
+facet_same (counted s) (least w) h = absurd (cc)
+facet_same (counted s) (greatest w) h = absurd (cc)
+facet_same (counted s) (counted t) h = ap counted (sym (bytes_same t s h))
+facet_same (counted s) (spelling t y) h = absurd (cc)
+facet_same (spelling s x) (leaf w) h = absurd (cc)
+facet_same (spelling s x) (mark b) h = absurd (cc)
+facet_same (spelling s x) (least w) h = absurd (cc)
+facet_same (spelling s x) (greatest w) h = absurd (cc)
+facet_same (spelling s x) (counted t) h = absurd (cc)
+facet_same (spelling s x) (spelling t y) h = let parts = both (bytes_eq t s) (bytes_eq y x) h in ap₂ spelling (sym (bytes_same t s parts.0)) (sym (bytes_same y x parts.1))
 
 pub facet_itself : (f : Facet) → is_facet f f ≡ true
 facet_itself (leaf v) = value_itself v
 facet_itself (mark a) = kind_itself a
 facet_itself (least v) = value_itself v
 facet_itself (greatest v) = value_itself v
+facet_itself (counted s) = bytes_itself s
+facet_itself (spelling s x) = ap₂ (λ a b. a && b) (bytes_itself s) (bytes_itself x)
 
 -- whether a document has the facet under the path
 abbrev pub has_facet : ℕ → Facet → LeavesView → Bool
 has_facet path f document = list_any (λ x. (x.0 == path) && is_facet f x.1) (facets_of document)
 
-facet_test : AreApart → (x : ℕ × Facet) (path : ℕ) (f : Facet) → IsNarrow x.0 x.1 → IsNarrow path f
+pub facet_test : AreApart → (x : ℕ × Facet) (path : ℕ) (f : Facet) → IsNarrow x.0 x.1 → IsNarrow path f
     → bytes_eq (key_of x) (key_bytes path f) ≡ ((x.0 == path) && is_facet f x.1)
 facet_test apart x path f narrow asked = same_bool _ _
     (λ h. let one : (x.0 ≡ path) × (x.1 ≡ f) = apart x.0 path x.1 f narrow asked (bytes_same _ _ h) in
@@ -211,12 +241,12 @@ facet_key apart path f document asked narrow =
 
 pub facets_say : (p : ℕ × Facet → Bool) (document : LeavesView) → list_any p (facets_of document)
     ≡ (list_any (λ x. p (x.path.0, leaf x.value)) document.leaves
-    || (list_any (λ x. p (x.path.0, mark x.kind)) document.marks || list_any p (ends_of document.leaves)))
+    || (list_any (λ x. p (x.path.0, mark x.kind)) document.marks || (list_any p (ends_of document.leaves) || list_any p (counted_of document.leaves))))
 facets_say p document =
-    list_any-append p (leaf_facets document.leaves) (mark_facets document.marks ++ ends_of document.leaves)
+    list_any-append p (leaf_facets document.leaves) (mark_facets document.marks ++ (ends_of document.leaves ++ counted_of document.leaves))
     ∙ ap₂ (λ a b. a || b) (any_map (λ x. (x.path.0, leaf x.value)) p document.leaves)
-    (list_any-append p (mark_facets document.marks) (ends_of document.leaves)
-    ∙ ap (λ a. a || list_any p (ends_of document.leaves)) (any_map (λ x. (x.path.0, mark x.kind)) p document.marks))
+    (list_any-append p (mark_facets document.marks) (ends_of document.leaves ++ counted_of document.leaves)
+    ∙ ap₂ (λ a b. a || b) (any_map (λ x. (x.path.0, mark x.kind)) p document.marks) (list_any-append p (ends_of document.leaves) (counted_of document.leaves)))
 
 pub any_never : {X : Type 0} (p : X → Bool) (xs : List X) → ((x : X) → p x ≡ false) → list_any p xs ≡ false
 any_never p [] none = refl
@@ -246,17 +276,39 @@ pub or_false : (b : Bool) → (b || false) ≡ b
 or_false true = refl
 or_false false = refl
 
-no_end : (f : Facet) → ((up : Bool) (v : FacetValue) → is_facet f (end_facet up v) ≡ false) → (path : ℕ) (leaves : List Leaf)
-    → list_any (λ x. (x.0 == path) && is_facet f x.1) (ends_of leaves) ≡ false
-no_end f none path leaves = ends_none (λ x. (x.0 == path) && is_facet f x.1) leaves
-    (λ up q v. ap (λ b. (q == path) && b) (none up v) ∙ and_false (q == path))
+-- no facet for a count
+pub counted_none : (p : ℕ × Facet → Bool) (before leaves : List Leaf) → ((path : ℕ) (text : List ℕ) → p (path, counted text) ≡ false)
+    → ((path : ℕ) (text shown : List ℕ) → p (path, spelling text shown) ≡ false) → list_any p (counted_from before leaves) ≡ false
+counted_none p before [] no_text no_spelling = refl
+counted_none p before (x ∷ xs) no_text no_spelling =
+    list_any-append p (new_counted before x) (counted_from (before ++ x ∷ []) xs)
+    ∙ ap₂ (λ a b. a || b) (here (has_text x.path.0 (text_of x.value) before) (bytes_eq x.shown (text_of x.value)))
+    (counted_none p (before ++ x ∷ []) xs no_text no_spelling)
+  where
+    here : (old same : Bool) → list_any p (cond old []
+        ((x.path.0, counted (text_of x.value)) ∷ cond same [] ((x.path.0, spelling (text_of x.value) x.shown) ∷ []))) ≡ false
+    here true same = refl
+    here false true = ap (λ b. b || false) (no_text x.path.0 (text_of x.value))
+    here false false = ap₂ (λ a b. a || (b || false)) (no_text x.path.0 (text_of x.value)) (no_spelling x.path.0 (text_of x.value) x.shown)
+
+-- neither an end nor a facet for a count
+no_other : (f : Facet) → ((up : Bool) (v : FacetValue) → is_facet f (end_facet up v) ≡ false)
+    → ((text : List ℕ) → is_facet f (counted text) ≡ false) → ((text shown : List ℕ) → is_facet f (spelling text shown) ≡ false)
+    → (path : ℕ) (leaves : List Leaf)
+    → (list_any (λ x. (x.0 == path) && is_facet f x.1) (ends_of leaves) || list_any (λ x. (x.0 == path) && is_facet f x.1) (counted_of leaves)) ≡ false
+no_other f none no_text no_spelling path leaves =
+    let p : ℕ × Facet → Bool = λ x. (x.0 == path) && is_facet f x.1 in
+    ap₂ (λ a b. a || b)
+    (ends_none p leaves (λ up q v. ap (λ b. (q == path) && b) (none up v) ∙ and_false (q == path)))
+    (counted_none p [] leaves (λ q t. ap (λ b. (q == path) && b) (no_text t) ∙ and_false (q == path))
+    (λ q t s. ap (λ b. (q == path) && b) (no_spelling t s) ∙ and_false (q == path)))
 
 value_key : AreApart → (path : ℕ) (v : FacetValue) (document : LeavesView) → IsNarrow path (leaf v) → IsNarrowDocument document
     → has_key (key_bytes path (leaf v)) document ≡ has_value v path document
 value_key apart path v document asked narrow =
     facet_key apart path (leaf v) document asked narrow ∙ facets_say (λ x. (x.0 == path) && is_facet (leaf v) x.1) document
     ∙ ap (λ b. has_value v path document || b) (ap₂ (λ a b. a || b)
-    (any_never (λ x. (x.path.0 == path) && false) document.marks (λ x. and_false (x.path.0 == path))) (no_end (leaf v) other path document.leaves))
+    (any_never (λ x. (x.path.0 == path) && false) document.marks (λ x. and_false (x.path.0 == path))) (no_other (leaf v) other (λ t. refl) (λ t s. refl) path document.leaves))
     ∙ or_false (has_value v path document)
   where
     other : (up : Bool) (w : FacetValue) → is_facet (leaf v) (end_facet up w) ≡ false
@@ -268,7 +320,7 @@ kind_key : AreApart → (path : ℕ) (kind : MarkKind) (document : LeavesView) �
 kind_key apart path kind document asked narrow =
     facet_key apart path (mark kind) document asked narrow ∙ facets_say (λ x. (x.0 == path) && is_facet (mark kind) x.1) document
     ∙ ap₂ (λ a b. a || b) (any_never (λ x. (x.path.0 == path) && false) document.leaves (λ x. and_false (x.path.0 == path)))
-    (ap (λ b. has_mark kind path document || b) (no_end (mark kind) other path document.leaves) ∙ or_false (has_mark kind path document))
+    (ap (λ b. has_mark kind path document || b) (no_other (mark kind) other (λ t. refl) (λ t s. refl) path document.leaves) ∙ or_false (has_mark kind path document))
   where
     other : (up : Bool) (w : FacetValue) → is_facet (mark kind) (end_facet up w) ≡ false
     other true w = refl

@@ -10,3 +10,4 @@ pub mod NextLemmas
 pub mod StepLemmas
 pub mod SortDocLemmas
 pub mod SortRowLemmas
+pub mod CountedLemmas

@@ -1,12 +1,11 @@
 -- The entry that comes next.
-use Rattle.std.proofs.Common.{◌≡◌, ℕ, ◌+◌, ◌/◌, ◌^◌, ◌<◌, ◌≤◌, arith, Bool, true, false, not, ◌&&◌, ◌||◌, ◌==◌, cond, List, [], ◌∷◌, ◌++◌, Option, None, Some, Result, Ok, Err, map, refl, sym, ap, ap₂, subst, ◌∙◌, ◌⊎◌, inl, inr, ⊎_elim}
+use Rattle.std.proofs.Common.{◌≡◌, ℕ, ◌+◌, ◌/◌, ◌^◌, ◌<◌, ◌≤◌, arith, Bool, true, false, not, ◌&&◌, ◌||◌, ◌==◌, cond, List, [], ◌∷◌, ◌++◌, Option, None, Some, map, refl, sym, ap, ap₂, subst, ◌∙◌, ◌⊎◌, inl, inr}
 use Rattle.std.specs.Ordering.{is_lt, is_le, nat_cmp, ordering_then, MatchOrdering}
 use Rattle.std.proofs.lemmas.Cmp.{ranked}
 use Rattle.std.specs.declared.cmp.Ordering.{Ordering}
 use Rattle.std.specs.declared.cmp.Ordering.TheVariants.{Less, Equal, Greater}
 use Rattle.std.specs.List.{filter, filter_map, cons_option, list_any, AllByRecursion}
-use Rattle.std.specs.Option.{option_map, IfSome, IfNone}
-use Rattle.std.specs.Result.{IfOk}
+use Rattle.std.specs.Option.{option_map}
 use Rattle.std.specs.Str.{bytes_eq}
 use Rattle.std.proofs.lemmas.Bool.{eq-eqb, eqb-true}
 use Rattle.search_base.specs.declared.cost_key.CostKey.{CostKey}
@@ -19,22 +18,21 @@ use Rattle.search_base.specs.SortKeys.{leaves_under, sooner, first_by}
 use Rattle.bucket_sort.specs.Classes.{same}
 use Rattle.sort_rule.specs.Rows.{is_after, next_of}
 use Rattle.postings.specs.Dictionary.{PostingsView, word_cmp, list_at, some_list}
-use Rattle.facet_keys.specs.Keys.{Facet, leaf, mark, least, greatest, key_bytes, facet_bytes, IsNarrowValue, IsNarrowFacet, IsNarrow}
+use Rattle.facet_keys.specs.Keys.{Facet, leaf, mark, least, greatest, counted, spelling, key_bytes, facet_bytes, IsNarrowValue, IsNarrowFacet, IsNarrow}
 use Rattle.facet_keys.specs.Values.{end_value, end_under}
 use Rattle.facet_keys.specs.Laws.{AreApart, AreInOrder}
 use Rattle.facet_index.specs.declared.sorts.Start.{Start}
 use Rattle.facet_index.specs.LeavesView.{LeavesView}
-use Rattle.facet_index.specs.Documents.{is_same, passes_at}
 use Rattle.facet_index.specs.Ends.{value_before, values_under, first_value, end_facet, ends_of}
-use Rattle.facet_index.specs.Places.{leaf_facets, mark_facets, facets_of, key_of, keys_of, AreNarrow, IsNarrowDocument, IsIndexOf, has_document}
-use Rattle.facet_index.specs.Ranges.{is_inside}
+use Rattle.facet_index.specs.Counted.{counted_of}
+use Rattle.facet_index.specs.Places.{leaf_facets, mark_facets, facets_of, key_of, IsNarrowDocument, IsIndexOf, has_document}
 use Rattle.facet_index.specs.Sorts.{sort_entry, sort_keys}
 use Rattle.facet_index.specs.Starts.{entry_of, start_of, word_order, is_from, IsNext, HasNoneFrom}
 use Rattle.facet_index.proofs.TestLemmas.{both, any_map}
-use Rattle.facet_index.proofs.KeyLemmas.{has_key, has_at, facet_key, has_facet, is_facet, facet_itself, bytes_same, value_itself, same_value}
+use Rattle.facet_index.proofs.KeyLemmas.{has_key, has_at, facet_key, is_facet, facet_itself, bytes_same, value_itself, same_value}
 use Rattle.facet_index.proofs.RangeLemmas.{leaves_narrow, first_part, facet_between}
 use Rattle.facet_index.proofs.EndLemmas.{is_that, end_says}
-use Rattle.facet_index.proofs.SortLemmas.{entry_is, entries_before, entries_same, keys_up_to, key_from, after_is, if_from, comes_from}
+use Rattle.facet_index.proofs.SortLemmas.{entry_is, entries_before, entries_same, keys_up_to, key_from, after_is, if_from}
 
 -- ---- lists
 
@@ -159,7 +157,7 @@ first_narrow : (up : Bool) (path : ℕ) (document : LeavesView) (v : FacetValue)
     → first_value up path document.leaves ≡ Some v → IsNarrowFacet (end_facet up v)
 first_narrow up path document v narrow is = end_narrow up
     (all_first IsNarrowValue (value_before up) (values_under path document.leaves) v
-    (values_narrow path document.leaves (leaves_narrow document.leaves (first_part (leaf_facets document.leaves) (mark_facets document.marks ++ ends_of document.leaves) narrow))) is)
+    (values_narrow path document.leaves (leaves_narrow document.leaves (first_part (leaf_facets document.leaves) (mark_facets document.marks ++ (ends_of document.leaves ++ counted_of document.leaves)) narrow))) is)
   where
     end_narrow : (up : Bool) → IsNarrowValue v → IsNarrowFacet (end_facet up v)
     end_narrow true h = h
@@ -270,6 +268,8 @@ kind (least (facet.Number n)) = 5
 kind (least (facet.Text t)) = 6
 kind (greatest (facet.Number n)) = 8
 kind (greatest (facet.Text t)) = 7
+kind (counted t) = 9
+kind (spelling t s) = 10
 
 bytes_of : (f : Facet) → (rest : List ℕ) × (facet_bytes f ≡ kind f ∷ rest)
 bytes_of (mark Exists) = ([], refl)
@@ -281,6 +281,8 @@ bytes_of (least (facet.Number n)) = (_, refl)
 bytes_of (least (facet.Text t)) = (_, refl)
 bytes_of (greatest (facet.Number n)) = (_, refl)
 bytes_of (greatest (facet.Text t)) = (_, refl)
+bytes_of (counted t) = (_, refl)
+bytes_of (spelling t s) = (_, refl)
 
 heads_up_to : (x y : ℕ) (xs ys : List ℕ) → is_le (word_cmp (x ∷ xs) (y ∷ ys)) ≡ true → x ≤ y
 heads_up_to x y xs ys h = by (nat_cmp x y) (ranked x y (nat_cmp x y) refl) h
@@ -319,6 +321,8 @@ of_kind true (leaf (facet.Text t)) a b = absurd (omega arith)
 of_kind true (least v) a b = (v, refl)
 of_kind true (greatest (facet.Number n)) a b = absurd (omega arith)
 of_kind true (greatest (facet.Text t)) a b = absurd (omega arith)
+of_kind true (counted t) a b = absurd (omega arith)
+of_kind true (spelling t s) a b = absurd (omega arith)
 of_kind false (mark Exists) a b = absurd (omega arith)
 of_kind false (mark Null) a b = absurd (omega arith)
 of_kind false (mark Empty) a b = absurd (omega arith)
@@ -327,6 +331,8 @@ of_kind false (leaf (facet.Text t)) a b = absurd (omega arith)
 of_kind false (least (facet.Number n)) a b = absurd (omega arith)
 of_kind false (least (facet.Text t)) a b = absurd (omega arith)
 of_kind false (greatest v) a b = (v, refl)
+of_kind false (counted t) a b = absurd (omega arith)
+of_kind false (spelling t s) a b = absurd (omega arith)
 
 value_between : (up : Bool) (a b : FacetValue) (g : Facet) → kind (end_facet up a) ≤ kind g → kind g ≤ kind (end_facet up b) → IsValue up g
 value_between up a b g low high =
@@ -352,10 +358,14 @@ value_case true (mark k) = inr (refl, λ v. let e = v.1 in cc)
 value_case true (leaf w) = inr (refl, λ v. let e = v.1 in cc)
 value_case true (least w) = inl (w, refl)
 value_case true (greatest w) = inr (refl, λ v. let e = v.1 in cc)
+value_case true (counted t) = inr (refl, λ v. let e = v.1 in cc)
+value_case true (spelling t s) = inr (refl, λ v. let e = v.1 in cc)
 value_case false (mark k) = inr (refl, λ v. let e = v.1 in cc)
 value_case false (leaf w) = inr (refl, λ v. let e = v.1 in cc)
 value_case false (least w) = inr (refl, λ v. let e = v.1 in cc)
 value_case false (greatest w) = inl (w, refl)
+value_case false (counted t) = inr (refl, λ v. let e = v.1 in cc)
+value_case false (spelling t s) = inr (refl, λ v. let e = v.1 in cc)
 
 end_value_is : (up : Bool) (v : FacetValue) → end_value up (end_facet up v) ≡ Some v
 end_value_is true v = refl

@@ -23,10 +23,11 @@ use Rattle.facet_keys.specs.Laws.{AreInOrder}
 use Rattle.facet_index.specs.LeavesView.{LeavesView}
 use Rattle.facet_index.specs.Documents.{is_number_that, is_between, has_number_that, passes_at}
 use Rattle.facet_index.specs.Ends.{end_facet, ends_of}
+use Rattle.facet_index.specs.Counted.{counted_of}
 use Rattle.facet_index.specs.Places.{leaf_facets, mark_facets, facets_of, key_of, keys_of, AreNarrow, IsNarrowDocument, IsIndexOf}
 use Rattle.facet_index.specs.Ranges.{is_inside, PassesInside}
 use Rattle.facet_index.proofs.TestLemmas.{both, any_map, any_where, any_implies, any_witness}
-use Rattle.facet_index.proofs.KeyLemmas.{has_key, has_at, facets_say, any_never, ends_none, and_false, or_false, bytes_same, bytes_itself}
+use Rattle.facet_index.proofs.KeyLemmas.{has_key, has_at, facets_say, any_never, ends_none, counted_none, and_false, or_false, bytes_same, bytes_itself}
 
 -- ---- the order of keys
 
@@ -117,13 +118,14 @@ document_between order path low high l h document narrow =
     ∙ facets_say (λ x. (x.0 == path) && inside_ends low high x.1) document
     ∙ ap₂ (λ a b. a || b)
     (any_where (λ x. IsNarrow x.path.0 (leaf x.value)) _ (λ x. (x.path.0 == path) && is_number_that (is_between low high) x.value) document.leaves
-    (leaves_narrow document.leaves (first_part (leaf_facets document.leaves) (mark_facets document.marks ++ ends_of document.leaves) narrow))
+    (leaves_narrow document.leaves (first_part (leaf_facets document.leaves) (mark_facets document.marks ++ (ends_of document.leaves ++ counted_of document.leaves)) narrow))
     (λ x each. ap (λ b. (x.path.0 == path) && b) (value_between order low high x.value l.1 h.1 each.1)))
     (ap₂ (λ a b. a || b)
     (any_never (λ x. (x.path.0 == path) && inside_ends low high (mark x.kind)) document.marks
     (λ x. ap (λ b. (x.path.0 == path) && b) (mark_between low high x.kind) ∙ and_false (x.path.0 == path)))
-    (ends_none (λ x. (x.0 == path) && inside_ends low high x.1) document.leaves
-    (λ up q v. ap (λ b. (q == path) && b) (end_between low high up v) ∙ and_false (q == path))))
+    (ap₂ (λ a b. a || b) (ends_none (λ x. (x.0 == path) && inside_ends low high x.1) document.leaves
+    (λ up q v. ap (λ b. (q == path) && b) (end_between low high up v) ∙ and_false (q == path)))
+    (counted_none (λ x. (x.0 == path) && inside_ends low high x.1) [] document.leaves (λ q t. and_false (q == path)) (λ q t s. and_false (q == path)))))
     ∙ or_false (has_number_that (is_between low high) path document)
 
 -- the documents of keys between two ends

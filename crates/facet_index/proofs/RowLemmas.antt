@@ -66,7 +66,7 @@ later_sorted key list rows sorted = sorted_tail word_cmp key (keys_of rows) sort
 pub value_here : (r : List ℕ × List ℕ) (rows : List (List ℕ × List ℕ)) → value_at r.0 (r ∷ rows) ≡ Some r.1
 value_here r rows = cond-true _ _ _ ((eq_by_cmp_equiv nat_list_cmp_total).refl r.0)
 
-value_later : (w key : List ℕ) (list : List ℕ) (rows : List (List ℕ × List ℕ)) → word_cmp key w ≡ Less → value_at w ((key, list) ∷ rows) ≡ value_at w rows
+pub value_later : (w key : List ℕ) (list : List ℕ) (rows : List (List ℕ × List ℕ)) → word_cmp key w ≡ Less → value_at w ((key, list) ∷ rows) ≡ value_at w rows
 value_later w key list rows less = cond-false _ _ _ (ap is_eq (nat_list_cmp_total.antisymm w key ∙ ap ordering_reverse less))
 
 -- a row that lists the document, and the rows that it stands among
@@ -131,12 +131,12 @@ to_listed last key list d (r ∷ rs) h le has = by (is_eq (word_cmp key r.0)) re
 abbrev pub AreRowsFrom : List ℕ → PostingsView → List (List ℕ × List ℕ) → Type 0
 AreRowsFrom first view rows = (key : List ℕ) → value_at key rows ≡ cond (is_le (word_cmp first key)) (some_list (list_at key view)) None
 
-shown_list : (b : Bool) (entries list : List ℕ) → cond b (some_list entries) None ≡ Some list → (b ≡ true) × (entries ≡ list)
+pub shown_list : (b : Bool) (entries list : List ℕ) → cond b (some_list entries) None ≡ Some list → (b ≡ true) × (entries ≡ list)
 shown_list true [] list h = absurd (cc)
 shown_list true (x ∷ xs) list h = (refl, same_list (x ∷ xs) list h)
 shown_list false entries list h = absurd (cc)
 
-some_document : (d : ℕ) (entries : List ℕ) → has_document d entries ≡ true → some_list entries ≡ Some entries
+pub some_document : (d : ℕ) (entries : List ℕ) → has_document d entries ≡ true → some_list entries ≡ Some entries
 some_document d [] h = absurd (cc)
 some_document d (x ∷ xs) h = refl
 

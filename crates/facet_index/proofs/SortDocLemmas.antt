@@ -1,10 +1,10 @@
 -- The documents of an entry.
-use Rattle.std.proofs.Common.{◌≡◌, ℕ, Bool, true, false, not, ◌&&◌, ◌||◌, ◌==◌, cond, List, [], ◌∷◌, Option, None, Some, Result, Ok, Err, map, refl, sym, ap, ap₂, ◌∙◌}
-use Rattle.std.specs.List.{filter, list_any}
+use Rattle.std.proofs.Common.{◌≡◌, ℕ, Bool, true, false, not, ◌&&◌, ◌||◌, ◌==◌, cond, List, [], ◌∷◌, Option, None, Some, Result, Ok, Err, map, refl, sym, ap, ◌∙◌}
+use Rattle.std.specs.List.{filter}
 use Rattle.std.specs.Option.{option_map}
 use Rattle.std.specs.Result.{IfOk}
 use Rattle.doc_sets.specs.SetView.{SetView}
-use Rattle.std.proofs.lemmas.Bool.{eq-eqb, eqb-true}
+use Rattle.std.proofs.lemmas.Bool.{eqb-true}
 use Rattle.search_base.specs.declared.cost_key.CostKey.{CostKey}
 use Rattle.search_base.specs.declared.value.FacetValue.{FacetValue}
 use Rattle.search_base.specs.CostOrder.{before}
@@ -19,7 +19,7 @@ use Rattle.facet_index.specs.Documents.{passes_at}
 use Rattle.facet_index.specs.Ends.{first_value, end_facet}
 use Rattle.facet_index.specs.Places.{keyed, IsIndexOf, has_document}
 use Rattle.facet_index.specs.Batches.{has_id, AreApart, document_at}
-use Rattle.facet_index.specs.Sorts.{sort_entry, entry_at, sort_key}
+use Rattle.facet_index.specs.Sorts.{entry_at, sort_key}
 use Rattle.facet_index.specs.Starts.{entry_of, entry_value}
 use Rattle.facet_index.proofs.TestLemmas.{any_map, filter_same}
 use Rattle.facet_index.proofs.KeyLemmas.{documents_at_key, facet_key}

@@ -1,13 +1,11 @@
 -- Entries and the keys of their values are in one order.
-use Rattle.std.proofs.Common.{◌≡◌, ℕ, ℤ, pos, negsuc, ◌-◌, ◌^◌, ◌<◌, ◌≤◌, Bool, true, false, not, ◌&&◌, cond, int_lt, List, [], ◌∷◌, ◌++◌, Option, None, Some, map, refl, sym, ap, ap₂, subst, ◌∙◌, arith}
+use Rattle.std.proofs.Common.{◌≡◌, ℕ, ℤ, pos, negsuc, ◌^◌, ◌<◌, Bool, true, false, not, ◌&&◌, cond, int_lt, List, [], ◌∷◌, Option, None, Some, map, refl, sym, ap, ap₂, ◌∙◌, arith}
 use Rattle.std.specs.declared.cmp.Ordering.{Ordering}
 use Rattle.std.specs.declared.cmp.Ordering.TheVariants.{Less, Equal, Greater}
-use Rattle.std.specs.Ordering.{nat_cmp, int_cmp, is_lt, is_le, is_eq, ordering_then, ordering_reverse}
-use Rattle.std.specs.Cmp.Lexicographic.{slice_cmp, nat_list_cmp_total}
+use Rattle.std.specs.Ordering.{int_cmp, is_lt, is_le, is_eq, ordering_then, ordering_reverse}
+use Rattle.std.specs.Cmp.Lexicographic.{nat_list_cmp_total}
 use Rattle.std.specs.Option.{option_map}
 use Rattle.std.specs.Str.{bytes_eq}
-use Rattle.std.specs.Int.{w128}
-use Rattle.std.specs.Int.RustNames.{FitsSigned}
 use Rattle.std.proofs.lemmas.Bool.Decides.{nat_tests}
 use Rattle.std.proofs.lemmas.Cmp.{nat_cmp_total, tied_itself}
 use Rattle.std.proofs.lemmas.Map.Text.{is_eq-slice_cmp}
@@ -29,7 +27,7 @@ use Rattle.facet_index.specs.declared.sorts.Start.{Start}
 use Rattle.facet_index.specs.Documents.{is_same}
 use Rattle.facet_index.specs.Ends.{value_before, first_value, end_facet}
 use Rattle.facet_index.specs.Sorts.{if_there, sort_entry}
-use Rattle.facet_index.specs.Starts.{value_key, entry_of, key_value, entry_value, first_start, behind_key, start_of, word_order, is_from}
+use Rattle.facet_index.specs.Starts.{value_key, entry_of, entry_value, first_start, behind_key, start_of, word_order, is_from}
 
 -- ---- the value that comes first is what a document is sorted by
 

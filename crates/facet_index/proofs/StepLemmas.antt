@@ -1,5 +1,5 @@
 -- The next word in a direction.
-use Rattle.std.proofs.Common.{◌≡◌, ℕ, Bool, true, false, not, cond, List, [], ◌∷◌, Option, None, Some, refl, sym, ap, ap₂, subst, ◌∙◌}
+use Rattle.std.proofs.Common.{◌≡◌, ℕ, Bool, true, false, not, cond, List, [], ◌∷◌, Option, None, Some, refl, sym, ap, subst, ◌∙◌}
 use Rattle.std.specs.declared.cmp.Ordering.{Ordering}
 use Rattle.std.specs.declared.cmp.Ordering.TheVariants.{Less, Equal, Greater}
 use Rattle.std.specs.declared.ops.Bound.{Bound}
@@ -9,13 +9,12 @@ use Rattle.std.specs.BTreeMap.Range.{is_from_start, is_past_end}
 use Rattle.std.specs.List.{AllByRecursion}
 use Rattle.std.specs.List.Sorted.{IsStrictlySortedBy}
 use Rattle.std.specs.Map.{keys_of}
-use Rattle.std.specs.Option.{IfSome, IfNone}
 use Rattle.std.proofs.lemmas.Cmp.{tied_itself}
 use Rattle.std.proofs.lemmas.Map.Keys.{sorted_head}
 use Rattle.std.proofs.lemmas.Map.Lookups.{exact_bytes}
 use Rattle.postings.specs.Dictionary.{PostingsView, word_cmp, value_at, list_at, some_list}
 use Rattle.postings.specs.Words.{IsLast, HasNone}
-use Rattle.facet_index.specs.Starts.{word_order, bound_by, is_from, IsNext, HasNoneFrom}
+use Rattle.facet_index.specs.Starts.{bound_by, is_from, IsNext, HasNoneFrom}
 use Rattle.facet_index.proofs.RowLemmas.{value_here}
 
 -- the rows from a bound on, of posting lists

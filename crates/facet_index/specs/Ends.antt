@@ -1,5 +1,5 @@
 -- The value under a path that comes first, ascending or descending.
-use Rattle.std.specs.Prelude.{ℕ, ℤ, int_lt, ◌==◌, Bool, true, false, List, [], ◌∷◌, ◌++◌, map, flat_map, Option, Some, None, if◌then◌else◌}
+use Rattle.std.specs.Prelude.{ℕ, int_lt, ◌==◌, Bool, true, false, List, [], ◌∷◌, ◌++◌, map, flat_map, Option, Some, None, if◌then◌else◌}
 use Rattle.std.specs.List.{list_any}
 use Rattle.search_base.specs.declared.document.Leaf.{Leaf}
 use Rattle.search_base.specs.declared.value.FacetValue.{FacetValue}

@@ -2,6 +2,7 @@
 pub mod LeavesView
 pub mod Documents
 pub mod Ends
+pub mod Counted
 pub mod Places
 pub mod Batches
 pub mod Ranges

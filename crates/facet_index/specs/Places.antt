@@ -10,6 +10,7 @@ use Rattle.postings.specs.Fresh.{StandsFor}
 use Rattle.facet_keys.specs.Keys.{Facet, leaf, mark, key_bytes, IsNarrow}
 use Rattle.facet_index.specs.LeavesView.{LeavesView}
 use Rattle.facet_index.specs.Ends.{ends_of}
+use Rattle.facet_index.specs.Counted.{counted_of}
 
 abbrev pub leaf_facets : List Leaf → List (ℕ × Facet)
 leaf_facets leaves = map (λ x. (x.path.0, leaf x.value)) leaves
@@ -17,9 +18,11 @@ leaf_facets leaves = map (λ x. (x.path.0, leaf x.value)) leaves
 abbrev pub mark_facets : List Mark → List (ℕ × Facet)
 mark_facets marks = map (λ x. (x.path.0, mark x.kind)) marks
 
--- the facets of a document under their paths: its values, its marks, and under each path the values that come first
+-- the facets of a document under their paths: its values, its marks, the values that come first, and the texts as which
+-- values are counted
 abbrev pub facets_of : LeavesView → List (ℕ × Facet)
-facets_of document = leaf_facets document.leaves ++ (mark_facets document.marks ++ ends_of document.leaves)
+facets_of document = leaf_facets document.leaves
+    ++ (mark_facets document.marks ++ (ends_of document.leaves ++ counted_of document.leaves))
 
 abbrev pub key_of : ℕ × Facet → List ℕ
 key_of x = key_bytes x.0 x.1

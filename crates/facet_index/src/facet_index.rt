@@ -40,6 +40,13 @@ impl FacetIndex {
         }
     }
 
+    /// The keys of facets with their documents, each of which stands at position 0 of path 0.
+    pub fn keys(&self) -> &Postings
+        ensures { result.now ≡ self.now }
+    {
+        &self.keys
+    }
+
     /// The documents of the universe that have a leaf of this value under the path.
     pub fn equal(
         &self,

@@ -2,6 +2,7 @@ ghost use Rattle.std.specs.Prelude.{◌≡◌, ℕ, ◌++◌, IfOk, OnOk};
 ghost use Rattle.facet_index.specs.LeavesView.{leaves_at};
 ghost use Rattle.facet_index.specs.Places.{keyed, place_of, places_of as places_in, leaf_facets, mark_facets, AreNarrow, IsNarrowDocument};
 
+use crate::counted::add_counted;
 use crate::ends::add_ends;
 use facet_keys::{mark_key, value_key};
 use search_base::{Leaf, Mark, NoMemory, PathId, Place, Word};
@@ -21,6 +22,7 @@ pub(crate) fn places_of(
     add_leaves(alloc, &mut places, leaves)?;
     add_marks(alloc, &mut places, marks)?;
     add_ends(alloc, &mut places, leaves)?;
+    add_counted(alloc, &mut places, leaves)?;
     Ok(places)
 }
 

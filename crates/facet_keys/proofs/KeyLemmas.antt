@@ -1,5 +1,6 @@
 -- Keys tell facets apart, and are in order.
-use Rattle.std.proofs.Common.{◌≡◌, ◌≢◌, ℕ, ℤ, pos, negsuc, zero, suc, ◌+◌, ◌-◌, ◌*◌, ◌^◌, ◌<◌, ◌≤◌, List, [], ◌∷◌, refl, sym, ap, ap₂, ◌∙◌, arith, append-nil}
+use Rattle.std.proofs.Common.{◌≡◌, ◌≢◌, ℕ, ℤ, pos, negsuc, zero, suc, ◌+◌, ◌-◌, ◌*◌, ◌^◌, ◌<◌, ◌≤◌, List, [], ◌∷◌, length, ◌%◌, ◌++◌, refl, sym, ap, ap₂, ◌∙◌, arith, append-nil}
+use Rattle.std.specs.Bool.{⊤}
 use Rattle.std.specs.declared.cmp.Ordering.{Ordering}
 use Rattle.std.specs.declared.cmp.Ordering.TheVariants.{Less, Equal, Greater}
 use Rattle.std.specs.Ordering.{nat_cmp, int_cmp, ordering_then}
@@ -14,7 +15,7 @@ use Rattle.search_base.specs.declared.document.MarkKind.{MarkKind}
 use Rattle.search_base.specs.declared.document.MarkKind.TheVariants.{Exists, Null, Empty}
 use Rattle.search_base.specs.declared.value.FacetValue.{FacetValue}
 use Rattle.search_base.specs.declared.value.FacetValue.TheVariants as facet
-use Rattle.facet_keys.specs.Keys.{Facet, mark, leaf, least, greatest, from_least, number_bytes, kind_of_mark, value_bytes, facet_bytes, key_bytes, IsNarrowValue, IsNarrowFacet, IsNarrow}
+use Rattle.facet_keys.specs.Keys.{Facet, mark, leaf, least, greatest, counted, spelling, digits, from_least, number_bytes, kind_of_mark, value_bytes, facet_bytes, key_bytes, IsNarrowValue, IsNarrowFacet, IsNarrow}
 use Rattle.facet_keys.specs.Laws.{AreApart}
 use Rattle.facet_keys.proofs.DigitLemmas.{digits_order}
 
@@ -122,23 +123,85 @@ mark_back Empty = refl
 same_mark : (a b : MarkKind) → kind_of_mark a ∷ [] ≡ kind_of_mark b ∷ [] → a ≡ b
 same_mark a b e = sym (mark_back a) ∙ ap mark_at (ap head e) ∙ mark_back b
 
+-- texts are behind the kinds of values
+abbrev IsValue : Facet → Type 0
+IsValue (counted text) = ⊥
+IsValue (spelling text shown) = ⊥
+IsValue _ = ⊤
+
+low_use : (f : Facet) → IsValue f → head (facet_bytes f) < 9
+low_use (mark kind) h = let low = low_mark kind in omega arith
+low_use (leaf (facet.Number n)) h = omega arith
+low_use (leaf (facet.Text text)) h = omega arith
+low_use (least (facet.Number n)) h = omega arith
+low_use (least (facet.Text text)) h = omega arith
+low_use (greatest (facet.Number n)) h = omega arith
+low_use (greatest (facet.Text text)) h = omega arith
+low_use (counted text) h = absurd h
+low_use (spelling text shown) h = absurd h
+
+early : (kind : ℕ) (f : Facet) → head (facet_bytes f) < 9 → 9 ≤ kind → head (facet_bytes f) ≡ kind → ⊥
+early kind f low high e = omega arith
+
+differ : (k l : ℕ) (x y : List ℕ) → k < l → k ∷ x ≡ l ∷ y → ⊥
+differ k l x y low e = let same : k ≡ l = ap head e in omega arith
+
+-- texts behind their lengths
+same_spelling : (s x t y : List ℕ) → length s < 2 ^ 64 → length t < 2 ^ 64
+    → digits 10 (length s) ++ (s ++ x) ≡ digits 10 (length t) ++ (t ++ y) → (s ≡ t) × (x ≡ y)
+same_spelling s x t y p q e =
+    let orders = both_equal (nat_cmp (length s % 2 ^ (7 * 10)) (length t % 2 ^ (7 * 10))) (slice_cmp nat_cmp (s ++ x) (t ++ y))
+    (sym (digits_order 10 (length s) (length t) (s ++ x) (t ++ y)) ∙ ap (slice_cmp nat_cmp (digits 10 (length s) ++ (s ++ x))) (sym e)
+    ∙ tied_itself nat_list_cmp_total (digits 10 (length s) ++ (s ++ x))) in
+    split s t (sym (mod-eq_of_lt (low (length s) p)) ∙ ranked _ _ Equal (sym orders.0) ∙ mod-eq_of_lt (low (length t) q))
+    (exact_bytes (s ++ x) (t ++ y) orders.1)
+  where
+    low : (n : ℕ) → n < 2 ^ 64 → n < 2 ^ (7 * 10)
+    low n h = omega arith
+
+    split : (s t : List ℕ) → length s ≡ length t → s ++ x ≡ t ++ y → (s ≡ t) × (x ≡ y)
+    split [] [] same e = (refl, e)
+    split [] (b ∷ t) same e = absurd (omega arith)
+    split (a ∷ s) [] same e = absurd (omega arith)
+    split (a ∷ s) (b ∷ t) same e = let rest = split s t (omega arith) (ap tail e) in (ap₂ (λ c r. c ∷ r) (ap head e) rest.0, rest.1)
+
 same_facet : (a b : Facet) → IsNarrowFacet a → IsNarrowFacet b → facet_bytes a ≡ facet_bytes b → a ≡ b
 same_facet (mark a) (mark b) p q e = ap mark (same_mark a b e)
 same_facet (mark a) (leaf w) p q e = absurd (no_value a 3 4 w (omega arith) (omega arith) e)
 same_facet (mark a) (least w) p q e = absurd (no_value a 5 6 w (omega arith) (omega arith) e)
 same_facet (mark a) (greatest w) p q e = absurd (no_value a 8 7 w (omega arith) (omega arith) e)
+same_facet (mark a) (counted t) p q e = absurd (early 9 (mark a) (low_use (mark a) tt) (omega arith) (ap head e))
+same_facet (mark a) (spelling t y) p q e = absurd (early 10 (mark a) (low_use (mark a) tt) (omega arith) (ap head e))
 same_facet (leaf v) (mark b) p q e = absurd (no_value b 3 4 v (omega arith) (omega arith) (sym e))
 same_facet (leaf v) (leaf w) p q e = ap leaf (same_value 3 4 (omega arith) v w p q e)
 same_facet (leaf v) (least w) p q e = absurd (other_use 3 4 5 6 v w (omega arith) (omega arith) (omega arith) (omega arith) e)
 same_facet (leaf v) (greatest w) p q e = absurd (other_use 3 4 8 7 v w (omega arith) (omega arith) (omega arith) (omega arith) e)
+same_facet (leaf v) (counted t) p q e = absurd (early 9 (leaf v) (low_use (leaf v) tt) (omega arith) (ap head e))
+same_facet (leaf v) (spelling t y) p q e = absurd (early 10 (leaf v) (low_use (leaf v) tt) (omega arith) (ap head e))
 same_facet (least v) (mark b) p q e = absurd (no_value b 5 6 v (omega arith) (omega arith) (sym e))
 same_facet (least v) (leaf w) p q e = absurd (other_use 3 4 5 6 w v (omega arith) (omega arith) (omega arith) (omega arith) (sym e))
 same_facet (least v) (least w) p q e = ap least (same_value 5 6 (omega arith) v w p q e)
 same_facet (least v) (greatest w) p q e = absurd (other_use 5 6 8 7 v w (omega arith) (omega arith) (omega arith) (omega arith) e)
+same_facet (least v) (counted t) p q e = absurd (early 9 (least v) (low_use (least v) tt) (omega arith) (ap head e))
+same_facet (least v) (spelling t y) p q e = absurd (early 10 (least v) (low_use (least v) tt) (omega arith) (ap head e))
 same_facet (greatest v) (mark b) p q e = absurd (no_value b 8 7 v (omega arith) (omega arith) (sym e))
 same_facet (greatest v) (leaf w) p q e = absurd (other_use 3 4 8 7 w v (omega arith) (omega arith) (omega arith) (omega arith) (sym e))
 same_facet (greatest v) (least w) p q e = absurd (other_use 5 6 8 7 w v (omega arith) (omega arith) (omega arith) (omega arith) (sym e))
 same_facet (greatest v) (greatest w) p q e = ap greatest (same_value 8 7 (omega arith) v w p q e)
+same_facet (greatest v) (counted t) p q e = absurd (early 9 (greatest v) (low_use (greatest v) tt) (omega arith) (ap head e))
+same_facet (greatest v) (spelling t y) p q e = absurd (early 10 (greatest v) (low_use (greatest v) tt) (omega arith) (ap head e))
+same_facet (counted s) (mark b) p q e = absurd (early 9 (mark b) (low_use (mark b) tt) (omega arith) (sym (ap head e)))
+same_facet (counted s) (leaf w) p q e = absurd (early 9 (leaf w) (low_use (leaf w) tt) (omega arith) (sym (ap head e)))
+same_facet (counted s) (least w) p q e = absurd (early 9 (least w) (low_use (least w) tt) (omega arith) (sym (ap head e)))
+same_facet (counted s) (greatest w) p q e = absurd (early 9 (greatest w) (low_use (greatest w) tt) (omega arith) (sym (ap head e)))
+same_facet (counted s) (counted t) p q e = ap counted (ap tail e)
+same_facet (counted s) (spelling t y) p q e = absurd (differ 9 10 s (digits 10 (length t) ++ (t ++ y)) (omega arith) e)
+same_facet (spelling s x) (mark b) p q e = absurd (early 10 (mark b) (low_use (mark b) tt) (omega arith) (sym (ap head e)))
+same_facet (spelling s x) (leaf w) p q e = absurd (early 10 (leaf w) (low_use (leaf w) tt) (omega arith) (sym (ap head e)))
+same_facet (spelling s x) (least w) p q e = absurd (early 10 (least w) (low_use (least w) tt) (omega arith) (sym (ap head e)))
+same_facet (spelling s x) (greatest w) p q e = absurd (early 10 (greatest w) (low_use (greatest w) tt) (omega arith) (sym (ap head e)))
+same_facet (spelling s x) (counted t) p q e = absurd (differ 9 10 t (digits 10 (length s) ++ (s ++ x)) (omega arith) (sym e))
+same_facet (spelling s x) (spelling t y) p q e = let parts = same_spelling s x t y p q (ap tail e) in ap₂ spelling parts.0 parts.1
 
 pub apart : AreApart
 apart path other a b p q e =

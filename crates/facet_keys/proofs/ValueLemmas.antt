@@ -1,5 +1,5 @@
 -- The value of a key is that of its facet.
-use Rattle.std.proofs.Common.{◌≡◌, ◌≢◌, Result, Ok, Err, drop-cons, ℕ, ℤ, pos, negsuc, zero, suc, ◌+◌, ◌-◌, ◌*◌, ◌/◌, ◌%◌, ◌^◌, ◌<◌, ◌≤◌, ◌==◌, Bool, true, false, cond, List, [], ◌∷◌, ◌++◌, length, drop, get_or, Option, None, Some, refl, sym, ap, ap₂, subst, ◌∙◌, arith}
+use Rattle.std.proofs.Common.{◌≡◌, ◌≢◌, Result, Ok, Err, drop-cons, ℕ, ℤ, pos, negsuc, zero, suc, ◌+◌, ◌*◌, ◌/◌, ◌%◌, ◌^◌, ◌<◌, ◌≤◌, ◌==◌, Bool, true, false, cond, List, [], ◌∷◌, length, drop, get_or, Option, None, Some, refl, sym, ap, ap₂, subst, ◌∙◌, arith}
 use Rattle.std.specs.Int.{w128}
 use Rattle.std.specs.Int.RustNames.{FitsSigned}
 use Rattle.std.specs.Str.{IsUtf8, is_utf8}
@@ -9,11 +9,10 @@ use Rattle.std.proofs.lemmas.Bool.Decides.{nat_tests}
 use Rattle.std.proofs.lemmas.Str.{is_utf8-from_IsUtf8, IsUtf8-from_is_utf8, IsUtf8-drop, IsCharBoundary-after_ascii}
 use Rattle.std.proofs.lemmas.Nat.{pow-add}
 use Rattle.std.proofs.Math.Nat.{div-div-eq-div-mul}
-use Rattle.search_base.specs.declared.document.MarkKind.{MarkKind}
 use Rattle.search_base.specs.declared.document.MarkKind.TheVariants.{Exists, Null, Empty}
 use Rattle.search_base.specs.declared.value.FacetValue.{FacetValue}
 use Rattle.search_base.specs.declared.value.FacetValue.TheVariants as facet
-use Rattle.facet_keys.specs.Keys.{Facet, mark, leaf, least, greatest, digits, from_least, number_bytes, facet_bytes, key_bytes, IsNarrowFacet, IsNarrow}
+use Rattle.facet_keys.specs.Keys.{Facet, mark, leaf, least, greatest, counted, spelling, digits, from_least, number_bytes, facet_bytes, key_bytes, IsNarrowFacet, IsNarrow}
 use Rattle.facet_keys.specs.Values.{end_value, end_under, number_behind, above_least, value_read, path_read}
 
 -- ---- digits
@@ -99,6 +98,8 @@ read_up (least (facet.Number n)) h u = ap (λ m. Some (facet.Number m)) (number_
 read_up (least (facet.Text text)) h u = ap (λ b. cond b (Some (facet.Text text)) None) u
 read_up (greatest (facet.Number n)) h u = refl
 read_up (greatest (facet.Text text)) h u = refl
+read_up (counted text) h u = refl
+read_up (spelling text shown) h u = refl
 
 read_down : (f : Facet) → IsNarrowFacet f → is_utf8 (tail (facet_bytes f)) ≡ true
     → value_read 8 7 (head (facet_bytes f)) (tail (facet_bytes f)) ≡ end_value false f
@@ -112,6 +113,8 @@ read_down (least (facet.Number n)) h u = refl
 read_down (least (facet.Text text)) h u = refl
 read_down (greatest (facet.Number n)) h u = ap (λ m. Some (facet.Number m)) (number_read n h)
 read_down (greatest (facet.Text text)) h u = ap (λ b. cond b (Some (facet.Text text)) None) u
+read_down (counted text) h u = refl
+read_down (spelling text shown) h u = refl
 
 low_kind : (f : Facet) → head (facet_bytes f) < 128
 unfolding head
@@ -124,6 +127,8 @@ low_kind (least (facet.Number n)) = omega arith
 low_kind (least (facet.Text text)) = omega arith
 low_kind (greatest (facet.Number n)) = omega arith
 low_kind (greatest (facet.Text text)) = omega arith
+low_kind (counted text) = omega arith
+low_kind (spelling text shown) = omega arith
 
 -- ---- keys
 
@@ -189,6 +194,8 @@ long_key other (least (facet.Number n)) = omega arith
 long_key other (least (facet.Text text)) = omega arith
 long_key other (greatest (facet.Number n)) = omega arith
 long_key other (greatest (facet.Text text)) = omega arith
+long_key other (counted text) = omega arith
+long_key other (spelling text shown) = omega arith
 
 -- ---- what was read
 

@@ -1,5 +1,5 @@
 -- What is kept of a document under a path, and the bytes of its key.
-use Rattle.std.specs.Prelude.{ℕ, ℤ, pos, negsuc, zero, suc, ◌+◌, ◌-◌, ◌*◌, ◌/◌, ◌%◌, ◌^◌, ◌<◌, List, [], ◌∷◌, ◌++◌, ⊤}
+use Rattle.std.specs.Prelude.{ℕ, ℤ, pos, negsuc, zero, suc, ◌+◌, ◌-◌, ◌*◌, ◌/◌, ◌%◌, ◌^◌, ◌<◌, List, [], ◌∷◌, ◌++◌, length, ⊤}
 use Rattle.std.specs.Int.{w128}
 use Rattle.std.specs.Int.RustNames.{FitsSigned}
 use Rattle.search_base.specs.declared.document.MarkKind.{MarkKind}
@@ -7,12 +7,15 @@ use Rattle.search_base.specs.declared.document.MarkKind.TheVariants.{Exists, Nul
 use Rattle.search_base.specs.declared.value.FacetValue.{FacetValue}
 use Rattle.search_base.specs.declared.value.FacetValue.TheVariants as facet
 
--- a mark, the value of a leaf, or the least or the greatest of the values under the path
+-- a mark, the value of a leaf, the least or the greatest of the values under the path, a text as which values are
+-- counted there, or that text with the spelling of its first leaf
 pub data Facet : Type 0 where
   mark : MarkKind → Facet
   leaf : FacetValue → Facet
   least : FacetValue → Facet
   greatest : FacetValue → Facet
+  counted : List ℕ → Facet
+  spelling : List ℕ → List ℕ → Facet
 
 -- the last digits of a number to the base 128, the greatest first
 unfoldable pub digits : ℕ → ℕ → List ℕ
@@ -43,11 +46,13 @@ facet_bytes (mark kind) = kind_of_mark kind ∷ []
 facet_bytes (leaf v) = value_bytes 3 4 v
 facet_bytes (least v) = value_bytes 5 6 v
 facet_bytes (greatest v) = value_bytes 8 7 v
+facet_bytes (counted text) = 9 ∷ text
+facet_bytes (spelling text shown) = 10 ∷ (digits 10 (length text) ++ (text ++ shown))
 
 abbrev pub key_bytes : ℕ → Facet → List ℕ
 key_bytes path facet = digits 3 path ++ facet_bytes facet
 
--- the ranges of paths and numbers
+-- the ranges of paths, numbers and lengths of texts
 abbrev pub IsNarrowValue : FacetValue → Type 0
 IsNarrowValue (facet.Number n) = FitsSigned w128 n
 IsNarrowValue (facet.Text text) = ⊤
@@ -57,6 +62,8 @@ IsNarrowFacet (mark kind) = ⊤
 IsNarrowFacet (leaf v) = IsNarrowValue v
 IsNarrowFacet (least v) = IsNarrowValue v
 IsNarrowFacet (greatest v) = IsNarrowValue v
+IsNarrowFacet (counted text) = ⊤
+IsNarrowFacet (spelling text shown) = length text < 2 ^ 64
 
 abbrev pub IsNarrow : ℕ → Facet → Type 0
 IsNarrow path facet = (path < 2 ^ 16) × IsNarrowFacet facet

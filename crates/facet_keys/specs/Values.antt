@@ -3,7 +3,7 @@ use Rattle.std.specs.Prelude.{ℕ, ℤ, pos, negsuc, suc, ◌+◌, ◌-◌, ◌*
 use Rattle.std.specs.Str.{is_utf8}
 use Rattle.search_base.specs.declared.value.FacetValue.{FacetValue}
 use Rattle.search_base.specs.declared.value.FacetValue.TheVariants as facet
-use Rattle.facet_keys.specs.Keys.{Facet, mark, leaf, least, greatest}
+use Rattle.facet_keys.specs.Keys.{Facet, least, greatest}
 
 -- the least value, or the greatest one, that a facet is
 abbrev pub end_value : Bool → Facet → Option FacetValue

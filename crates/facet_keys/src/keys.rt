@@ -1,5 +1,5 @@
 ghost use Rattle.std.specs.Prelude.{◌≡◌, ◌<◌, [], ◌∷◌, ◌++◌, IfOk, OnOk, string_bytes};
-ghost use Rattle.facet_keys.specs.Keys.{Facet, mark, leaf, least, greatest, key_bytes, digits, number_bytes, value_bytes, kind_of_mark, IsNarrow};
+ghost use Rattle.facet_keys.specs.Keys.{Facet, mark, leaf, least, greatest, counted, spelling, key_bytes, digits, number_bytes, value_bytes, kind_of_mark, IsNarrow};
 
 use crate::digits::push_digits;
 use search_base::{FacetValue, MarkKind, NoMemory, PathId, Word};
@@ -41,6 +41,32 @@ pub fn greatest_key(alloc: Global, path: PathId, value: &FacetValue) -> Result<W
     ensures narrow { IsNarrow path.0 (greatest value.now) }
 {
     key_of(alloc, path, 8, 7, value)
+}
+
+/// The key of the documents that have a leaf under the path that is counted as this text. That of an empty text begins
+/// those of all texts under the path, which come in the order of the texts.
+pub fn counted_key(alloc: Global, path: PathId, text: &str) -> Result<Word, NoMemory>
+    ensures key { IfOk result (λ key. key ≡ key_bytes path.0 (counted text.now)) }
+    ensures narrow { IsNarrow path.0 (counted text.now) }
+{
+    let mut key = begin_key(alloc, path, 9, text.len())?;
+    key.push_str(text)?;
+    Word::from_string(key)
+}
+
+/// The key of the documents whose first leaf under the path that is counted as this text is spelled so. That of an
+/// empty spelling begins those of all spellings of the text.
+pub fn spelling_key(alloc: Global, path: PathId, text: &str, shown: &str) -> Result<Word, NoMemory>
+    ensures key { IfOk result (λ key. key ≡ key_bytes path.0 (spelling text.now shown.now)) }
+    ensures narrow { IsNarrow path.0 (spelling text.now shown.now) }
+{
+    let length = text.len();
+    let room = length.saturating_add(shown.len()).saturating_add(10);
+    let mut key = begin_key(alloc, path, 10, room)?;
+    push_digits(&mut key, length as u128, 10)?;
+    key.push_str(text)?;
+    key.push_str(shown)?;
+    Word::from_string(key)
 }
 
 // The key of a path and a value, with the kind of numbers or that of texts.

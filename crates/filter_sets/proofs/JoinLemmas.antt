@@ -1,14 +1,9 @@
 -- Sets of the documents that pass, by their members.
-use Rattle.std.proofs.Common.{◌≡◌, ℕ, Bool, true, false, not, ◌&&◌, ◌||◌, cond, List, [], ◌∷◌, Result, Ok, Err, refl, sym, ap, ap₂, ◌∙◌}
+use Rattle.std.proofs.Common.{◌≡◌, ℕ, Bool, true, false, not, ◌&&◌, ◌||◌, cond, List, [], ◌∷◌, refl, sym, ap, ap₂, ◌∙◌}
 use Rattle.std.specs.List.{filter}
-use Rattle.std.specs.Result.{IfOk}
 use Rattle.doc_sets.specs.Sets.{has, IsIncreasing, difference, union}
 use Rattle.doc_sets.specs.Membership.{AreByMembers, AreTheirMembers}
 use Rattle.facet_index.proofs.TestLemmas.{has_filter, increasing_filter}
-
-pub if_ok : {A E : Type 0} (P Q : A → Type 0) (r : Result A E) → ((x : A) → P x → Q x) → IfOk r P → IfOk r Q
-if_ok P Q (Ok x) f h = f x h
-if_ok P Q (Err e) f h = tt
 
 pub except_is : AreByMembers → AreTheirMembers → (all docs rest : List ℕ) (passes : ℕ → Bool) → IsIncreasing rest → IsIncreasing all → rest ≡ difference all docs
     → docs ≡ filter passes all → rest ≡ filter (λ d. not (passes d)) all

@@ -1,16 +1,14 @@
 -- Filters of filters.
-use Rattle.std.proofs.Common.{◌≡◌, ℕ, zero, suc, ◌+◌, ◌<◌, ◌≤◌, Bool, true, false, not, ◌&&◌, ◌||◌, List, [], ◌∷◌, map, drop, length, get_or, Vec, Global, Box, Option, Some, None, refl, sym, ap, ap₂, subst, ◌∙◌, arith, drop-cons}
+use Rattle.std.proofs.Common.{◌≡◌, ℕ, zero, suc, ◌+◌, ◌<◌, ◌≤◌, Bool, true, false, ◌&&◌, ◌||◌, List, [], ◌∷◌, map, drop, length, get_or, refl, sym, ap, ap₂, ◌∙◌, arith, drop-cons}
 use Rattle.std.specs.List.{filter}
-use Rattle.std.specs.Option.{option_map}
 use Rattle.search_base.specs.RowsView.{RowsView}
 use Rattle.doc_sets.specs.Sets.{has}
 use Rattle.doc_sets.specs.Membership.{AreByMembers}
 use Rattle.doc_sets.specs.Sets.{union}
 use Rattle.filter_tree.specs.declared.tree.Filter.{Filter, Filter-F, fold-roll-Filter}
 use Rattle.filter_tree.specs.declared.tree.Filter.TheVariants as filter
-use Rattle.filter_tree.specs.declared.tree.Test.{Test}
-use Rattle.filter_tree.specs.Tree.{Tree, Trees, all, both, either, negation, test, no_trees, tree, trees_of}
-use Rattle.filter_tree.specs.View.{view, view_step, test_view}
+use Rattle.filter_tree.specs.Tree.{Tree, Trees, all, no_trees, tree, trees_of}
+use Rattle.filter_tree.specs.View.{view, view_step}
 use Rattle.row_filter.specs.Holds.{holds, all_hold, one_holds}
 use Rattle.postings.specs.Dictionary.{PostingsView}
 use Rattle.facet_index.specs.LeavesView.{LeavesView}
@@ -68,10 +66,6 @@ or_false : (b : Bool) → (b || false) ≡ b
 or_false true = refl
 or_false false = refl
 
-pub adds_none : (index : PostingsView) (paths : List (List ℕ)) (whole : Trees) (found ids : List ℕ) → found ≡ [] → Adds index paths whole found whole ids
-adds_none index paths whole found ids none = λ documents rows of are d.
-    ap (λ xs. (one_holds paths (rows d) whole && has ids d) || has xs d) none ∙ or_false (one_holds paths (rows d) whole && has ids d)
-
 pub adds_more : AreByMembers → (index : PostingsView) (paths : List (List ℕ)) (members : List Filter) (i : ℕ) (member : Filter) (docs found more ids : List ℕ) (whole : Trees)
     → i < length members → member ≡ get_or members i member → Selects index (λ rows. holds paths rows (view member)) ids docs → more ≡ union docs found
     → Adds index paths (trees_from i members) found whole ids → Adds index paths (trees_from (i + 1) members) more whole ids
@@ -91,12 +85,6 @@ added index paths members i found docs ids whole past adds finish = λ documents
     ap (λ ts. (one_holds paths (rows d) ts && has ids d) || has found d) (sym (no_more members i past)) ∙ adds documents rows of are d)
 
 -- ---- the levels of a filter
-
-pub view_and : (members : Vec Filter Global) → view (filter.And members) ≡ both (trees_of (map view members.items))
-view_and members = ap view (sym (filter.rolls-And members)) ∙ fold-roll-Filter Tree view_step (Filter-F.And members)
-
-pub view_or : (members : Vec Filter Global) → view (filter.Or members) ≡ either (trees_of (map view members.items))
-view_or members = ap view (sym (filter.rolls-Or members)) ∙ fold-roll-Filter Tree view_step (Filter-F.Or members)
 
 view_all : view filter.All ≡ all
 view_all = ap view (sym filter.rolls-All) ∙ fold-roll-Filter Tree view_step Filter-F.All

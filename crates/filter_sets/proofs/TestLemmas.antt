@@ -1,5 +1,5 @@
 -- What the facet index answers is what tests ask of rows.
-use Rattle.std.proofs.Common.{◌≡◌, ℕ, ℤ, suc, zero, ◌+◌, ◌<◌, ◌≤◌, Bool, true, false, not, ◌&&◌, ◌||◌, ◌==◌, cond, int_lt, List, [], ◌∷◌, ◌++◌, map, drop, length, get_or, Option, Some, None, Result, Ok, Err, refl, sym, ap, ap₂, subst, ◌∙◌, arith, drop-cons}
+use Rattle.std.proofs.Common.{◌≡◌, ℕ, ℤ, suc, zero, ◌+◌, ◌<◌, ◌≤◌, Bool, true, false, not, ◌&&◌, ◌||◌, ◌==◌, cond, int_lt, List, [], ◌∷◌, ◌++◌, drop, length, get_or, Option, Some, None, Result, Ok, Err, refl, sym, ap, ap₂, subst, ◌∙◌, arith, drop-cons}
 use Rattle.std.specs.List.{filter, list_any, AllByRecursion}
 use Rattle.std.specs.Result.{IfOk}
 use Rattle.std.specs.Str.{bytes_eq}
@@ -25,10 +25,11 @@ use Rattle.facet_keys.specs.Keys.{leaf, IsNarrowValue, IsNarrow}
 use Rattle.facet_index.specs.LeavesView.{LeavesView}
 use Rattle.facet_index.specs.Documents.{is_same, is_kind, is_number_that, is_between, has_value, has_mark, has_number_that, passes_at}
 use Rattle.facet_index.specs.Batches.{document_at}
+use Rattle.facet_index.specs.Counted.{counted_of}
 use Rattle.facet_index.specs.Ends.{ends_of}
 use Rattle.facet_index.specs.Places.{leaf_facets, mark_facets, IsNarrowDocument, IsIndexOf}
 use Rattle.facet_index.proofs.TestLemmas.{any_same, any_where, filter_same, has_filter}
-use Rattle.facet_index.proofs.KeyLemmas.{and_false, or_false, bytes_same, bytes_itself}
+use Rattle.facet_index.proofs.KeyLemmas.{and_false, bytes_same, bytes_itself}
 use Rattle.facet_index.proofs.RangeLemmas.{leaves_narrow, first_part}
 use Rattle.facet_index.proofs.SortDocLemmas.{if_passes, passes_is, documents_apart}
 use Rattle.filter_sets.specs.Selects.{leaves_of, marks_of, AreRowsOf, Selects, AreBetween}
@@ -108,7 +109,7 @@ pub number_selects : (index : PostingsView) (path : ℕ) (passes wanted : ℤ �
     → Selects index (λ rows. some_number wanted (leaves_under path rows.leaves)) ids docs
 number_selects index path passes wanted ids docs says = selects_of index (has_number_that passes path) (λ rows. some_number wanted (leaves_under path rows.leaves)) ids docs
     (λ x rows narrow leaves marks.
-    numbers_same passes wanted says path x.leaves (leaves_narrow x.leaves (first_part (leaf_facets x.leaves) (mark_facets x.marks ++ ends_of x.leaves) narrow))
+    numbers_same passes wanted says path x.leaves (leaves_narrow x.leaves (first_part (leaf_facets x.leaves) (mark_facets x.marks ++ (ends_of x.leaves ++ counted_of x.leaves)) narrow))
     ∙ any_under (λ y. row.is_number_that wanted y.value) path x.leaves
     ∙ ap (λ ls. some_number wanted (leaves_under path ls)) (sym leaves))
     (λ rows leaves marks. ap (λ ls. some_number wanted (leaves_under path ls)) (sym leaves))
@@ -203,14 +204,6 @@ abbrev pub AddsEqual : PostingsView → ℕ → List (List ℕ) → List ℕ →
 AddsEqual index path left found texts ids = (documents : List LeavesView) (rows : ℕ → RowsView) → IsIndexOf index documents → AreRowsOf rows documents
     → (d : ℕ) → ((equals_any path left (rows d) && has ids d) || has found d) ≡ (equals_any path texts (rows d) && has ids d)
 
-pub equal_none : (index : PostingsView) (path : ℕ) (texts : List (List ℕ)) (found ids : List ℕ) → found ≡ [] → AddsEqual index path texts found texts ids
-equal_none index path texts found ids none = λ documents rows of are d.
-    ap (λ xs. (equals_any path texts (rows d) && has ids d) || has xs d) none ∙ or_false (equals_any path texts (rows d) && has ids d)
-  where
-    or_false : (b : Bool) → (b || false) ≡ b
-    or_false true = refl
-    or_false false = refl
-
 pub equal_more : AreByMembers → (index : PostingsView) (path : ℕ) (texts : List (List ℕ)) (i : ℕ) (text docs found more ids : List ℕ) → i < length texts
     → text ≡ get_or texts i text → Selects index (λ rows. some_value (is_equal text) (leaves_under path rows.leaves)) ids docs → more ≡ union docs found
     → AddsEqual index path (drop i texts) found texts ids → AddsEqual index path (drop (i + 1) texts) more texts ids
@@ -302,15 +295,6 @@ both_equal index path text n ids docs more all written forms numbers joined = λ
     ∙ filter_same _ (λ d. some_value (is_equal text) (leaves_under path (rows d).leaves)) ids
     (λ d. ap (λ o. some_value (is_same (facet.Text (normal text))) (leaves_under path (rows d).leaves) || some_value (is_written o) (leaves_under path (rows d).leaves)) written
     ∙ equal_to text (leaves_under path (rows d).leaves))
-
-pub form_equal : (index : PostingsView) (path : ℕ) (text : List ℕ) (ids docs : List ℕ) → None ≡ number_of text
-    → Selects index (λ rows. some_value (is_same (facet.Text (normal text))) (leaves_under path rows.leaves)) ids docs
-    → Selects index (λ rows. some_value (is_equal text) (leaves_under path rows.leaves)) ids docs
-form_equal index path text ids docs written = selects_same index _ (λ rows. some_value (is_equal text) (leaves_under path rows.leaves)) ids docs
-    (λ rows. sym (or_false (some_value (is_same (facet.Text (normal text))) (leaves_under path rows.leaves)))
-    ∙ ap (λ b. some_value (is_same (facet.Text (normal text))) (leaves_under path rows.leaves) || b)
-    (sym (none_written (leaves_under path rows.leaves)) ∙ ap (λ o. some_value (is_written o) (leaves_under path rows.leaves)) written)
-    ∙ equal_to text (leaves_under path rows.leaves))
 
 pub either_answer : {E : Type 0} (index : PostingsView) (path : ℕ) (text form : List ℕ) (n n' : ℤ) (ids docs more : List ℕ) → n' ≡ n → form ≡ normal text → Some n ≡ number_of text
     → Selects index (λ rows. some_value (is_same (facet.Text form)) (leaves_under path rows.leaves)) ids docs

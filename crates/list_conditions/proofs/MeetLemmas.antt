@@ -1,9 +1,6 @@
 -- The documents that meet a condition, by what posting lists say of them.
-use Rattle.std.proofs.Common.{◌≡◌, ℕ, zero, suc, ◌+◌, ◌<◌, ◌≤◌, ◌==◌, Bool, true, List, [], ◌∷◌, map, length, drop, get_or, slice_get, Option, Some, None, refl, sym, ap, ◌∙◌, arith}
+use Rattle.std.proofs.Common.{◌≡◌, ℕ, zero, suc, ◌+◌, ◌<◌, Bool, true, List, [], ◌∷◌, map, length, slice_get, Option, Some, refl, sym, ap, ◌∙◌, arith}
 use Rattle.std.specs.List.{filter, range_with_len}
-use Rattle.std.proofs.lemmas.Bool.{cond-true, cond-false, eq-eqb, ne_eqb}
-use Rattle.std.proofs.lemmas.List.{drop_more}
-use Rattle.search_base.specs.BlockCosts.{least_rank, least_bucket}
 use Rattle.search_base.specs.Bucket.{bucket_of}
 use Rattle.search_base.specs.PairCost.{asked_cost}
 use Rattle.search_base.specs.TermView.{TermView}
@@ -12,10 +9,9 @@ use Rattle.postings.specs.Dictionary.{PostingsView}
 use Rattle.postings.specs.Documents.{Document, places_of}
 use Rattle.postings.specs.Fresh.{StandsFor}
 use Rattle.posting_sets.specs.Blocks.{AreOfBlocks}
-use Rattle.posting_sets.specs.Found.{AreOccurring}
 use Rattle.posting_sets.specs.Numbers.{rank_at, set_at, AreNumbered}
 use Rattle.near_words.specs.ByCost.{ids_at, ids_by_cost}
-use Rattle.condition_graph.specs.declared.condition.Condition.TheVariants.{Free, Occurs, Pair, AtRank, AtBucket}
+use Rattle.condition_graph.specs.declared.condition.Condition.TheVariants.{Free, Pair, AtRank, AtBucket}
 use Rattle.list_conditions.specs.Meeting.{AreMeeting}
 
 all_pass : (ids : List ℕ) → ids ≡ filter (λ id. true) ids
@@ -24,10 +20,6 @@ all_pass (id ∷ ids) = ap (λ rest. id ∷ rest) (all_pass ids)
 
 pub free_is : (view : PostingsView) (ranks : List (Option ℕ)) (universe ids : List ℕ) → ids ≡ universe → AreMeeting view ranks Free universe ids
 free_is view ranks universe ids same documents fresh have = same ∙ all_pass universe
-
-pub occurs_is : (view : PostingsView) (ranks : List (Option ℕ)) (term : TermView) (universe ids : List ℕ) → AreOccurring view term universe ids
-    → AreMeeting view ranks (Occurs term) universe ids
-occurs_is view ranks term universe ids found documents fresh have = found documents fresh
 
 -- ---- one set of several
 get_map : (sets : List SetView) (k : ℕ) (set : SetView) → slice_get sets k ≡ Some set → slice_get (map (λ (s : SetView). s.ids) sets) k ≡ Some set.ids
@@ -62,30 +54,7 @@ pair_is view ranks left right prefix cost universe sets set low all here documen
     lengths [] = refl
     lengths (x ∷ xs) = ap suc (lengths xs)
 
--- ---- the row of a number
-pub row_at : (number i : ℕ) (rows : List (ℕ × SetView)) (row : ℕ × SetView) → i < length rows → row ≡ get_or rows i row → row.0 ≡ number
-    → set_at number (drop i rows) ≡ row.1.ids
-row_at number i rows row inside is same =
-    ap (set_at number) (drop_more rows i row inside)
-    ∙ ap (λ (r : ℕ × SetView). set_at number (r ∷ drop (i + 1) rows)) (sym is)
-    ∙ cond-true _ _ _ (eq-eqb row.0 number same)
-
-pub row_past : (number i : ℕ) (rows : List (ℕ × SetView)) (row : ℕ × SetView) → i < length rows → row ≡ get_or rows i row → (row.0 ≡ number → ⊥)
-    → set_at number (drop (i + 1) rows) ≡ set_at number (drop i rows)
-row_past number i rows row inside is other =
-    sym (ap (set_at number) (drop_more rows i row inside)
-    ∙ ap (λ (r : ℕ × SetView). set_at number (r ∷ drop (i + 1) rows)) (sym is)
-    ∙ cond-false _ _ _ (ne_eqb row.0 number other))
-
-pub row_none : (number i : ℕ) (rows : List (ℕ × SetView)) → length rows ≤ i → set_at number (drop i rows) ≡ []
-row_none number i rows past = ap (set_at number) (drop_all i rows past)
-  where
-    drop_all : (n : ℕ) (xs : List (ℕ × SetView)) → length xs ≤ n → drop n xs ≡ []
-    drop_all zero [] le = refl
-    drop_all (suc n) [] le = refl
-    drop_all zero (x ∷ xs) le = absurd (omega arith)
-    drop_all (suc n) (x ∷ xs) le = drop_all n xs (omega arith)
-
+-- ---- the sets of a number
 pub rank_is : AreOfBlocks → (view : PostingsView) (ranks : List (Option ℕ)) (term : TermView) (rank : ℕ) (universe ids : List ℕ) (rows : List (ℕ × SetView))
     → AreNumbered view term (λ place. rank_at ranks place.path.0) universe rows → ids ≡ set_at rank rows → AreMeeting view ranks (AtRank term rank) universe ids
 rank_is law view ranks term rank universe ids rows are is documents fresh have =

@@ -5,8 +5,8 @@ use Rattle.near_words.specs.declared.costs.Costed.{Costed}
 use Rattle.doc_sets.specs.Sets.{has, AreAbove, IsIncreasing}
 use Rattle.near_words.specs.EntryCost.{cost_of}
 use Rattle.near_words.specs.ByCost.{run_of, cost_in, ids_at, costed_at}
-use Rattle.near_words.specs.Cursors.{from_document}
-use Rattle.near_words.proofs.CursorLemmas.{run_passed}
+use Rattle.near_words.specs.FromDocument.{from_document}
+use Rattle.near_words.proofs.ReadLemmas.{run_passed}
 
 -- what was found of the documents, and which are left
 pub record IsFound (cost : ℕ → ℕ) (ids left : List ℕ) (found : List Costed) : Type 0 where
@@ -25,9 +25,6 @@ costed_push (y ∷ ys) x k = by (y.cost == k) (costed_push ys x k)
         ≡ map (λ (each : Costed). each.id.0) (cond b (y ∷ filter (λ (each : Costed). each.cost == k) ys) (filter (λ (each : Costed). each.cost == k) ys)) ++ cond (x.cost == k) (x.id.0 ∷ []) []
     by true rest = ap (λ v. y.id.0 ∷ v) rest
     by false rest = rest
-
-pub found_start : (cost : ℕ → ℕ) (ids : List ℕ) → IsFound cost ids ids []
-found_start cost ids = record { each = λ k low. refl }
 
 one_more : (b : Bool) (id : ℕ) (done rest : List ℕ) → (done ++ cond b (id ∷ []) []) ++ rest ≡ done ++ cond b (id ∷ rest) rest
 one_more true id done rest = append_assoc done (id ∷ []) rest
@@ -48,15 +45,9 @@ found_past cost ids rest found id old far = record {
   each = λ k low. ap (λ v. costed_at found k ++ v) (sym (cond-false (cost id == k) (id ∷ ids_at cost rest k) (ids_at cost rest k) (ne_eqb _ _ (λ e. omega arith)))) ∙ old.each k low;
 }
 
-pub found_all : (cost : ℕ → ℕ) (ids : List ℕ) (found : List Costed) → IsFound cost ids [] found → (k : ℕ) → k < 7 → costed_at found k ≡ ids_at cost ids k
-found_all cost ids found told k low = sym (append-nil (costed_at found k)) ∙ told.each k low
-
 -- the entries of each document that is left are as in the whole list
 pub record AreRead (entries ids left : List ℕ) : Type 0 where
   pub each : (id : ℕ) → has ids id ≡ true → run_of id left ≡ run_of id entries
-
-pub read_start : (entries ids : List ℕ) → AreRead entries ids entries
-read_start entries ids = record { each = λ id member. refl }
 
 or_true : (b : Bool) → (b || true) ≡ true
 or_true true = refl

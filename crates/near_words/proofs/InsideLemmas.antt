@@ -8,9 +8,9 @@ use Rattle.doc_sets.specs.Sets.{has, above, IsIncreasing}
 use Rattle.doc_sets.proofs.SetLemmas.{has-above}
 use Rattle.sorted_pages.specs.Entries.{IsIncreasing as IsUp}
 use Rattle.near_words.specs.ByCost.{run_of}
-use Rattle.near_words.specs.Cursors.{from_document, begins_before}
+use Rattle.near_words.specs.FromDocument.{from_document, begins_before}
 use Rattle.near_words.specs.Inside.{inside}
-use Rattle.near_words.proofs.CursorLemmas.{all_at_least, none_after, from_here, from_passed}
+use Rattle.near_words.proofs.ReadLemmas.{all_at_least, none_after, from_here, from_passed}
 
 -- the first document's entries, and then the others
 read_all : (universe : List ℕ) (id : ℕ) (left : List ℕ) → has universe id ≡ true → IsUp left → AllByRecursion (λ x. id ≤ x / 2 ^ 32) left

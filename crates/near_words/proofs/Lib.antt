@@ -3,6 +3,6 @@ pub mod WalkLemmas
 pub mod DocumentLemmas
 pub mod CostLemmas
 pub mod StandLemmas
-pub mod CursorLemmas
+pub mod ReadLemmas
 pub mod InsideLemmas
 pub mod NarrowLemmas

@@ -1,5 +1,5 @@
 -- Documents that are left out before their costs are looked for.
-use Rattle.std.proofs.Common.{◌≡◌, ℕ, zero, suc, ◌+◌, ◌-◌, ◌<◌, ◌≤◌, ◌==◌, min, Bool, true, false, ◌&&◌, cond, List, [], ◌∷◌, map, filter, unwrap_or, refl, sym, ap, ap₂, subst, ◌∙◌, arith, inl}
+use Rattle.std.proofs.Common.{◌≡◌, ℕ, zero, suc, ◌+◌, ◌-◌, ◌<◌, ◌==◌, min, Bool, true, false, ◌&&◌, cond, List, [], ◌∷◌, map, filter, unwrap_or, refl, sym, ap, ap₂, subst, ◌∙◌, arith, inl}
 use Rattle.std.specs.List.{list_any, range_with_len}
 use Rattle.std.specs.Str.{bytes_eq}
 use Rattle.std.proofs.lemmas.Bool.{eqb-true, eq-eqb, and_from, true≢false}
@@ -10,7 +10,7 @@ use Rattle.search_base.specs.Occurrence.{is_asked, is_word_at, occurs_at, occurs
 use Rattle.search_base.specs.PairCost.{distance, stands_apart, distances_from, distances, asked_cost}
 use Rattle.search_base.proofs.Members.{Among, Among-map, Among-flat_map, Among-filter}
 use Rattle.postings.specs.Dictionary.{PostingsView}
-use Rattle.postings.specs.Documents.{Document, places_of}
+use Rattle.postings.specs.Documents.{Document}
 use Rattle.postings.specs.Fresh.{StandsFor}
 use Rattle.postings.proofs.WordLemmas.{same_word, bytes_itself}
 use Rattle.posting_sets.proofs.WalkLemmas.{both_true}
@@ -31,9 +31,6 @@ filter_both p q so (x ∷ xs) = by (q x) refl (filter_both p q so xs)
     by : (b : Bool) → q x ≡ b → filter p (filter q xs) ≡ filter p xs → filter p (cond b (x ∷ filter q xs) (filter q xs)) ≡ cond (p x) (x ∷ filter p xs) (filter p xs)
     by true e later = ap (λ rest. cond (p x) (x ∷ rest) rest) later
     by false e later = later ∙ out (p x) refl e
-
-pub narrowed_all : (view : PostingsView) (word universe ids : List ℕ) → ids ≡ universe → AreNarrowed view word universe ids
-narrowed_all view word universe ids same documents fresh test so = ap (filter test) same
 
 pub narrowed_found : (view : PostingsView) (word universe ids : List ℕ) → AreOccurring view (word_term word) universe ids → AreNarrowed view word universe ids
 narrowed_found view word universe ids found documents fresh test so =

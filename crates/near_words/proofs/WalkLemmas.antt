@@ -38,14 +38,6 @@ pub record Walked (L R : List ℕ) (i j least : ℕ) : Type 0 where
   pub right : (p q : ℕ) → q < j → p < length L → q < length R → least ≤ near (get_or L p 0) (get_or R q 0)
   pub greatest : (k : ℕ) → k ≤ 8 → AtMostEach k L R → k ≤ least
 
-pub walk_start : (L R : List ℕ) → Walked L R 0 0 8
-walk_start L R = record {
-  small = omega arith;
-  left = λ p q h a b. absurd (omega arith);
-  right = λ p q h a b. absurd (omega arith);
-  greatest = λ k small each. small;
-}
-
 module _ (L R : List ℕ) (i j least : ℕ) (up : IsIncreasing L) (rise : IsIncreasing R) (inside : i < length L) (within : j < length R) (walked : Walked L R i j least) where
   pub walk_right : get_or R j 0 < get_or L i 0 → Walked L R i (j + 1) (min least (near (get_or L i 0) (get_or R j 0)))
   walk_right less = record {

@@ -2,5 +2,5 @@
 pub mod EntryCost
 pub mod ByCost
 pub mod Inside
-pub mod Cursors
+pub mod FromDocument
 pub mod Narrowed

@@ -10,8 +10,8 @@ ghost use Rattle.near_words.specs.ByCost.{ids_by_cost};
 ghost use Rattle.near_words.specs.Inside.{inside, stands_by};
 ghost use Rattle.near_words.specs.Narrowed.{AreNarrowed};
 
+use crate::by_document::{document, read, seek};
 use crate::costs::documents_by_cost;
-use crate::cursor::Cursor;
 use doc_sets::DocSet;
 use posting_sets::documents;
 use postings::Postings;
@@ -34,13 +34,13 @@ fn list_of<'a>(postings: &'a Postings, word: &Word, none: &'a SortedPages) -> &'
 fn add_inside(universe: &DocSet, list: &SortedPages, entries: &mut Vec<u64>) -> Result<(), NoMemory>
     ensures { OnOk result (entries.new.items ≡ entries.old.items ++ inside universe.now.ids list.now.entries) }
 {
-    let mut cursor = Cursor::new(list);
-    while let Some(id) = cursor.document() {
+    let mut left = list.iter();
+    while let Some(id) = document(&left) {
         if universe.contains(id) {
-            cursor.read(id, entries)?;
+            read(&mut left, id, entries)?;
         } else {
             match universe.next_after(id) {
-                Some(next) => cursor.seek(next),
+                Some(next) => seek(&mut left, next),
                 None => return Ok(()),
             }
         }

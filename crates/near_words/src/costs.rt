@@ -1,13 +1,13 @@
 ghost use Rattle.std.specs.Prelude.{◌≡◌, ℕ, ◌+◌, ◌<◌, map, IfOk, OnOk};
 ghost use Rattle.doc_sets.specs.Sets.{IsIncreasing};
-ghost use Rattle.near_words.specs.Cursors.{from_document};
+ghost use Rattle.near_words.specs.FromDocument.{from_document};
 ghost use Rattle.near_words.specs.ByCost.{cost_in, ids_at, ids_by_cost, costed_at};
 
-use crate::cursor::Cursor;
+use crate::by_document::read;
 use crate::near::pair_cost;
 use doc_sets::DocSet;
 use search_base::{DocId, NoMemory};
-use sorted_pages::SortedPages;
+use sorted_pages::{Entries, SortedPages};
 use std::alloc::Global;
 
 // The entries of one document in each of two lists.
@@ -26,8 +26,8 @@ struct Costed {
 
 // The pair cost in a document, of which both lists pass the entries.
 fn cost_at(
-    left: &mut Cursor<'_>,
-    right: &mut Cursor<'_>,
+    left: &mut Entries<'_>,
+    right: &mut Entries<'_>,
     id: DocId,
     runs: &mut Runs,
 ) -> Result<u8, NoMemory>
@@ -37,8 +37,8 @@ fn cost_at(
 {
     runs.left.clear();
     runs.right.clear();
-    left.read(id, &mut runs.left)?;
-    right.read(id, &mut runs.right)?;
+    read(left, id, &mut runs.left)?;
+    read(right, id, &mut runs.right)?;
     Ok(pair_cost(runs.left.as_slice(), runs.right.as_slice()))
 }
 
@@ -57,8 +57,8 @@ fn find_costs(
         left: Vec::new(alloc),
         right: Vec::new(alloc),
     };
-    let mut lefts = Cursor::new(left);
-    let mut rights = Cursor::new(right);
+    let mut lefts = left.iter();
+    let mut rights = right.iter();
     let mut found = Vec::new(alloc);
     for id in universe.iter() {
         let cost = cost_at(&mut lefts, &mut rights, id, &mut runs)?;

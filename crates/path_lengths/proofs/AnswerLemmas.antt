@@ -1,18 +1,17 @@
 -- The documents of a length, by the list of its key.
-use Rattle.std.proofs.Common.{◌≡◌, ℕ, pos, ◌+◌, ◌^◌, ◌<◌, ◌==◌, Bool, true, false, ◌&&◌, ◌||◌, cond, List, [], ◌∷◌, map, filter, Result, Ok, Err, IfOk, eqb, refl, sym, ap, ap₂, subst, ◌∙◌, arith}
+use Rattle.std.proofs.Common.{◌≡◌, ℕ, pos, ◌+◌, ◌^◌, ◌<◌, ◌==◌, Bool, true, false, ◌&&◌, ◌||◌, cond, List, [], ◌∷◌, map, filter, refl, ap, ap₂, subst, ◌∙◌, arith}
 use Rattle.std.specs.List.{list_any, AllByRecursion}
 use Rattle.std.specs.Str.{bytes_eq}
 use Rattle.std.specs.Int.{w128}
 use Rattle.std.specs.Int.RustNames.{FitsSigned}
 use Rattle.std.specs.Cmp.{both_ways}
-use Rattle.std.proofs.lemmas.Bool.{eqb-true, eq-eqb, and_from, cond_both}
+use Rattle.std.proofs.lemmas.Bool.{eqb-true, eq-eqb, and_from}
 use Rattle.std.proofs.lemmas.Map.Text.{is_eq-slice_cmp}
 use Rattle.search_base.specs.declared.document.Place.{Place}
 use Rattle.search_base.specs.declared.value.FacetValue.TheVariants.{Number}
 use Rattle.search_base.specs.Occurrence.{occurs_at, occurs, is_word_at}
 use Rattle.search_base.specs.TermView.{TermView}
-use Rattle.search_base.proofs.Members.{Among, Among-map, Among-mapped}
-use Rattle.doc_sets.specs.SetView.{SetView}
+use Rattle.search_base.proofs.Members.{Among-map, Among-mapped}
 use Rattle.postings.specs.Dictionary.{PostingsView}
 use Rattle.postings.specs.Documents.{Document, AreNarrow, places_of}
 use Rattle.postings.proofs.WordLemmas.{same_word, bytes_itself}
@@ -20,7 +19,7 @@ use Rattle.posting_sets.specs.Found.{AreOccurring, term_of}
 use Rattle.posting_sets.proofs.WalkLemmas.{both_true}
 use Rattle.posting_sets.proofs.OccursLemmas.{list_any-found, list_any-from}
 use Rattle.posting_sets.proofs.PlaceLemmas.{narrow_at}
-use Rattle.facet_keys.specs.Keys.{leaf, key_bytes, IsNarrow}
+use Rattle.facet_keys.specs.Keys.{leaf, IsNarrow}
 use Rattle.facet_keys.specs.Laws as laws
 use Rattle.path_lengths.specs.Lengths.{is_last, has_length}
 use Rattle.path_lengths.specs.Measured.{length_key, length_place, lengths_of, measured, AreLengthsOf}

@@ -12,6 +12,7 @@ mod near;
 mod numbers;
 mod occurrence;
 mod pairs;
+mod runs;
 mod sort_key;
 mod sums;
 mod tuple;

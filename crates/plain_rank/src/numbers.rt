@@ -1,11 +1,14 @@
-ghost use Rattle.std.specs.Prelude.{◌≡◌, ◌<◌, ◌≤◌, map, length, IfSome};
+ghost use Rattle.std.specs.Prelude.{◌≡◌, ◌<◌, ◌≤◌, map, length, IfSome, IsTrue};
 ghost use Rattle.search_base.specs.BlockCosts.{places_of, block_cost, inexact_of};
 ghost use Rattle.search_base.specs.Least.{least, least_by};
 ghost use Rattle.search_base.specs.TermView.{TermView};
+ghost use Rattle.plain_rank.specs.Near.{InOrder};
 ghost use Rattle.plain_rank.specs.Numbers.{number_of, number_there, number_from, cost_if};
 
 use crate::least::lesser_number;
+use crate::near::are_in_order;
 use crate::occurrence::{occurs, starts_at};
+use crate::runs::those_at;
 use search_base::{Block, Kind, Place, Rule, Term, Word, bucket};
 
 // The rank of a place, or its bucket.
@@ -30,8 +33,8 @@ fn number_there(by_rank: bool, start: &Place, place: &Place) -> Option<u16>
     }
 }
 
-// The least number of the places at the position of one.
-fn least_there(by_rank: bool, places: &[Place], start: &Place) -> Option<u16>
+// The least number of the places at the position of one, of those that may stand there.
+fn least_of(by_rank: bool, places: &[Place], start: &Place) -> Option<u16>
     ensures { result ≡ least_by (number_there by_rank start.now) places.now }
 {
     let mut least = None;
@@ -41,19 +44,30 @@ fn least_there(by_rank: bool, places: &[Place], start: &Place) -> Option<u16>
     least
 }
 
+// The least number of the places at the position of one.
+fn least_there(by_rank: bool, places: &[Place], ordered: bool, start: &Place) -> Option<u16>
+    requires { IsTrue ordered → InOrder places.now }
+    ensures { result ≡ least_by (number_there by_rank start.now) places.now }
+{
+    let there = those_at(places, ordered, start.path.0, start.position as usize);
+    least_of(by_rank, there, start)
+}
+
 // The least number of the places at which the words start at one.
 fn number_from(
     by_rank: bool,
     places: &[Place],
+    ordered: bool,
     prefix: bool,
     first: &Word,
     rest: &[Word],
     start: &Place,
 ) -> Option<u16>
+    requires { IsTrue ordered → InOrder places.now }
     ensures { result ≡ number_from by_rank places.now prefix first.now rest.now start.now }
 {
-    if starts_at(places, prefix, first, rest, start) {
-        least_there(by_rank, places, start)
+    if starts_at(places, ordered, prefix, first, rest, start) {
+        least_there(by_rank, places, ordered, start)
     } else {
         None
     }
@@ -69,9 +83,10 @@ fn least_from(
 ) -> Option<u16>
     ensures { result ≡ least_by (number_from by_rank places.now prefix first.now rest.now) places.now }
 {
+    let ordered = are_in_order(places);
     let mut least = None;
     for start in places {
-        let number = number_from(by_rank, places, prefix, first, rest, start);
+        let number = number_from(by_rank, places, ordered, prefix, first, rest, start);
         least = lesser_number(least, number);
     }
     least

@@ -1,18 +1,17 @@
 -- The documents of which a path begins with some words.
-use Rattle.std.proofs.Common.{◌≡◌, ℕ, zero, suc, ◌<◌, ◌≤◌, ◌^◌, Bool, true, false, ◌&&◌, cond, List, [], ◌∷◌, map, length, eqb, Option, None, Some, Result, Ok, Err, IfOk, refl, sym, ap, ap₂, ◌∙◌, arith}
+use Rattle.std.proofs.Common.{◌≡◌, ℕ, zero, suc, ◌<◌, ◌≤◌, Bool, true, false, ◌&&◌, cond, List, [], ◌∷◌, map, length, eqb, None, Some, Result, Ok, Err, IfOk, refl, sym, ap, ap₂, ◌∙◌, arith}
 use Rattle.std.specs.List.{filter, list_any, AllByRecursion}
 use Rattle.std.specs.Option.{option_eq}
 use Rattle.std.specs.Cmp.{both_ways}
 use Rattle.std.proofs.lemmas.Bool.{eqb-true, eq-eqb, and_from}
 use Rattle.search_base.specs.declared.document.Place.{Place}
-use Rattle.search_base.specs.Occurrence.{is_word_at, words_stand_at, occurs_at}
+use Rattle.search_base.specs.Occurrence.{is_word_at, words_stand_at}
 use Rattle.search_base.specs.Whole.{begins_so}
 use Rattle.sorted_pages.specs.Entries.{has, IsIncreasing}
 use Rattle.sorted_pages.proofs.SetLemmas.{has-filter, increasing-filter, increasing-same}
 use Rattle.doc_sets.specs.SetView.{SetView}
 use Rattle.postings.specs.Dictionary.{PostingsView}
-use Rattle.postings.specs.Documents.{Document, places_of}
-use Rattle.postings.specs.Fresh.{StandsFor}
+use Rattle.postings.specs.Documents.{places_of}
 use Rattle.posting_sets.specs.declared.number.Number.TheVariants.{Beginning}
 use Rattle.posting_sets.specs.Found.{term_of}
 use Rattle.posting_sets.specs.Gathered.{place_number, ids_at, AreOfNumbers}

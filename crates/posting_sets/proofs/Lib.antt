@@ -1,5 +1,5 @@
 -- Lemmas on walks over posting lists.
-pub mod CursorLemmas
+pub mod PassLemmas
 pub mod InsideLemmas
 pub mod StartLemmas
 pub mod WalkLemmas

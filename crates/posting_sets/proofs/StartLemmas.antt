@@ -1,6 +1,7 @@
 -- Where words stand in a row, by the entries of one of them.
-use Rattle.std.proofs.Common.{◌≡◌, ℕ, zero, suc, ◌+◌, ◌-◌, ◌^◌, ◌<◌, ◌≤◌, Bool, true, false, ◌&&◌, ◌||◌, cond, List, [], ◌∷◌, map, length, get_or, eqb, leb, ltb, refl, sym, ap, ap₂, ◌∙◌, arith}
+use Rattle.std.proofs.Common.{◌≡◌, ℕ, zero, suc, ◌+◌, ◌-◌, ◌^◌, ◌<◌, ◌≤◌, Bool, true, false, ◌&&◌, ◌||◌, cond, List, [], ◌∷◌, map, length, drop, set, get_or, eqb, leb, ltb, refl, sym, ap, ap₂, ◌∙◌, arith}
 use Rattle.std.specs.List.{filter}
+use Rattle.std.proofs.lemmas.List.{drop_more}
 use Rattle.std.proofs.lemmas.Bool.{cond-true, cond-false, cond_both, eq-eqb, ne_eqb, leb-true, le-leb}
 use Rattle.std.proofs.lemmas.Bool.Decides.{nat_tests}
 use Rattle.sorted_pages.specs.Entries.{has, AreAbove, IsIncreasing}
@@ -13,6 +14,17 @@ pub beside_all : (at k : ℕ) (lists : List (List ℕ)) (start : ℕ) → at < k
 beside_all at k [] start l = refl
 beside_all at k (list ∷ lists) start l =
     ap₂ (λ a b. (a || has list (start + k)) && b) (ne_eqb k at (λ e. omega (arith, e))) (beside_all at (k + 1) lists start (omega arith))
+
+-- one more word that stands beside the others
+pub beside_step : (at i : ℕ) (lists : List (List ℕ)) (start : ℕ) → i < length lists → (eqb i at || has (get_or lists i []) (start + i)) ≡ true
+    → stand_beside at (i + 1) (drop (i + 1) lists) start ≡ stand_beside at i (drop i lists) start
+beside_step at i lists start l h =
+    sym (ap (λ v. stand_beside at i v start) (drop_more lists i [] l) ∙ ap (λ b. b && stand_beside at (i + 1) (drop (i + 1) lists) start) h)
+
+pub put_back : (lists : List (List ℕ)) (i : ℕ) (list : List ℕ) → i < length lists → list ≡ get_or lists i [] → set lists i list ≡ lists
+put_back [] i list l e = absurd (omega arith)
+put_back (x ∷ xs) zero list l e = ap (λ v. v ∷ xs) e
+put_back (x ∷ xs) (suc i) list l e = ap (λ v. x ∷ v) (put_back xs i list (omega arith) e)
 
 turned : (a b : Bool) → (a && b) ≡ (b && a)
 turned true true = refl

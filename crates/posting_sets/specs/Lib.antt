@@ -1,6 +1,5 @@
 -- Walks over posting lists, and what they find.
 pub mod Entries
-pub mod Left
 pub mod Starts
 pub mod Found
 pub mod Numbers

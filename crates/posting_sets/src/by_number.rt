@@ -33,7 +33,7 @@ fn numbers_of_words(
         return Ok(Vec::new(alloc));
     };
     let mut sets = Vec::new(alloc);
-    let occurrences = Occurrences::new(lists.as_slice(), universe);
+    let occurrences = Occurrences::new(alloc, lists.as_slice(), universe)?;
     add_numbered(alloc, &mut sets, occurrences, number)?;
     Ok(sets)
 }
@@ -53,7 +53,7 @@ fn numbers_of_prefix(
     let mut sets = Vec::new(alloc);
     for (_word, list) in postings.with_prefix(prefix) {
         let lists = [list];
-        let occurrences = Occurrences::new(&lists, universe);
+        let occurrences = Occurrences::new(alloc, &lists, universe)?;
         add_numbered(alloc, &mut sets, occurrences, number)?;
     }
     Ok(sets)

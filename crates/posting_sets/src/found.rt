@@ -62,6 +62,7 @@ fn add_entries(builder: &mut DocSetBuilder, list: &SortedPages) -> Result<(), No
 
 // Adds the documents of a list to a set, maybe with some from outside of the universe.
 fn add_list(
+    alloc: Global,
     builder: &mut DocSetBuilder,
     list: &SortedPages,
     universe: &DocSet,
@@ -71,7 +72,8 @@ fn add_list(
 {
     if universe.len() < list.len() as u64 / MANY {
         let lists = [list];
-        return add_documents(builder, Occurrences::new(&lists, universe));
+        let occurrences = Occurrences::new(alloc, &lists, universe)?;
+        return add_documents(builder, occurrences);
     }
     add_entries(builder, list)
 }
@@ -106,7 +108,8 @@ fn documents_of_lists(
     if lists.len() == 1 && entries / MANY <= documents && documents / FEW <= entries {
         return documents_of_list(alloc, list, universe);
     }
-    let ids = documents_of(alloc, Occurrences::new(lists, universe))?;
+    let occurrences = Occurrences::new(alloc, lists, universe)?;
+    let ids = documents_of(alloc, occurrences)?;
     DocSet::from_sorted(alloc, ids.as_slice())
 }
 
@@ -139,7 +142,7 @@ fn documents_of_prefix(
 {
     let mut builder = DocSetBuilder::new(alloc, 0)?;
     for (_word, list) in postings.with_prefix(prefix) {
-        add_list(&mut builder, list, universe)?;
+        add_list(alloc, &mut builder, list, universe)?;
     }
     let all = builder.finish(alloc)?;
     universe.and(alloc, &all)

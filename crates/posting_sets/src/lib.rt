@@ -8,8 +8,8 @@
 #![tactic(auto)]
 
 mod by_number;
-mod cursor;
 mod entry;
+mod finder;
 mod found;
 mod law;
 mod lists;

@@ -20,15 +20,12 @@ pub trait RuleSource {
     // The rows of each document.
     ghost rows: { Self → ℕ → RowsView };
 
-    // What each rank of a place is below.
-    ghost bound: { Self → ℕ };
-
     // The entries of a path in a direction, ascending or not.
     ghost keys: { Self → Bool → ℕ → List Key };
 
     /// A number above each rank that a place has.
     fn ranks(&self) -> u16
-        ensures { result ≡ bound self.now };
+        ensures { (d : ℕ) → AllByRecursion (IsRanked result) (rows self.now d).places };
 
     /// The documents of the universe that meet a condition, which is one of a condition graph's.
     fn meeting(
@@ -76,9 +73,6 @@ pub trait RuleSource {
     ) -> Result<DocSet, NoMemory>
         ensures { IfOk result (λ set.
             set.ids ≡ filter (λ d. is_under at.now (sort_entry up path.0 (rows self.now d).leaves)) universe.now.ids) };
-
-    /// Each rank is below `ranks`.
-    ghost ranked: { (source : Self) (d : ℕ) → AllByRecursion (IsRanked (bound source)) (rows source d).places };
 
     /// Each document has one of the entries of a path, or none.
     ghost sorted: { (source : Self) (up : Bool) (path : ℕ)

@@ -1,3 +1,5 @@
+ghost use Rattle.std.specs.Prelude.{IsAscii};
+
 use crate::checks::{add, check_text};
 use std::alloc::Global;
 use std::process::Abort;
@@ -172,19 +174,32 @@ const TEXTS: [(&str, &str, &str); 60] = [
     ),
 ];
 
+fn add_token(rt: &impl Abort, told: &mut String, word: &str, place: (u128, u64, u64)) {
+    if !told.is_empty() {
+        add(rt, told, ";");
+    }
+    let (position, start, end) = place;
+    write!(told, "{position} {word} {start} {end}").expect(rt, "memory");
+}
+
 fn told(rt: &impl Abort, alloc: Global, text: &str) -> String {
     let mut told = String::new(alloc);
-    let mut mark = "";
     for token in &tokens(alloc, text).expect(rt, "memory") {
-        let word = token.word.as_str();
-        add(rt, &mut told, mark);
-        write!(
-            told,
-            "{} {word} {} {}",
-            token.position, token.start, token.end
-        )
-        .expect(rt, "memory");
-        mark = ";";
+        let place = (token.position, token.start, token.end);
+        add_token(rt, &mut told, token.word.as_str(), place);
+    }
+    told
+}
+
+// The same by the spans of a text that is ASCII.
+fn told_by_spans(rt: &impl Abort, alloc: Global, text: &str) -> String
+    requires { IsAscii text.now }
+{
+    let lowered = text.to_ascii_lowercase(alloc).expect(rt, "memory");
+    let mut told = String::new(alloc);
+    for span in &ascii_spans(alloc, text).expect(rt, "memory") {
+        let place = (span.position, span.start, span.end);
+        add_token(rt, &mut told, span.cut(lowered.as_str()), place);
     }
     told
 }
@@ -193,6 +208,9 @@ fn told(rt: &impl Abort, alloc: Global, text: &str) -> String {
 fn texts_have_these_words(rt: HostRuntime) {
     for (shows, text, wanted) in &TEXTS {
         check_text(&rt, &told(&rt, rt.alloc(), text), wanted, shows);
+        if text.is_ascii() {
+            check_text(&rt, &told_by_spans(&rt, rt.alloc(), text), wanted, shows);
+        }
         tokens_are_the_words(text);
     }
 }

@@ -12,7 +12,7 @@ use std::alloc::Global;
 use std::process::Abort;
 
 // What stands for all rules of a search: words, proximity, attribute and exactness.
-const RULES: [Rule; 6] = [
+pub(crate) const RULES: [Rule; 6] = [
     Rule::Words,
     Rule::Proximity,
     Rule::Field,
@@ -30,7 +30,7 @@ const RULES: [Rule; 6] = [
 //
 // A document is the words of its paths between strokes, as genres/id/title/year, and the rank of a
 // path is its number. A number after an at sign is the position of the next word.
-const CASES: [(&str, &str); 9] = [
+pub(crate) const CASES: [(&str, &str); 9] = [
     // no word
     (
         "",
@@ -240,7 +240,7 @@ fn words(rt: &impl Abort, alloc: Global, text: &str) -> Vec<Word> {
 }
 
 // A query without words has no level.
-fn graph(rt: &impl Abort, alloc: Global, query: &str) -> Graph
+pub(crate) fn graph(rt: &impl Abort, alloc: Global, query: &str) -> Graph
     ensures { IsGraph result }
 {
     let (whole, rest) = query.split_once(':').unwrap_or((query, ""));
@@ -297,7 +297,7 @@ fn add_leaves(rt: &impl Abort, alloc: Global, path: u16, words: &str, leaves: &m
 }
 
 // A document with these words in its paths, each of which is a leaf too.
-fn rows(rt: &impl Abort, alloc: Global, text: &str) -> DocRows {
+pub(crate) fn rows(rt: &impl Abort, alloc: Global, text: &str) -> DocRows {
     let mut places = Vec::new(alloc);
     let mut leaves = Vec::new(alloc);
     let mut path = 0_u16;

@@ -1,4 +1,4 @@
-//! Tests of costs, the ranking of rows and the conditions of costs.
+//! Tests of costs, the ranking of rows, the conditions of costs, and a search over an index.
 //!
 //! They use what these crates offer to others, and stand in a crate of their own, so that the crates they try are proved
 //! once and not twice. The crate has nothing but tests, and promises nothing.
@@ -14,3 +14,7 @@ mod costs;
 mod facets;
 #[cfg(test)]
 mod ranked;
+#[cfg(test)]
+mod searched;
+#[cfg(test)]
+mod shelves;

@@ -21,11 +21,7 @@ impl RuleSource for Bare {
 
     ghost rows = { λ bare d. record { places = []; leaves = []; marks = [] } };
 
-    ghost bound = { λ bare. 0 };
-
     ghost keys = { λ bare up path. [] };
-
-    ghost ranked = { λ bare d. tt };
 
     ghost sorted = { λ bare up path. no_entries up path };
 

@@ -67,6 +67,10 @@ fn check_at(rt: &impl Abort, pages: &SortedPages, list: &[u64], least: u64) {
     };
     let rest = list.get(place..).unwrap_or(&[]);
     check(rt, pages.from(least).eq(rest.iter().copied()), "from");
+    let mut left = pages.from(least / 2);
+    left.seek(least);
+    check(rt, left.first() == rest.first().copied(), "first one left");
+    check(rt, left.eq(rest.iter().copied()), "seek");
 }
 
 // The pages answer as the list does.

@@ -1,14 +1,12 @@
 -- The documents of each whole cost.
-use Rattle.std.proofs.Common.{◌≡◌, ℕ, ◌+◌, ◌<◌, ◌≤◌, ◌==◌, nat_lt, Bool, true, false, not, ◌&&◌, ◌||◌, cond, List, [], ◌∷◌, map, length, inl, inr, refl, sym, ap, ap₂, ◌∙◌, arith}
-use Rattle.std.specs.List.{filter, list_any, list_all, starts_with}
-use Rattle.std.specs.Prelude.{nat_eq}
+use Rattle.std.proofs.Common.{◌≡◌, ℕ, ◌+◌, ◌<◌, ◌==◌, nat_lt, Bool, true, false, not, ◌&&◌, ◌||◌, cond, List, [], ◌∷◌, length, inl, inr, refl, sym, ap, ap₂, ◌∙◌, arith}
+use Rattle.std.specs.List.{filter, list_any, list_all}
 use Rattle.std.specs.Cmp.{both_ways}
 use Rattle.std.proofs.lemmas.Bool.{eqb-true, eq-eqb, and_from}
 use Rattle.std.proofs.lemmas.Bool.Decides.{nat_tests}
 use Rattle.search_base.specs.declared.document.Place.{Place}
 use Rattle.search_base.specs.Occurrence.{is_word_at, occurs_at, occurs}
-use Rattle.search_base.specs.TermView.{TermView}
-use Rattle.search_base.specs.Whole.{begins_so, ends_so, is_whole, whole_cost}
+use Rattle.search_base.specs.Whole.{begins_so, is_whole, whole_cost}
 use Rattle.search_base.proofs.Members.{Among}
 use Rattle.doc_sets.specs.Sets.{has, IsIncreasing, difference}
 use Rattle.doc_sets.specs.SetView.{SetView}
@@ -19,7 +17,7 @@ use Rattle.postings.specs.Fresh.{StandsFor}
 use Rattle.posting_sets.specs.Found.{AreOccurring, term_of}
 use Rattle.posting_sets.specs.Beginnings.{AreBeginning}
 use Rattle.posting_sets.specs.Gathered.{ids_at}
-use Rattle.posting_sets.proofs.WalkLemmas.{both_true, either_true}
+use Rattle.posting_sets.proofs.WalkLemmas.{both_true}
 use Rattle.posting_sets.proofs.OccursLemmas.{list_any-found, list_any-from}
 use Rattle.path_lengths.specs.Lengths.{has_length}
 use Rattle.path_lengths.specs.Measured.{AreLengthsOf}

@@ -1,4 +1,4 @@
-use Rattle.std.proofs.Common.{◌≡◌, ◌∙◌, ◌<◌, get_or, length, ap, rules, arith}
+use Rattle.std.proofs.Common.{◌≡◌, ◌∙◌, ap, rules, arith}
 use Rattle.std.proofs.lemmas.Int.{to_z-of_z}
 use Rattle.facet_keys.specs.Values.{above_least, number_behind}
 use Rattle.facet_keys.proofs.ValueLemmas.{digit_more, digit_last}

@@ -1,7 +1,7 @@
-use Rattle.std.proofs.Common.{◌≡◌, ◌<◌, ℕ, Bool, true, false, List, ap, sym, subst, ◌∙◌}
+use Rattle.std.proofs.Common.{◌<◌, ℕ, subst, ◌∙◌}
 use Rattle.std.proofs.lemmas.Result.{IfOk-weaker}
 use Rattle.search_base.specs.PairCost.{asked_cost}
-use Rattle.postings.specs.Documents.{Document, places_of}
+use Rattle.postings.specs.Documents.{places_of}
 use Rattle.near_words.proofs.NarrowLemmas.{costs_narrowed, left_stands, right_stands}
 use Rattle.near_words.proofs.asked.documents_by_pair_cost.Goals as goal
 

@@ -16,7 +16,7 @@ loop-word-preserved c =
     record {
       each = λ n id.
           let old = has (ids_at n c.loop-word.sets.items) id in
-          let one = one_list ids id (is_numbered number n id) (of_document number n id) list c.new-occurrences.result c.new-occurrences.ensures in
+          let one = one_list ids id (is_numbered number n id) (of_document number n id) list c.in_ok-occurrences.occurrences c.in_ok-occurrences.ensures in
           ap (λ b. b || has_numbered_row number n ids id left) (c.in_ok-add_numbered.ensures.each n id ∙ ap (λ b. b || old) one)
           ∙ row_step (has ids id && list_any (is_numbered number n id) list) old (has_numbered_row number n ids id left)
           ∙ ap (λ v. old || has_numbered_row number n ids id v) (sym c.in-Some.ensures.steps) ∙ c.loop-word.invariant.each n id;

@@ -10,5 +10,5 @@ pub returns-clause-each : goal.returns-clause-each
 returns-clause-each c =
     let lists = rw c.in-Some.is at c.in_ok-lists.ensures in
     words_numbered c.args.postings.now c.args.words.now c.requires c.args.number c.args.universe.now.ids (map (λ list. list.now.entries) c.as_slice.result.now)
-    c.new-occurrences.result c.new-sets.result.items c.add_numbered.new.sets.items (ap (map (λ list. list.now.entries)) c.as_slice.ensures.value ∙ lists)
-    c.new-occurrences.ensures c.new-sets.ensures.items c.in_ok-add_numbered.ensures.each
+    c.in_ok-occurrences.occurrences c.new-sets.result.items c.add_numbered.new.sets.items (ap (map (λ list. list.now.entries)) c.as_slice.ensures.value ∙ lists)
+    c.in_ok-occurrences.ensures c.new-sets.ensures.items c.in_ok-add_numbered.ensures.each

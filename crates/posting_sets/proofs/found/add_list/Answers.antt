@@ -12,5 +12,5 @@ returns-then-len c = on_ok c.add_documents.result c.add_documents.ensures (λ mo
     let ids = c.args.universe.now.ids in
     let list = c.args.list.now.entries in
     ap (λ b. has ids q && b) (more q)
-    ∙ guarded (has ids q) (has_document list q) (has_document c.new.result q) (has c.args.builder.now q)
-    (one_list ids q (λ entry. eqb (document_of entry) q) (λ entry t. eqb-true _ _ t) list c.new.result c.new.ensures))
+    ∙ guarded (has ids q) (has_document list q) (has_document c.in_ok-occurrences.occurrences q) (has c.args.builder.now q)
+    (one_list ids q (λ entry. eqb (document_of entry) q) (λ entry t. eqb-true _ _ t) list c.in_ok-occurrences.occurrences c.in_ok-occurrences.ensures))

@@ -16,5 +16,5 @@ returns-then-documents-entries c = ok_of _ _ c.documents_of_list.result c.docume
 
 pub returns : goal.returns
 returns c = ok_of _ _ c.from_sorted.result c.from_sorted.ensures (λ set e.
-    are_walked c.args.universe.now.ids set.ids c.new.result (map (λ id. id.0) c.in_ok-ids.ids.items) (map (λ l. l.now.entries) c.args.lists.now)
-    c.in_ok-ids.ensures.increasing (e ∙ ap (map (λ id. id.0)) c.as_slice.ensures.value) c.new.ensures c.in_ok-ids.ensures.each)
+    are_walked c.args.universe.now.ids set.ids c.in_ok-occurrences.occurrences (map (λ id. id.0) c.in_ok-ids.ids.items) (map (λ l. l.now.entries) c.args.lists.now)
+    c.in_ok-ids.ensures.increasing (e ∙ ap (map (λ id. id.0)) c.as_slice.ensures.value) c.in_ok-occurrences.ensures c.in_ok-ids.ensures.each)

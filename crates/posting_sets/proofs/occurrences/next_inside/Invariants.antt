@@ -4,7 +4,7 @@ use Rattle.posting_sets.specs.Starts.{is_inside}
 use Rattle.posting_sets.proofs.occurrences.next_inside.Given as goal
 
 abbrev pub invariant-loop-entry : goal.invariant-loop-entry
-invariant-loop-entry l = filter (is_inside l.universe.ids) l.cursor ≡ filter (is_inside l.universe.ids) l.initial.cursor
+invariant-loop-entry l = filter (is_inside l.universe.ids) l.entries ≡ filter (is_inside l.universe.ids) l.initial.entries
 
 abbrev pub decreases-loop-entry : goal.decreases-loop-entry
-decreases-loop-entry l = length l.cursor
+decreases-loop-entry l = length l.entries

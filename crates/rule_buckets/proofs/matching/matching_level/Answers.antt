@@ -1,8 +1,8 @@
 use Rattle.std.proofs.Common.{◌≡◌, ℕ, Some, Option, None, IfSome, sym, ap, subst, ◌∙◌, ◌&&◌, true, IfNone}
-use Rattle.std.specs.List.{slice_get, AllByRecursion}
+use Rattle.std.specs.List.{slice_get}
 use Rattle.search_base.specs.GraphView.{LevelView}
 use Rattle.search_base.specs.WordsCost.{level_matches}
-use Rattle.condition_graph.specs.Meets.{IsRanked, meets}
+use Rattle.condition_graph.specs.Meets.{meets}
 use Rattle.condition_graph.specs.Promise.{GivesLeastCost}
 use Rattle.search_base.specs.declared.rule.Rule.TheVariants.{Words}
 use Rattle.doc_sets.specs.Sets.{has}
@@ -19,7 +19,7 @@ returns-in-Some g c =
     let same = c.in_ok-all.ensures.cases in
     tell (λ view. (d : ℕ) → has c.in-Some.docs.ids d ≡ (has c.args.universe.now.ids d && level_matches (rows d).places view)) (slice_get c.args.graph.now.levels c.args.level) (λ view e.
     let least : GivesLeastCost Words c.ranks.result view c.in_ok-made.made = told (λ v. GivesLeastCost Words c.ranks.result v c.in_ok-made.made) (slice_get c.args.graph.now.levels c.args.level) view c.in_ok-made.ensures.cost e in
-    let are = λ (d : ℕ). ap (λ (f : ℕ → Option ℕ). f d) c.in_ok-costs.ensures.cost ∙ least (rows d).places (subst (λ n. AllByRecursion (IsRanked n) (rows d).places) (sym c.ranks.ensures) (g.met.S.RuleSource.ranked c.args.source.now d)) in
+    let are = λ (d : ℕ). ap (λ (f : ℕ → Option ℕ). f d) c.in_ok-costs.ensures.cost ∙ least (rows d).places (c.ranks.ensures d) in
     let cost = cost_in (λ (asked : Asked g.row.S.Denot) condition d. meets (g.S.RuleSource.rows asked.source.now d).places condition) c.in_ok-costs.costs in
     let bucket = told (λ (x : ℕ × SetView). IsBucket cost c.in_ok-costs.costs.remaining c.next_cost.new.self.remaining x.0 x.1.ids) c.in_ok-docs.field-0 (c.in-Some.field-0-0, c.in-Some.docs) c.in_ok-docs.ensures.some c.in-Some.is in
     matched rows cost c.in_ok-costs.costs.remaining c.args.universe.now.ids c.next_cost.new.self.remaining c.in-Some.docs.ids c.in-Some.field-0-0 view (c.in_ok-costs.ensures.remaining ∙ same) are bucket)
@@ -29,7 +29,7 @@ returns g c =
     let rows = g.S.RuleSource.rows c.args.source.now in
     tell (λ view. (d : ℕ) → has c.new-in-None.result.ids d ≡ (has c.args.universe.now.ids d && level_matches (rows d).places view)) (slice_get c.args.graph.now.levels c.args.level) (λ view e d.
     let least : GivesLeastCost Words c.ranks.result view c.in_ok-made.made = told (λ v. GivesLeastCost Words c.ranks.result v c.in_ok-made.made) (slice_get c.args.graph.now.levels c.args.level) view c.in_ok-made.ensures.cost e in
-    let are = λ (x : ℕ). ap (λ (f : ℕ → Option ℕ). f x) c.in_ok-costs.ensures.cost ∙ least (rows x).places (subst (λ n. AllByRecursion (IsRanked n) (rows x).places) (sym c.ranks.ensures) (g.met.S.RuleSource.ranked c.args.source.now x)) in
+    let are = λ (x : ℕ). ap (λ (f : ℕ → Option ℕ). f x) c.in_ok-costs.ensures.cost ∙ least (rows x).places (c.ranks.ensures x) in
     let cost = cost_in (λ (asked : Asked g.row.S.Denot) condition x. meets (g.S.RuleSource.rows asked.source.now x).places condition) c.in_ok-costs.costs in
     ap (λ l. has l d) c.new-in-None.ensures ∙ matched-none rows cost c.in_ok-costs.costs.remaining c.args.universe.now.ids view (c.in_ok-costs.ensures.remaining ∙ c.in_ok-all.ensures.cases) are
     (subst (λ o. IfNone o ((x : ℕ) → has c.in_ok-costs.costs.remaining x ≡ true → cost x ≡ None)) c.in-None.is c.in_ok-docs.ensures.none) d)

@@ -1,8 +1,6 @@
 use Rattle.std.proofs.Common.{◌≡◌, ◌<◌, ℕ, Some, Option, true, length, sym, ap, subst, ◌∙◌}
-use Rattle.std.specs.List.{AllByRecursion}
 use Rattle.search_base.specs.declared.cost_key.CostKey.TheVariants.{Number}
 use Rattle.search_base.specs.Tuple.{cost_of}
-use Rattle.condition_graph.specs.Meets.{IsRanked}
 use Rattle.doc_sets.specs.Sets.{has}
 use Rattle.path_costs.specs.Costs.{is_cost}
 use Rattle.rule_buckets.specs.Entries.{QueryView, entry_in}
@@ -21,7 +19,7 @@ returns-clause-stream g c =
           (subst (λ (v : QueryView g.row.S.Denot). is_path v.rule ≡ true) (sym is) c.requires.rule)
           (subst (λ (v : QueryView g.row.S.Denot). c.args.level < length v.graph.levels) (sym is) c.requires.level)
           c.in_ok-made.ensures.cost
-          (subst (λ n. AllByRecursion (IsRanked n) (rows q.source d).places) (sym c.ranks.ensures) (g.met.S.RuleSource.ranked q.source d))
+          (c.ranks.ensures d)
           (subst (λ (v : QueryView g.row.S.Denot). is_cost c.args.level (cost_of (rows v.source d).places v.graph.levels) ≡ true) (sym is)
           (c.requires.docs d (ap (λ l. has l d) (sym c.in_ok-costs.ensures.remaining) ∙ h)))
           in (w.0, ap (λ (f : ℕ → Option ℕ). f d) c.in_ok-costs.ensures.cost ∙ w.1, subst (λ v. entry_in rows v d ≡ Number w.0) is w.2);

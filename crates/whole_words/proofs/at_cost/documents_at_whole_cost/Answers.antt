@@ -1,4 +1,4 @@
-use Rattle.std.proofs.Common.{◌≡◌, ℕ, length, ap, sym, subst, ◌∙◌, arith}
+use Rattle.std.proofs.Common.{◌≡◌, length, ap, sym, subst, ◌∙◌, arith}
 use Rattle.posting_sets.proofs.OccursLemmas.{ok_of}
 use Rattle.whole_words.specs.Costs.{AreAtCost, is_as_long, is_in_some}
 use Rattle.whole_words.proofs.CostLemmas.{some_words, no_words, at_zero, at_one}

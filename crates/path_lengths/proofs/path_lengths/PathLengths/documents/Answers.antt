@@ -1,4 +1,4 @@
-use Rattle.std.proofs.Common.{◌≡◌, ℕ, false, List, ap, subst}
+use Rattle.std.proofs.Common.{◌≡◌, false, List, ap, subst}
 use Rattle.std.specs.List.{filter}
 use Rattle.std.specs.Result.{IfOk}
 use Rattle.posting_sets.specs.Found.{term_of}

@@ -13,5 +13,6 @@ returns c =
     let here : at < length lists = subst (λ n. at < n) (sym (length-map c.args.lists.now (λ list. list.now.entries))) c.rarest-at.ensures in
     let is : list.now.entries ≡ get_or lists at [] =
     ap (λ r. r.now.entries) c.index-lists-at.is ∙ sym (get_or-map (λ list. list.now.entries) c.args.lists.now at list [] c.rarest-at.ensures) in
-    subst (λ v. AreStarts ids lists (starts_at ids lists at v)) (sym c.new.ensures.entries)
-    (are_starts ids lists at here list.now.entries is c.new.ensures.increasing)
+    subst (λ l. AreStarts ids lists (starts_at ids l at c.iter-walked.result)) (sym c.in_ok-lists.ensures)
+    (subst (λ v. AreStarts ids lists (starts_at ids lists at v)) (sym c.iter-walked.ensures.entries)
+    (are_starts ids lists at here list.now.entries is c.iter-walked.ensures.increasing))

@@ -1,4 +1,4 @@
-use Rattle.std.proofs.Common.{map, ap, ltb, ◌∙◌}
+use Rattle.std.proofs.Common.{ap, ltb, ◌∙◌}
 use Rattle.std.specs.List.{filter}
 use Rattle.posting_sets.specs.Entries.{document_of}
 use Rattle.posting_sets.proofs.StartLemmas.{starts_passed}
@@ -7,5 +7,5 @@ use Rattle.posting_sets.proofs.occurrences.Occurrences.pass.Goals as goal
 pub returns : goal.returns
 returns c =
     let s = c.self.inside in
-    starts_passed s.universe.now.ids (map (λ list. list.now.entries) s.lists.now) s.at c.args.id.0 s.cursor c.pass.new.self c.pass.ensures
+    starts_passed s.universe.now.ids s.lists.items s.at c.args.id.0 s.walked c.pass_document.new.entries c.pass_document.ensures
     ∙ ap (filter (λ x. ltb c.args.id.0 (document_of x))) c.self.view_is

@@ -1,0 +1,7 @@
+pub mod SameLemmas
+pub mod StoreLemmas
+pub mod ReadyLemmas
+pub mod RowLemmas
+pub mod NamedLemmas
+pub mod LastLemmas
+pub mod LeftLemmas

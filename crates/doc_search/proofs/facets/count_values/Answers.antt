@@ -1,0 +1,7 @@
+use Rattle.std.proofs.lemmas.Result.{IfOk-weaker}
+use Rattle.index_snapshot.specs.Rows.{rows_at}
+use Rattle.doc_search.proofs.MatchLemmas.{are-rows}
+use Rattle.doc_search.proofs.facets.count_values.Goals as goal
+
+pub returns : goal.returns
+returns c = IfOk-weaker c.counts.result _ _ (λ reply told. told (rows_at c.args.searched.now) (are-rows c.args.searched.now)) c.counts.ensures

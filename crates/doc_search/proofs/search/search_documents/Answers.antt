@@ -1,0 +1,38 @@
+use Rattle.std.proofs.Common.{◌≡◌, ◌∙◌, sym, ap, ap₂, map, subst}
+use Rattle.filter_tree.specs.View.{view}
+use Rattle.row_filter.specs.Holds.{holds}
+use Rattle.bucket_sort.specs.Told.{and_then}
+use Rattle.index_snapshot.specs.Matches.{AreInOrder, opened}
+use Rattle.doc_index.specs.Documents.{documents_of}
+use Rattle.facet_counts.specs.Counts.{counted}
+use Rattle.index_snapshot.specs.Rows.{rows_at}
+use Rattle.index_snapshot.specs.Matches.{matches_among}
+use Rattle.list_search.specs.Matches.{ids_of}
+use Rattle.doc_index.proofs.StoreLemmas.{apart-documents}
+use Rattle.doc_search.proofs.MatchLemmas.{in-order, rows-matched}
+use Rattle.doc_search.proofs.search.search_documents.Goals as goal
+
+pub search-requires-clause-order : goal.search-requires-clause-order
+search-requires-clause-order g c =
+    let s = c.args.store.now.content in
+    subst AreInOrder (sym (c.new-snapshot.ensures ∙ c.in_ok-searched.ensures)) (in-order s.paths c.args.uses.now 0 s.rows s.next_id c.requires.sound.increase)
+
+pub returns-clause-told : goal.returns-clause-told
+returns-clause-told g c =
+    c.in_ok-found.ensures.told
+    ∙ ap (and_then _) (ap₂ (λ paths documents. opened (λ rows. holds paths rows (view c.args.filter.now)) c.args.query.now c.args.rules.now documents c.args.offset c.args.limit)
+    c.paths.ensures (c.new-snapshot.ensures ∙ c.in_ok-searched.ensures))
+
+pub returns-clause-facets : goal.returns-clause-facets
+returns-clause-facets g c =
+    let s = c.args.store.now.content in
+    let uses = c.args.uses.now in
+    let documents = documents_of s.paths uses s.rows in
+    let matched =
+    c.in_ok-found.ensures.matching
+    ∙ ap₂ (λ paths documents. ids_of (matches_among (λ rows. holds paths rows (view c.args.filter.now)) c.args.query.now c.args.rules.now documents)) c.paths.ensures (c.new-snapshot.ensures ∙ c.in_ok-searched.ensures) in
+    c.in_ok-facets.ensures
+    ∙ ap (λ rows. map (counted c.args.most rows) c.args.asked.items)
+    (ap (λ documents. map (rows_at documents) c.in_ok-found.found.matching.ids) c.in_ok-searched.ensures
+    ∙ ap (map (rows_at documents)) matched
+    ∙ rows-matched (λ rows. holds s.paths rows (view c.args.filter.now)) c.args.query.now c.args.rules.now documents (apart-documents s.paths uses 0 s.rows s.next_id c.requires.sound.increase))

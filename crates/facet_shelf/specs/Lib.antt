@@ -1,0 +1,2 @@
+-- Documents with their facet index.
+pub mod Shelves

@@ -1,0 +1,4 @@
+-- Lemmas on documents that a search sees by their ids.
+pub mod RowLemmas
+pub mod OrderLemmas
+pub mod MatchLemmas

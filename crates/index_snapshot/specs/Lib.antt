@@ -1,0 +1,4 @@
+-- Documents as a search over their index sees them.
+pub mod Rows
+pub mod Matches
+pub mod Laws

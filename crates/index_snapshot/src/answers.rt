@@ -1,0 +1,99 @@
+ghost use Rattle.std.specs.Prelude.{◌≡◌, ◌==◌, ◌<◌, ℕ, map, filter, IfOk};
+ghost use Rattle.std.specs.List.{AllByRecursion};
+ghost use Rattle.std.specs.Option.{option_copied};
+ghost use Rattle.search_base.specs.Whole.{whole_cost};
+ghost use Rattle.condition_graph.specs.Meets.{meets, IsRanked};
+ghost use Rattle.condition_graph.specs.Promise.{IsCondition};
+ghost use Rattle.sort_rule.specs.Rows.{next_of, is_under};
+ghost use Rattle.facet_index.specs.Sorts.{sort_keys};
+ghost use Rattle.rule_buckets.specs.Entries.{sort_entry};
+ghost use Rattle.row_index.specs.Standing.{faceted};
+ghost use Rattle.index_snapshot.specs.Rows.{rows_at};
+
+use crate::indexed::IndexedRows;
+use condition_graph::Condition;
+use doc_sets::DocSet;
+use list_conditions::meeting;
+use search_base::{CostKey, NoMemory, PathId, Word};
+use std::alloc::Global;
+use whole_words::documents_at_whole_cost;
+
+/// A number above each rank of the rows of any id.
+pub(crate) fn above_ranks<I: IndexedRows>(rows: &I) -> u16
+    ensures { (d : ℕ) → AllByRecursion (IsRanked result) (rows_at (I.documents rows.now) d).places }
+{
+    let count = rows.rank_count();
+    count
+}
+
+/// The documents of the universe that meet a condition.
+pub(crate) fn documents_meeting<I: IndexedRows>(
+    alloc: Global,
+    rows: &I,
+    condition: &Condition,
+    universe: &DocSet,
+) -> Result<DocSet, NoMemory>
+    requires { IsCondition condition.now }
+    ensures { IfOk result (λ docs. docs.ids
+        ≡ filter (λ d. meets (rows_at (I.documents rows.now) d).places condition.now) universe.now.ids) }
+{
+    let index = rows.index();
+    let places = index.places();
+    let ranks = rows.ranks();
+    let docs = meeting(alloc, places, ranks, condition, universe)?;
+    Ok(docs)
+}
+
+/// The documents of the universe that are so near to being these words.
+pub(crate) fn documents_at_cost<I: IndexedRows>(
+    alloc: Global,
+    rows: &I,
+    words: &[Word],
+    cost: u32,
+    universe: &DocSet,
+) -> Result<DocSet, NoMemory>
+    requires { cost < 2 }
+    ensures { IfOk result (λ docs. docs.ids
+        ≡ filter (λ d. whole_cost (rows_at (I.documents rows.now) d).places words.now == cost) universe.now.ids) }
+{
+    let index = rows.index();
+    let places = index.places();
+    let lengths = index.lengths();
+    let docs = documents_at_whole_cost(alloc, places, lengths, words, cost, universe)?;
+    Ok(docs)
+}
+
+/// The least entry of a path after another, or the least of all.
+pub(crate) fn next_entry<I: IndexedRows>(
+    alloc: Global,
+    rows: &I,
+    path: PathId,
+    up: bool,
+    after: Option<&CostKey>,
+) -> Result<Option<CostKey>, NoMemory>
+    ensures { IfOk result (λ found. found
+        ≡ next_of (sort_keys up path.0 (map faceted (I.documents rows.now))) (option_copied after.entry)) }
+{
+    let index = rows.index();
+    let facets = index.facets();
+    let found = facets.next_sort(alloc, path, up, after)?;
+    Ok(found)
+}
+
+/// The documents of the universe that have an entry under a path.
+pub(crate) fn documents_under<I: IndexedRows>(
+    alloc: Global,
+    rows: &I,
+    path: PathId,
+    up: bool,
+    at: &CostKey,
+    universe: &DocSet,
+) -> Result<DocSet, NoMemory>
+    ensures { IfOk result (λ docs. docs.ids
+        ≡ filter (λ d. is_under at.now (sort_entry up path.0 (rows_at (I.documents rows.now) d).leaves)) universe.now.ids) }
+{
+    let index = rows.index();
+    let facets = index.facets();
+    let docs = facets.sort_docs(alloc, path, up, at, universe)?;
+    Ok(docs)
+}

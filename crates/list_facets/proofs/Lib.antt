@@ -1,0 +1,5 @@
+pub mod TextLemmas
+pub mod NumberLemmas
+pub mod EndLemmas
+pub mod HitLemmas
+pub mod KeyLemmas

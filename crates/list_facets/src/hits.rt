@@ -1,0 +1,81 @@
+ghost use Rattle.std.specs.Prelude.{◌≡◌, ℕ, ◌*◌, ◌^◌, ◌∷◌, [], ◌++◌, List, filter, IfOk, OnOk};
+ghost use Rattle.doc_sets.specs.Sets.{has};
+ghost use Rattle.sorted_pages.specs.Entries.{has as has_entry};
+ghost use Rattle.facet_index.specs.Places.{has_document};
+ghost use Rattle.list_facets.specs.Hits.{ids_of, AreHits, IsWhole};
+
+use crate::matching::Matching;
+use doc_sets::sets_are_their_members;
+use search_base::{DocId, NoMemory};
+use sorted_pages::SortedPages;
+
+/// How many documents of a list are in a set, and the first of them.
+#[derive(Drop)]
+pub(crate) struct Hits {
+    pub(crate) count: u64,
+    pub(crate) first: Option<DocId>,
+}
+
+impl Hits {
+    // No document.
+    fn none() -> Hits
+        ensures { AreHits result [] }
+    {
+        Hits {
+            count: 0,
+            first: None,
+        }
+    }
+
+    // One document more, behind the others.
+    fn see(&mut self, id: DocId) -> Result<(), NoMemory>
+        ensures { OnOk result ((ids : List ℕ) → AreHits self.old ids → AreHits self.new (ids ++ id.0 ∷ [])) }
+    {
+        if self.first.is_none() {
+            self.first = Some(id);
+        }
+        self.count = self.count.checked_add(1).ok_or(NoMemory)?;
+        Ok(())
+    }
+}
+
+/// The documents of the set that have an entry in the list. The shorter of the two is walked.
+pub(crate) fn hits_of(list: &SortedPages, matching: &Matching<'_>) -> Result<Hits, NoMemory>
+    ensures { IfOk result (λ hits. IsWhole list.now.entries
+        → AreHits hits (filter (λ d. has_document d list.now.entries) matching.now.ids)) }
+{
+    sets_are_their_members();
+    if list.len() as u64 <= matching.len() {
+        hits_in_list(list, matching)
+    } else {
+        hits_in_set(list, matching)
+    }
+}
+
+// The documents of the list that are in the set.
+fn hits_in_list(list: &SortedPages, matching: &Matching<'_>) -> Result<Hits, NoMemory>
+    ensures { IfOk result (λ hits. AreHits hits (filter (has matching.now.ids) (ids_of list.now.entries))) }
+{
+    let mut hits = Hits::none();
+    for entry in list.iter() {
+        let id = DocId((entry >> 32) as u32);
+        if matching.contains(id) {
+            hits.see(id)?;
+        }
+    }
+    Ok(hits)
+}
+
+// The documents of the set that are in the list.
+fn hits_in_set(list: &SortedPages, matching: &Matching<'_>) -> Result<Hits, NoMemory>
+    ensures { IfOk result (λ hits.
+        AreHits hits (filter (λ d. has_entry list.now.entries (d * 2 ^ 32)) matching.now.ids)) }
+{
+    let mut hits = Hits::none();
+    for id in matching.iter() {
+        if list.contains(u64::from(id.0) << 32) {
+            hits.see(id)?;
+        }
+    }
+    Ok(hits)
+}

@@ -1,0 +1,93 @@
+ghost use Rattle.std.specs.Prelude.{◌≡◌, ℕ, ◌++◌, List, [], map, IfOk};
+ghost use Rattle.search_base.specs.RowsView.{RowsView};
+ghost use Rattle.facet_counts.specs.Counts.{count_rows as count_rows_of};
+ghost use Rattle.facet_keys.specs.Keys.{counted, key_bytes, IsNarrow};
+ghost use Rattle.postings.specs.Dictionary.{list_at};
+ghost use Rattle.list_facets.specs.Rows.{AreRowsIn, row_if, listed};
+
+use crate::hits::hits_of;
+use crate::matching::Matching;
+use crate::spellings::{rest_of, shown_in};
+use doc_sets::DocSet;
+use facet_counts::CountRow;
+use facet_keys::{counted_key, keys_tell_facets_apart};
+use postings::Postings;
+use search_base::{NoMemory, PathId, Word};
+use sorted_pages::SortedPages;
+use std::alloc::Global;
+
+/// The first `most` values that documents of the set have under the path. Looks at no later value.
+pub(crate) fn count_rows(
+    alloc: Global,
+    keys: &Postings,
+    path: PathId,
+    matching: &DocSet,
+    most: u64,
+) -> Result<Vec<CountRow>, NoMemory>
+    ensures { IfOk result (λ found. (rows : ℕ → RowsView) → AreRowsIn keys.now rows
+        → found.items ≡ count_rows_of path.0 most (map rows matching.now.ids)) }
+{
+    let first = counted_key(alloc, path, "")?;
+    let matching = Matching::of(alloc, matching)?;
+    rows_from(alloc, keys, path, &first, &matching, most)
+}
+
+// The same, where the keys of all values begin as `first`.
+fn rows_from(
+    alloc: Global,
+    keys: &Postings,
+    path: PathId,
+    first: &Word,
+    matching: &Matching<'_>,
+    most: u64,
+) -> Result<Vec<CountRow>, NoMemory>
+    requires first { first.now ≡ key_bytes path.0 (counted []) }
+    requires narrow { IsNarrow path.0 (counted []) }
+    ensures { IfOk result (λ found. (rows : ℕ → RowsView) → AreRowsIn keys.now rows
+        → found.items ≡ count_rows_of path.0 most (map rows matching.now.ids)) }
+{
+    keys_tell_facets_apart();
+    let mut found = Vec::new(alloc);
+    for (key, list) in keys.with_prefix(first) {
+        if found.len() as u64 >= most {
+            return Ok(found);
+        }
+        match row_of(alloc, keys, path, first, key, list, matching)? {
+            Some(row) => found.push(row)?,
+            None => {}
+        }
+    }
+    Ok(found)
+}
+
+// The row of the value of a key, if a document of the set has it. The keys of all values begin as `first`.
+fn row_of(
+    alloc: Global,
+    keys: &Postings,
+    path: PathId,
+    first: &Word,
+    key: &Word,
+    list: &SortedPages,
+    matching: &Matching<'_>,
+) -> Result<Option<CountRow>, NoMemory>
+    requires first { first.now ≡ key_bytes path.0 (counted []) }
+    requires narrow { IsNarrow path.0 (counted []) }
+    ensures { IfOk result (λ row. (rows : ℕ → RowsView) (text : List ℕ) → AreRowsIn keys.now rows
+        → key.now ≡ first.now ++ text → list.now.entries ≡ list_at key.now keys.now
+        → listed row ≡ row_if path.0 (map rows matching.now.ids) text) }
+{
+    keys_tell_facets_apart();
+    let hits = hits_of(list, matching)?;
+    match hits.first {
+        Some(id) => {
+            let value = rest_of(alloc, key, first)?;
+            let shown = shown_in(alloc, keys, path, &value, id)?;
+            Ok(Some(CountRow {
+                value,
+                shown,
+                count: hits.count,
+            }))
+        }
+        None => Ok(None),
+    }
+}

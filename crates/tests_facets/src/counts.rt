@@ -1,0 +1,188 @@
+use crate::checks::{check, set, word};
+use doc_sets::DocSet;
+use facet_counts::{FacetPath, FacetReply};
+use facet_shelf::Shelf;
+use list_facets::counts;
+use search_base::{FacetValue, Leaf, PathId};
+use std::alloc::Global;
+use std::process::Abort;
+
+const GENRE: u16 = 1;
+
+const YEAR: u16 = 2;
+
+const MIXED: u16 = 3;
+
+const MANY: u16 = 4;
+
+const FIRST: i128 = -(1 << 63);
+
+const LAST: i128 = (1 << 64) - 1;
+
+// The document, the path, the number or else the normal form, and the spelling. Documents 2 and 3 have the values of 0
+// and 1 in another order, spelled otherwise.
+const LEAVES: [(u32, u16, i128, &str, &str); 19] = [
+    (0, GENRE, 0, "drama", "Drama"),
+    (0, GENRE, 0, "drama", "DRAMA"),
+    (0, GENRE, 0, "action", "Action"),
+    (0, YEAR, 5, "", "5"),
+    (0, YEAR, FIRST, "", "-9223372036854775808"),
+    (1, GENRE, 0, "élan", "Élan"),
+    (1, YEAR, 0, "5", "5"),
+    (1, GENRE, 0, "drama", "drama"),
+    (1, YEAR, LAST, "", "18446744073709551615"),
+    (1, MIXED, 7, "", "7"),
+    (1, MIXED, 0, "7", "seven"),
+    (1, MIXED, -2, "", "-2"),
+    (2, GENRE, 0, "drama", "DraMa"),
+    (2, GENRE, 0, "drama", "drama"),
+    (2, MIXED, 0, "zoo", "Zoo"),
+    (2, MIXED, 3, "", "3"),
+    (3, GENRE, 0, "drama", "drama"),
+    (3, GENRE, 0, "drama", "Drama"),
+    (3, GENRE, 0, "", "none"),
+];
+
+// The matches, the path, how many values are given at most, and what is told: of each value its normal form, its
+// spelling and its count, and then the least and the greatest number.
+const COUNTS: [(&[u32], Option<u16>, u64, &str); 17] = [
+    (
+        &[0, 1],
+        Some(GENRE),
+        100,
+        "action Action 1, drama Drama 2, élan Élan 1, ",
+    ),
+    (&[0], Some(GENRE), 100, "action Action 1, drama Drama 1, "),
+    (&[1], Some(GENRE), 100, "drama drama 1, élan Élan 1, "),
+    (&[1, 2], Some(GENRE), 100, "drama drama 2, élan Élan 1, "),
+    (&[2], Some(GENRE), 100, "drama DraMa 1, "),
+    (&[2, 3], Some(GENRE), 1, "0 none 1, 0 to 0, "),
+    (&[0, 1], Some(GENRE), 2, "action Action 1, drama Drama 2, "),
+    (&[0, 1], Some(GENRE), 0, ""),
+    (&[], Some(GENRE), 100, ""),
+    (&[7], Some(GENRE), 100, ""),
+    (
+        &[0, 1],
+        Some(YEAR),
+        100,
+        "-9223372036854775808 -9223372036854775808 1, 18446744073709551615 18446744073709551615 1, 5 5 2, -9223372036854775808 to 18446744073709551615, ",
+    ),
+    (
+        &[0],
+        Some(YEAR),
+        1,
+        "-9223372036854775808 -9223372036854775808 1, -9223372036854775808 to 5, ",
+    ),
+    (&[1], Some(MIXED), 100, "-2 -2 1, 7 7 1, -2 to 7, "),
+    (&[2], Some(MIXED), 100, "3 3 1, zoo Zoo 1, 3 to 3, "),
+    (
+        &[0, 1, 2, 3],
+        Some(MIXED),
+        100,
+        "-2 -2 1, 3 3 1, 7 7 1, zoo Zoo 1, -2 to 7, ",
+    ),
+    (&[0, 1, 2, 3], Some(9), 100, ""),
+    (&[0, 1, 2, 3], None, 100, ""),
+];
+
+fn leaf(rt: &impl Abort, alloc: Global, path: u16, number: i128, form: &str, shown: &str) -> Leaf {
+    let value = if form.is_empty() {
+        FacetValue::Number(number)
+    } else {
+        FacetValue::Text(word(rt, alloc, form))
+    };
+    Leaf {
+        path: PathId(path),
+        value,
+        shown: word(rt, alloc, shown),
+    }
+}
+
+fn leaves_of(rt: &impl Abort, alloc: Global, document: u32) -> Vec<Leaf> {
+    let mut leaves = Vec::new(alloc);
+    for (of, path, number, form, shown) in &LEAVES {
+        if *of == document {
+            let leaf = leaf(rt, alloc, *path, *number, form, shown);
+            leaves.push(leaf).expect(rt, "memory");
+        }
+    }
+    leaves
+}
+
+// The four documents of the table.
+fn shelf(rt: &impl Abort, alloc: Global) -> Shelf {
+    let mut documents = Vec::new(alloc);
+    for document in 0..4 {
+        let leaves = leaves_of(rt, alloc, document);
+        documents.push(leaves).expect(rt, "memory");
+    }
+    Shelf::of(alloc, documents).expect(rt, "memory")
+}
+
+fn asked(
+    rt: &impl Abort,
+    alloc: Global,
+    shelf: &Shelf,
+    matching: &DocSet,
+    path: Option<u16>,
+    most: u64,
+) -> FacetReply {
+    let facet = FacetPath {
+        attribute: word(rt, alloc, "asked"),
+        path: path.map(PathId),
+    };
+    let reply = counts(alloc, shelf, matching, facet, most).expect(rt, "memory");
+    check(rt, reply.attribute.as_str() == "asked", "attribute");
+    reply
+}
+
+fn told(rt: &impl Abort, alloc: Global, reply: &FacetReply) -> String {
+    let mut text = String::new(alloc);
+    for row in &reply.rows {
+        let (value, shown) = (row.value.as_str(), row.shown.as_str());
+        write!(text, "{value} {shown} {}, ", row.count).expect(rt, "memory");
+    }
+    if let Some((least, greatest)) = reply.stats {
+        write!(text, "{least} to {greatest}, ").expect(rt, "memory");
+    }
+    text
+}
+
+#[test]
+fn values_of_matches_are_counted(rt: HostRuntime) {
+    let alloc = rt.alloc();
+    let shelf = shelf(&rt, alloc);
+    for (ids, path, most, want) in &COUNTS {
+        let matching = set(&rt, alloc, ids);
+        let reply = asked(&rt, alloc, &shelf, &matching, *path, *most);
+        let text = told(&rt, alloc, &reply);
+        check(&rt, text.as_str() == *want, want);
+    }
+}
+
+// A document of ten thousand numbers, and one that has the last of them alone.
+#[test]
+fn a_document_of_many_counted_values(rt: HostRuntime) {
+    let alloc = rt.alloc();
+    let mut many = Vec::new(alloc);
+    for n in 0..10_000_u32 {
+        let leaf = leaf(&rt, alloc, MANY, i128::from(n), "", "a number");
+        many.push(leaf).expect(&rt, "memory");
+    }
+    let mut one = Vec::new(alloc);
+    let last = leaf(&rt, alloc, MANY, 9_999, "", "the last");
+    one.push(last).expect(&rt, "memory");
+    let documents = Vec::from_array(alloc, [one, many]).expect(&rt, "memory");
+    let shelf = Shelf::of(alloc, documents).expect(&rt, "memory");
+    let both = set(&rt, alloc, &[0, 1]);
+    let reply = asked(&rt, alloc, &shelf, &both, Some(MANY), 20_000);
+    check(&rt, reply.rows.len() == 10_000, "each value once");
+    check(&rt, reply.stats == Some((0, 9_999)), "least and greatest");
+    let last = reply.rows.as_slice().last();
+    let shown = last.map(|row| (row.value.as_str(), row.shown.as_str(), row.count));
+    check(
+        &rt,
+        shown == Some(("9999", "the last", 2)),
+        "the first spelling of all",
+    );
+}

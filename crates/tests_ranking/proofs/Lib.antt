@@ -1,0 +1,2 @@
+-- Lemmas on documents, each at the place of its number.
+pub mod ShelfLemmas

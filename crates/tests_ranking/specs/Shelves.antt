@@ -1,0 +1,21 @@
+-- Documents in an index, each at the place of its number.
+use Rattle.std.specs.Prelude.{ℕ, List, map, Option, Some}
+use Rattle.search_base.specs.RowsView.{RowsView}
+use Rattle.posting_sets.specs.Blocks.{HaveRanks}
+use Rattle.row_index.specs.Documents.{IndexedDocument}
+use Rattle.row_index.specs.Standing.{RowIndexView, StandsFor, placed}
+use Rattle.index_snapshot.specs.Rows.{AreRanked}
+use Rattle.index_snapshot.specs.Matches.{documents_from}
+
+-- the documents of which the first has this number
+abbrev pub shelved_from : ℕ → List RowsView → List IndexedDocument
+shelved_from id rows = documents_from id (map Some rows)
+
+abbrev pub shelved : List RowsView → List IndexedDocument
+shelved rows = shelved_from 0 rows
+
+-- the index is theirs, and each place has the rank of its path, which is below 8
+pub record IsShelf (index : RowIndexView) (ranks : List (Option ℕ)) (documents : List IndexedDocument) : Type 0 where
+  pub stands : StandsFor index documents
+  pub have : HaveRanks ranks (map placed documents)
+  pub below : AreRanked 8 documents

@@ -1,0 +1,128 @@
+ghost use Rattle.std.specs.Prelude.{◌≡◌};
+ghost use Rattle.doc_search.specs.Ranked.{RankedBelow};
+
+use crate::stored::{USES, first_store, index_of, stored_row, word};
+use bucket_sort::{BucketLog, SilentLog};
+use doc_rows::PathUse;
+use doc_search::{DocumentsFound, search_documents};
+use doc_store::DocStore;
+use facet_counts::FacetPath;
+use filter_tree::Filter;
+use query_graph::{build_graph, items};
+use search_base::{PathId, Rule, Steps, Strategy};
+use std::alloc::Global;
+use std::process::Abort;
+use synonym_terms::SynonymTable;
+
+// Documents that come after one that has the word `dark` in its title and its text, and `a` for its kind.
+const DOCUMENTS: &str = r#"1|{"kind":["A",7],"text":"dark knight","title":"One"}
+2|{"kind":7,"title":"Knight"}
+3|{"note":"dark"}"#;
+
+// What a search asks for, from which hit on and for how many; its hits, the best first; how many documents match; and of
+// each value of a kind its text, how it is spelled and how many of these documents have it.
+const SEARCHES: &str = "dark|0 9|0 1|2|7 7 1;a a 2;
+dark|1 9|1|2|7 7 1;a a 2;
+knight|0 9|2 1|2|7 7 2;a A 1;
+knight|0 1|2|2|7 7 2;a A 1;
+|0 9|0 1 2 3|4|7 7 2;a a 2;
+gotham|0 9||0|";
+
+fn uses() -> [PathUse; 4]
+    ensures is { result ≡ USES }
+    ensures ranks { RankedBelow 65535 result }
+{
+    USES
+}
+
+// A document comes.
+fn add(rt: &impl Abort, alloc: Global, store: &mut DocStore, line: &str) {
+    let (external, text) = line.split_once('|').unwrap_or((line, ""));
+    let mut rows = Vec::new(alloc);
+    let row = stored_row(rt, alloc, external, text);
+    rows.push(row).expect(rt, "memory");
+    let admission = store.admit(alloc, rows.as_slice()).expect(rt, "admitted");
+    let plan = store.prepare(rows, admission).expect(rt, "memory");
+    let _ids = store.commit(plan);
+}
+
+fn found(
+    rt: &impl Abort,
+    alloc: Global,
+    store: &DocStore,
+    query: &str,
+    offset: u64,
+    limit: u64,
+) -> DocumentsFound {
+    let index = index_of(rt, alloc, store);
+    let uses = uses();
+    let items = items(alloc, query, &[]).expect(rt, "memory");
+    let table = SynonymTable::new(alloc);
+    let graph = build_graph(alloc, &items, &table, Strategy::Last).expect(rt, "memory");
+    let log = Box::new(alloc, SilentLog).expect(rt, "memory");
+    let mut log: Box<dyn BucketLog> = log;
+    let mut openings = Steps::<u8>::new();
+    let mut asked = Vec::new(alloc);
+    let kind = FacetPath {
+        attribute: word(rt, alloc, "kind"),
+        path: Some(PathId(0)),
+    };
+    asked.push(kind).expect(rt, "memory");
+    search_documents(
+        alloc,
+        store,
+        &index,
+        &uses,
+        &graph,
+        &Filter::All,
+        &[Rule::Field],
+        offset,
+        limit,
+        asked,
+        10,
+        &mut log,
+        &mut openings,
+    )
+    .expect(rt, "memory")
+}
+
+fn told(rt: &impl Abort, alloc: Global, found: &DocumentsFound) -> String {
+    let mut text = String::new(alloc);
+    for (i, id) in found.hits.iter().enumerate() {
+        let before = if i == 0 { "" } else { " " };
+        write!(text, "{before}{}", id.0).expect(rt, "memory");
+    }
+    write!(text, "|{}|", found.total).expect(rt, "memory");
+    for facet in &found.facets {
+        for row in &facet.rows {
+            let (value, shown) = (row.value.as_str(), row.shown.as_str());
+            write!(text, "{value} {shown} {};", row.count).expect(rt, "memory");
+        }
+    }
+    text
+}
+
+fn check_search(rt: &impl Abort, alloc: Global, store: &DocStore, line: &str) {
+    let mut parts = line.splitn(3, '|');
+    let query = parts.next().unwrap_or("");
+    let window = parts.next().unwrap_or("");
+    let wanted = parts.next().unwrap_or("");
+    let (offset, limit) = window.split_once(' ').unwrap_or(("", ""));
+    let offset = offset.parse::<u64>().ok().expect(rt, "a number");
+    let limit = limit.parse::<u64>().ok().expect(rt, "a number");
+    let found = found(rt, alloc, store, query, offset, limit);
+    let told = told(rt, alloc, &found);
+    assert!(rt; told.as_str() == wanted, "{line}: {told}");
+}
+
+#[test]
+fn stored_documents_are_found_through_their_index(rt: HostRuntime) {
+    let alloc = rt.alloc();
+    let mut store = first_store(&rt, alloc);
+    for line in DOCUMENTS.lines() {
+        add(&rt, alloc, &mut store, line);
+    }
+    for line in SEARCHES.lines() {
+        check_search(&rt, alloc, &store, line);
+    }
+}
