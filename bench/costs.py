@@ -1,12 +1,12 @@
 #!/usr/bin/env python3
-"""Searches an index through `rank_server pipe` and prints what it costs to score a document, by the query.
+"""Searches an index through `rank_server pipe` and prints what a search costs for each of its documents, by the query.
 
     bench/costs.py [BIN] [--documents N] [--searches N] [--rounds N]
 
 An index of small documents (about 80 bytes) is searched by queries of 1, 2, 5 and 10 words, under the rules of a new
-index; then again with three synonyms of two words each for every word. Each search scores every document. Printed are
-microseconds a document, and in brackets the ratio to one word without synonyms. The time of the load alone is taken
-off, and the best of the rounds counts. Nothing tests these numbers.
+index; then again with three synonyms of two words each for every word. Printed are the microseconds of a search by the
+number of documents of the index, and in brackets the ratio to one word without synonyms. The time of the load alone is
+taken off, and the best of the rounds counts. Nothing tests these numbers.
 """
 import argparse
 import json

@@ -182,8 +182,9 @@ fn put_last(
     change.put_in(alloc, id, &rows)
 }
 
-/// What searches see of a document, read back from its text.
-pub(crate) fn rows_in(
+/// What searches see of a document, read back from its text, by the paths of a registry, each used as `uses` says.
+/// `NoMemory` comes where memory is wanting.
+pub fn rows_in(
     alloc: Global,
     text: &DocumentText,
     paths: &[Word],

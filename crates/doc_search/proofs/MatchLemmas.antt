@@ -1,12 +1,12 @@
 -- The documents that match, by their ids and by their rows.
-use Rattle.std.proofs.Common.{◌≡◌, ℕ, suc, ◌+◌, ◌<◌, ◌≤◌, ◌==◌, ◌&&◌, Bool, true, false, cond, List, [], ◌∷◌, map, length, Option, Some, None, refl, sym, ap, ◌∙◌, arith}
+use Rattle.std.proofs.Common.{◌≡◌, ℕ, suc, ◌<◌, ◌==◌, ◌&&◌, Bool, true, false, cond, List, [], ◌∷◌, map, Option, Some, None, refl, sym, ap, ◌∙◌, arith}
 use Rattle.std.specs.Option.{option_map, is_some}
-use Rattle.std.specs.List.{AllByRecursion, filter, filter_map, cons_option}
+use Rattle.std.specs.List.{AllByRecursion, cons_option}
 use Rattle.search_base.specs.declared.rule.Rule.{Rule}
 use Rattle.search_base.specs.GraphView.{GraphView}
 use Rattle.search_base.specs.RowsView.{RowsView}
 use Rattle.search_base.specs.Tuple.{tuple, cost_of, entry}
-use Rattle.doc_sets.specs.Sets.{IsIncreasing, AreAbove}
+use Rattle.doc_sets.specs.Sets.{AreAbove}
 use Rattle.doc_rows.specs.declared.path_use.PathUse.{PathUse}
 use Rattle.doc_store.specs.Store.{Row}
 use Rattle.doc_store.specs.Sound.{Increase}
@@ -15,11 +15,11 @@ use Rattle.row_index.specs.Standing.{faceted}
 use Rattle.facet_index.specs.Batches as facets
 use Rattle.list_facets.specs.Rows.{AreRowsOf, leaves_of}
 use Rattle.list_search.specs.Matches.{match_at, ids_of}
-use Rattle.index_snapshot.specs.Matches.{AreInOrder, match_of, matches_among}
+use Rattle.index_snapshot.specs.Matches.{AreInOrder, matches_among}
 use Rattle.index_snapshot.specs.Rows.{rows_of, rows_at}
 use Rattle.doc_index.specs.Documents.{documents_of}
 use Rattle.doc_index.proofs.SameLemmas.{all-from, at-among}
-use Rattle.doc_search.specs.Matched.{is_match, rows_matching}
+use Rattle.doc_search.specs.Matched.{rows_matching}
 
 -- ---- documents of a store are in order
 above-ids : (paths : List (List ℕ)) (uses : List PathUse) (n low : ℕ) (rows : List Row) (high : ℕ) → Increase low rows high → n < low → AreAbove n (map (λ (d : IndexedDocument). d.id) (documents_of paths uses rows))

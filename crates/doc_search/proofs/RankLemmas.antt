@@ -1,6 +1,5 @@
 -- The ranks of the places of documents are those of their paths.
-use Rattle.std.proofs.Common.{◌≡◌, ℕ, zero, suc, ◌+◌, ◌<◌, ◌≤◌, max, Bool, true, false, cond, List, [], ◌∷◌, ◌++◌, map, length, drop, take, get_or, Option, Some, None, refl, sym, ap, ◌∙◌, subst, arith}
-use Rattle.std.specs.Prelude.{slice_get}
+use Rattle.std.proofs.Common.{◌≡◌, ℕ, ◌+◌, ◌<◌, ◌≤◌, Bool, true, false, cond, List, [], ◌∷◌, ◌++◌, map, length, Option, Some, None, refl, ap, subst, arith}
 use Rattle.std.specs.Option.{IfSome}
 use Rattle.std.specs.List.{AllByRecursion, filter, filter_map}
 use Rattle.search_base.specs.declared.document.Place.{Place}
@@ -8,18 +7,16 @@ use Rattle.search_base.specs.declared.token.Token.{Token}
 use Rattle.token_words.specs.Tokens.{tokens}
 use Rattle.doc_values.specs.Leaves.{said_of}
 use Rattle.doc_values.specs.Walk.{flat_rows}
-use Rattle.doc_values.specs.declared.rows.Flat.{Flat}
 use Rattle.doc_values.specs.declared.rows.FlatRow.{FlatRow}
 use Rattle.doc_rows.specs.declared.path_use.PathUse.{PathUse}
-use Rattle.doc_rows.specs.Rows.{place_of, next_start, all_places, places_of, places_at, is_searched, path_rows, rows_from, rows_of}
+use Rattle.doc_rows.specs.Rows.{place_of, next_start, all_places, places_of, places_at, is_searched, rows_from}
 use Rattle.doc_rows.specs.Texts.{leaf_text}
 use Rattle.doc_store.specs.Store.{Row}
-use Rattle.condition_graph.specs.Meets.{IsRanked}
 use Rattle.posting_sets.specs.Blocks.{HaveRanks}
 use Rattle.posting_sets.specs.Numbers.{rank_at}
 use Rattle.row_index.specs.Standing.{placed}
 use Rattle.index_snapshot.specs.Rows.{AreRanked}
-use Rattle.doc_index.specs.Documents.{document_of, documents_of}
+use Rattle.doc_index.specs.Documents.{documents_of}
 use Rattle.doc_search.specs.Ranked.{ranks_of, RankedBelow}
 
 -- ---- lists of places

@@ -37,7 +37,8 @@ pub struct DocumentsFound {
 /// on, of which there are `limit` at most, by their costs under the rules and then by internal id; how many match; and
 /// for each asked attribute the counts of its first `most` values. The row index is that of the store's documents, whose
 /// paths are used as `uses` says; each rank is below 65,535. Each bucket that is opened on the way is told to the log and
-/// is one step. `NoMemory` comes where memory is wanting.
+/// is one step; no hits are asked for, none is opened. `NoMemory` comes where memory is wanting, and the log then has the
+/// first of what a search opens.
 pub fn search_documents<G>(
     alloc: Global,
     store: &DocStore,
@@ -70,9 +71,16 @@ pub fn search_documents<G>(
     ensures told { OnOk result (told log.new ≡ and_then (told log.old) (opened
         (λ rows. holds store.now.content.paths rows (view filter.now)) query.now rules.now
         (documents_of store.now.content.paths uses.now store.now.content.rows) offset limit)) }
+    ensures steps { OnOk result (openings.new ≡ openings.old + length (opened
+        (λ rows. holds store.now.content.paths rows (view filter.now)) query.now rules.now
+        (documents_of store.now.content.paths uses.now store.now.content.rows) offset limit)) }
+    ensures err_told { OnErr result (GainsPrefix (told log.old) (told log.new) (opened
+        (λ rows. holds store.now.content.paths rows (view filter.now)) query.now rules.now
+        (documents_of store.now.content.paths uses.now store.now.content.rows) offset limit)) }
     ensures few { RisesAtMost openings.old openings.new (length rules.now * min (offset + limit) (length (matches_among
         (λ rows. holds store.now.content.paths rows (view filter.now)) query.now rules.now
         (documents_of store.now.content.paths uses.now store.now.content.rows)))) }
+    ensures none_asked { limit ≡ 0 → openings.new ≡ openings.old }
 {
     let searched = Searched::new(alloc, store, index, uses)?;
     let snapshot = Snapshot::new(&searched);

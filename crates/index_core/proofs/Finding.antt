@@ -1,5 +1,5 @@
 -- Documents found by their ids.
-use Rattle.std.proofs.Common.{◌≡◌, ℕ, zero, suc, ◌+◌, ◌-◌, ◌<◌, ◌≤◌, ◌==◌, ◌⊎◌, inl, inr, min, Bool, true, false, cond, List, [], ◌∷◌, ◌++◌, length, map, take, drop, slice_index_or, filter, Option, None, Some, refl, sym, ap, subst, ◌∙◌, arith, append_assoc}
+use Rattle.std.proofs.Common.{◌≡◌, ℕ, zero, suc, ◌+◌, ◌-◌, ◌<◌, ◌≤◌, ◌==◌, ◌⊎◌, inl, inr, min, Bool, true, false, cond, List, [], ◌∷◌, ◌++◌, length, map, take, drop, slice_index_or, Option, None, Some, refl, sym, ap, ap₂, subst, ◌∙◌, arith, append_assoc}
 use Rattle.std.specs.Prelude.{bytes_eq, ◌&&◌}
 use Rattle.std.specs.Option.{option_map, is_some}
 use Rattle.std.specs.List.{AllByRecursion, filter_map, cons_option}
@@ -16,8 +16,10 @@ use Rattle.search_base.specs.GraphView.{GraphView}
 use Rattle.search_base.specs.Query.{tuple_under}
 use Rattle.search_base.specs.RowsView.{RowsView}
 use Rattle.search_base.specs.Tuple.{tuple, cost_of, entry}
-use Rattle.row_search.specs.Hits.{costs_of, id_of as id_of_match, hits_of}
-use Rattle.row_search.specs.Matching.{match_at, costs_where, is_match, matches_among, matches_in, rows_matching}
+use Rattle.doc_index.specs.Documents.{documents_of}
+use Rattle.doc_search.specs.Matched.{is_match, rows_matching}
+use Rattle.index_snapshot.specs.Matches.{matches_among}
+use Rattle.list_search.specs.Matches.{match_at, ids_of, hits_of}
 use Rattle.row_filter.specs.Holds.{holds}
 use Rattle.facet_counts.specs.FacetView.{FacetView}
 use Rattle.facet_counts.specs.Counts.{counted}
@@ -25,14 +27,13 @@ use Rattle.search_call.specs.SearchView.{SearchView}
 use Rattle.search_call.specs.Windows.{offset_of}
 use Rattle.doc_store.specs.Store.{Row, Store, id_of, row_at}
 use Rattle.doc_store.specs.Sound.{Increase, IsSound}
-use Rattle.index_settings.specs.View.{SettingsView}
 use Rattle.index_core.specs.Index.{Index, document_under}
-use Rattle.row_search.specs.Slots.{KeptRows, kept_at, kept_from}
-use Rattle.index_core.specs.Kept.{AreKept, AreOf}
-use Rattle.index_core.specs.Matching.{Matching, with_costs, match_of, matching, query_in, rows_in, rules_in, rows_with, costs_in, rows_matching as rows_of_matches}
+use Rattle.index_core.specs.Matching.{Matching, with_costs, match_of, matching, passes, query_in, rows_in, rules_in, uses_in, costs_in, rows_matching as rows_of_matches}
 use Rattle.index_core.specs.Found.{Found, FoundHit, hit_of, asked_of, most_hits, window_end, window_size, paths_asked, counts_of}
-use Rattle.index_core.specs.Shown.{hit_at, Finds}
-use Rattle.index_core.specs.Slots.{AreInSlots}
+use Rattle.doc_rows.specs.Rows.{rows_of}
+use Rattle.index_core.specs.declared.ranking.Ranking.{Ranking}
+use Rattle.index_core.specs.Ranking.{IsRankingOf}
+use Rattle.index_core.specs.Shown.{costs_shown, hit_at, hit_under, Finds}
 use Rattle.index_core.proofs.HitLemmas.{all-hits, hits-seen}
 
 -- ---- a list of documents that are read one after the other
@@ -160,17 +161,12 @@ reads-ids all (r ∷ rows) (id ∷ ids) e =
     let rest : map (λ id. id.0) ids ≡ map (λ r. r.id) rows = cc in
     ap (λ n. cons_option (document_at n all) (filter_map (λ id. document_at id.0 all) ids)) first ∙ ap (cons_option (document_at r.id all)) (reads-ids all rows ids rest)
 
-kept-ids : (st : SettingsView) (s : Store) (rows : List Row) → map (λ k. k.id.0) (map (λ r. kept_at r.id (rows_with st s.paths r.document)) rows) ≡ map (λ r. r.id) rows
-kept-ids st s [] = refl
-kept-ids st s (r ∷ rows) = ap (λ v. r.id ∷ v) (kept-ids st s rows)
-
--- a part of the documents, by the ids that are kept for it
-pub part-read : (st : SettingsView) (s : Store) (kept : List KeptRows) (ids : List DocId) (offset limit : ℕ) → AreKept kept st s → map (λ id. id.0) ids ≡ map (λ k. k.id.0) (take limit (drop offset kept))
+-- a part of the documents, by their ids
+pub part-read : (s : Store) (ids : List DocId) (offset limit : ℕ) → IsSound s → map (λ id. id.0) ids ≡ take limit (drop offset (map (λ r. r.id) s.rows))
     → filter_map (λ id. option_map (λ r. r.document) (row_at id.0 s.rows)) ids ≡ take limit (drop offset (map (λ r. r.document) s.rows))
-part-read st s kept ids offset limit h is =
-    reads-ids s.rows (take limit (drop offset s.rows)) ids (is ∙ ap (λ ks. map (λ k. k.id.0) (take limit (drop offset ks))) h.same ∙ ap (λ ks. map (λ k. k.id.0) (take limit ks)) (drop-map (λ r. kept_at r.id (rows_with st s.paths r.document)) offset s.rows)
-    ∙ ap (map (λ k. k.id.0)) (take-map (λ r. kept_at r.id (rows_with st s.paths r.document)) limit (drop offset s.rows)) ∙ kept-ids st s (take limit (drop offset s.rows)))
-    ∙ reads-all s.rows (take limit (drop offset s.rows)) (rows-take (IsThere s.rows) limit (drop offset s.rows) (rows-drop (IsThere s.rows) offset s.rows (rows-there s h.sound)))
+part-read s ids offset limit sound is =
+    reads-ids s.rows (take limit (drop offset s.rows)) ids (is ∙ ap (take limit) (drop-map (λ (r : Row). r.id) offset s.rows) ∙ take-map (λ (r : Row). r.id) limit (drop offset s.rows))
+    ∙ reads-all s.rows (take limit (drop offset s.rows)) (rows-take (IsThere s.rows) limit (drop offset s.rows) (rows-drop (IsThere s.rows) offset s.rows (rows-there s sound)))
     ∙ sym (ap (take limit) (drop-map (λ r. r.document) offset s.rows) ∙ take-map (λ r. r.document) limit (drop offset s.rows))
 
 -- ---- hits are documents that are there
@@ -179,31 +175,51 @@ part-read st s kept ids offset limit h is =
 abbrev pub as_match : Matching → Match
 as_match m = record { costs = m.costs; id = m.row.id }
 
--- documents that match are there
-matching-there : (index : Index) (call : SearchView) (all rows : List Row) → AllByRecursion (IsThere all) rows → AllByRecursion (λ m. IsThere all m.row) (filter_map (match_of index call) rows)
-matching-there index call all [] h = tt
-matching-there index call all (r ∷ rows) h = by (costs_in index call r.document) (matching-there index call all rows h.1)
+-- a document that matches is there, and has these costs
+pub record IsMatch (index : Index) (call : SearchView) (m : Matching) : Type 0 where
+  pub there : row_at m.row.id index.store.rows ≡ Some m.row
+  pub costs : tuple_under (rows_in index m.row.document) (query_in index call) (rules_in index call) ≡ Some m.costs
+
+-- documents that match are such
+matching-are : (index : Index) (call : SearchView) (rows : List Row) → AllByRecursion (IsThere index.store.rows) rows → AllByRecursion (IsMatch index call) (filter_map (match_of index call) rows)
+matching-are index call [] h = tt
+matching-are index call (r ∷ rows) h = by (passes index call r.document) (tuple_under (rows_in index r.document) (query_in index call) (rules_in index call)) refl (matching-are index call rows h.1)
   where
-    by : (o : Option (List CostKey)) → AllByRecursion (λ m. IsThere all m.row) (filter_map (match_of index call) rows) → AllByRecursion (λ m. IsThere all m.row) (cons_option (option_map (with_costs r) o) (filter_map (match_of index call) rows))
-    by None rest = rest
-    by (Some costs) rest = (h.0, rest)
+    by : (b : Bool) (o : Option (List CostKey)) → tuple_under (rows_in index r.document) (query_in index call) (rules_in index call) ≡ o → AllByRecursion (IsMatch index call) (filter_map (match_of index call) rows)
+        → AllByRecursion (IsMatch index call) (cons_option (option_map (with_costs r) (cond b o None)) (filter_map (match_of index call) rows))
+    by false o e rest = rest
+    by true None e rest = rest
+    by true (Some costs) e rest = (record { there = h.0; costs = e }, rest)
 
 -- and so are those that are asked for
-pub asked-there : (index : Index) (call : SearchView) → IsSound index.store → AllByRecursion (λ m. IsThere index.store.rows m.row) (asked_of (most_hits index) call (matching index call))
-asked-there index call sound =
-    all-hits before (λ m. m.costs) (λ m. m.row.id) (λ m. IsThere index.store.rows m.row) (matching index call) (offset_of call.window) (window_size (most_hits index) call) (matching-there index call index.store.rows index.store.rows (rows-there index.store sound))
+pub asked-are : (index : Index) (call : SearchView) → IsSound index.store → AllByRecursion (IsMatch index call) (asked_of (most_hits index) call (matching index call))
+asked-are index call sound =
+    all-hits before (λ m. m.costs) (λ m. m.row.id) (IsMatch index call) (matching index call) (offset_of call.window) (window_size (most_hits index) call) (matching-are index call index.store.rows (rows-there index.store sound))
 
-pub hits-read : (rows : List Row) (hits : List Matching) → AllByRecursion (λ m. IsThere rows m.row) hits → filter_map (hit_at rows) (map as_match hits) ≡ map hit_of hits
-hits-read rows [] h = refl
-hits-read rows (m ∷ hits) h =
-    ap (λ o. cons_option (option_map (λ (row : Row). record { document = row.document; costs = m.costs }) o) (filter_map (hit_at rows) (map as_match hits))) h.0
-    ∙ ap (λ v. hit_of m ∷ v) (hits-read rows hits h.1)
+costs-read : (index : Index) (call : SearchView) (m : Matching) → IsMatch index call m → hit_under index call m.row ≡ hit_of call m
+costs-read index call m h = ap (λ (o : Option (List CostKey)). record { document = m.row.document; costs = o }) (by call.costs)
+  where
+    by : (b : Bool) → cond b (tuple_under (rows_in index m.row.document) (query_in index call) (rules_in index call)) None ≡ cond b (Some m.costs) None
+    by true = h.costs
+    by false = refl
 
--- what ranking is handed for a search: its query as a graph, its filter made ready, and its rules
+-- each hit is read under its internal id
+hits-read : (index : Index) (call : SearchView) (hits : List Matching) → AllByRecursion (IsMatch index call) hits → filter_map (hit_at index call) (ids_of (map as_match hits)) ≡ map (hit_of call) hits
+hits-read index call [] h = refl
+hits-read index call (m ∷ hits) h =
+    ap (λ o. cons_option (option_map (hit_under index call) o) (filter_map (hit_at index call) (ids_of (map as_match hits)))) h.0.there
+    ∙ ap (λ v. v ∷ filter_map (hit_at index call) (ids_of (map as_match hits))) (costs-read index call m h.0) ∙ ap (λ v. hit_of call m ∷ v) (hits-read index call hits h.1)
+
+-- ---- the matches of an index and those among its documents
+
+-- what a search is asked of a row index
 pub record IsAsked (index : Index) (call : SearchView) (passing : RowsView → Bool) (graph : GraphView) (rules : List Rule) : Type 0 where
   pub filter : (rows : RowsView) → passing rows ≡ holds index.store.paths rows call.filter
   pub query : (rows : RowsView) → tuple rows graph (rules_in index call) ≡ tuple_under rows (query_in index call) (rules_in index call)
   pub ruled : rules ≡ rules_in index call
+
+abbrev costs_where : (RowsView → Bool) → GraphView → List Rule → RowsView → Option (List CostKey)
+costs_where passing graph rules rows = cond (passing rows) (tuple rows graph rules) None
 
 costs-same : (index : Index) (call : SearchView) (passing : RowsView → Bool) (graph : GraphView) (rules : List Rule) → IsAsked index call passing graph rules → (document : Data)
     → costs_where passing graph rules (rows_in index document) ≡ costs_in index call document
@@ -212,32 +228,19 @@ costs-same index call passing graph rules h document =
     ap (λ b. cond b (tuple rows graph rules) None) (h.filter rows)
     ∙ ap (λ t. cond (holds index.store.paths rows call.filter) t None) (ap (tuple rows graph) h.ruled ∙ h.query rows)
 
--- the matches that a search collects are those of the index
-matches-same : (index : Index) (call : SearchView) (passing : RowsView → Bool) (graph : GraphView) (rules : List Rule) (slots : List (Option RowsView)) → AreInSlots slots index.settings index.store
-    → IsAsked index call passing graph rules → matches_in passing graph rules slots ≡ map as_match (matching index call)
-matches-same index call passing graph rules slots h is = ap (matches_among passing graph rules) h.kept.same ∙ among index.store.rows
+-- the matches among the documents are those of the index
+matches-same : (index : Index) (call : SearchView) (passing : RowsView → Bool) (graph : GraphView) (rules : List Rule) → IsAsked index call passing graph rules → (rows : List Row)
+    → matches_among passing graph rules (documents_of index.store.paths (uses_in index) rows) ≡ map as_match (filter_map (match_of index call) rows)
+matches-same index call passing graph rules is [] = refl
+matches-same index call passing graph rules is (r ∷ rows) =
+    ap (λ o. cons_option (option_map (match_at r.id) o) (matches_among passing graph rules (documents_of index.store.paths (uses_in index) rows))) (costs-same index call passing graph rules is r.document)
+    ∙ by (costs_in index call r.document) (matches-same index call passing graph rules is rows)
   where
-    among : (rows : List Row) → matches_among passing graph rules (map (λ r. kept_at r.id (rows_in index r.document)) rows) ≡ map as_match (filter_map (match_of index call) rows)
-    among [] = refl
-    among (r ∷ rows) =
-        ap (λ o. cons_option (option_map (match_at r.id) o) (matches_among passing graph rules (map (λ r. kept_at r.id (rows_in index r.document)) rows))) (costs-same index call passing graph rules is r.document)
-        ∙ by (costs_in index call r.document) (among rows)
-      where
-        by : (o : Option (List CostKey)) → matches_among passing graph rules (map (λ r. kept_at r.id (rows_in index r.document)) rows) ≡ map as_match (filter_map (match_of index call) rows)
-            → cons_option (option_map (match_at r.id) o) (matches_among passing graph rules (map (λ r. kept_at r.id (rows_in index r.document)) rows))
-            ≡ map as_match (cons_option (option_map (with_costs r) o) (filter_map (match_of index call) rows))
-        by None rest = rest
-        by (Some costs) rest = ap (λ v. match_at r.id costs ∷ v) rest
-
--- the rows that are counted are those of the documents that match
-kept-rows : (id : ℕ) (slots : List (Option RowsView)) → filter_map (λ slot. slot) slots ≡ map (λ k. k.rows) (kept_from id slots)
-kept-rows id [] = refl
-kept-rows id (None ∷ slots) = kept-rows (suc id) slots
-kept-rows id (Some rows ∷ slots) = ap (λ v. rows ∷ v) (kept-rows (suc id) slots)
-
-seen-rows : (index : Index) (rows : List Row) → map (λ k. k.rows) (map (λ r. kept_at r.id (rows_in index r.document)) rows) ≡ map (λ r. rows_in index r.document) rows
-seen-rows index [] = refl
-seen-rows index (r ∷ rows) = ap (λ v. rows_in index r.document ∷ v) (seen-rows index rows)
+    by : (o : Option (List CostKey)) → matches_among passing graph rules (documents_of index.store.paths (uses_in index) rows) ≡ map as_match (filter_map (match_of index call) rows)
+        → cons_option (option_map (match_at r.id) o) (matches_among passing graph rules (documents_of index.store.paths (uses_in index) rows))
+        ≡ map as_match (cons_option (option_map (with_costs r) o) (filter_map (match_of index call) rows))
+    by None rest = rest
+    by (Some costs) rest = ap (λ v. match_at r.id costs ∷ v) rest
 
 match-costs : (passing : RowsView → Bool) (graph : GraphView) (rules : List Rule) (rows : RowsView) → is_match passing graph rows ≡ is_some (costs_where passing graph rules rows)
 match-costs passing graph rules rows = by (passing rows) (cost_of rows.places graph.levels)
@@ -247,23 +250,53 @@ match-costs passing graph rules rows = by (passing rows) (cost_of rows.places gr
     by true None = refl
     by true (Some n) = refl
 
-rows-same : (index : Index) (call : SearchView) (passing : RowsView → Bool) (graph : GraphView) (rules : List Rule) (slots : List (Option RowsView)) → AreInSlots slots index.settings index.store
-    → IsAsked index call passing graph rules → rows_matching passing graph slots ≡ rows_of_matches index call
-rows-same index call passing graph rules slots h is =
-    ap (filter (is_match passing graph)) (kept-rows 0 slots ∙ ap (map (λ (k : KeptRows). k.rows)) h.kept.same ∙ seen-rows index index.store.rows) ∙ among index.store.rows
+-- and so are the rows that are counted
+rows-same : (index : Index) (call : SearchView) (passing : RowsView → Bool) (graph : GraphView) (rules : List Rule) → IsAsked index call passing graph rules → (rows : List Row)
+    → rows_matching passing graph (documents_of index.store.paths (uses_in index) rows) ≡ map (λ m. rows_in index m.row.document) (filter_map (match_of index call) rows)
+rows-same index call passing graph rules is [] = refl
+rows-same index call passing graph rules is (r ∷ rows) =
+    let rest = rows_matching passing graph (documents_of index.store.paths (uses_in index) rows) in
+    ap (λ b. cond b (rows_in index r.document ∷ rest) rest) (match-costs passing graph rules (rows_in index r.document) ∙ ap is_some (costs-same index call passing graph rules is r.document))
+    ∙ by (costs_in index call r.document) (rows-same index call passing graph rules is rows)
   where
-    among : (rows : List Row) → filter (is_match passing graph) (map (λ r. rows_in index r.document) rows) ≡ map (λ m. rows_in index m.row.document) (filter_map (match_of index call) rows)
-    among [] = refl
-    among (r ∷ rows) =
-        let rest = filter (is_match passing graph) (map (λ r. rows_in index r.document) rows) in
-        ap (λ b. cond b (rows_in index r.document ∷ rest) rest) (match-costs passing graph rules (rows_in index r.document) ∙ ap is_some (costs-same index call passing graph rules is r.document))
-        ∙ by (costs_in index call r.document) (among rows)
-      where
-        by : (o : Option (List CostKey)) → filter (is_match passing graph) (map (λ r. rows_in index r.document) rows) ≡ map (λ m. rows_in index m.row.document) (filter_map (match_of index call) rows)
-            → cond (is_some o) (rows_in index r.document ∷ filter (is_match passing graph) (map (λ r. rows_in index r.document) rows)) (filter (is_match passing graph) (map (λ r. rows_in index r.document) rows))
-            ≡ map (λ m. rows_in index m.row.document) (cons_option (option_map (with_costs r) o) (filter_map (match_of index call) rows))
-        by None more = more
-        by (Some costs) more = ap (λ v. rows_in index r.document ∷ v) more
+    by : (o : Option (List CostKey)) → rows_matching passing graph (documents_of index.store.paths (uses_in index) rows) ≡ map (λ m. rows_in index m.row.document) (filter_map (match_of index call) rows)
+        → cond (is_some o) (rows_in index r.document ∷ rows_matching passing graph (documents_of index.store.paths (uses_in index) rows)) (rows_matching passing graph (documents_of index.store.paths (uses_in index) rows))
+        ≡ map (λ m. rows_in index m.row.document) (cons_option (option_map (with_costs r) o) (filter_map (match_of index call) rows))
+    by None more = more
+    by (Some costs) more = ap (λ v. rows_in index r.document ∷ v) more
+
+-- ---- hits that are read
+
+pub hit-some : (index : Index) (call : SearchView) (id : ℕ) (document : Data) (costs : Option (List CostKey)) → Some document ≡ option_map (λ r. r.document) (row_at id index.store.rows) → costs ≡ costs_shown index call document
+    → Some (record { document = document; costs = costs }) ≡ hit_at index call id
+hit-some index call id document costs found costs_are = by (row_at id index.store.rows) found
+  where
+    by : (o : Option Row) → Some document ≡ option_map (λ r. r.document) o → Some (record { document = document; costs = costs }) ≡ option_map (hit_under index call) o
+    by None e = absurd (cc)
+    by (Some r) e =
+        let same : document ≡ r.document = cc in
+        ap (λ (o : Option (List CostKey)). Some (record { document = document; costs = o })) costs_are ∙ ap (λ d. Some (record { document = d; costs = costs_shown index call d })) same
+
+pub hit-none : (index : Index) (call : SearchView) (id : ℕ) → None ≡ option_map (λ (r : Row). r.document) (row_at id index.store.rows) → None ≡ hit_at index call id
+hit-none index call id found = by (row_at id index.store.rows) found
+  where
+    by : (o : Option Row) → None ≡ option_map (λ (r : Row). r.document) o → None ≡ option_map (hit_under index call) o
+    by None e = refl
+    by (Some r) e = absurd (cc)
+
+-- the costs of a document as it is ranked
+pub costs-ranked : (index : Index) (call : SearchView) (ranking : Ranking) (document : Data) → IsRankingOf ranking index call → call.costs ≡ true
+    → tuple (rows_of document index.store.paths ranking.uses.items) ranking.query ranking.rules.items ≡ costs_shown index call document
+costs-ranked index call ranking document h asked =
+    ap₂ (λ uses rules. tuple (rows_of document index.store.paths uses) ranking.query rules) h.uses h.rules ∙ h.costs (rows_in index document)
+    ∙ sym (cond-true call.costs (tuple_under (rows_in index document) (query_in index call) (rules_in index call)) None asked)
+
+pub costs-hidden : (index : Index) (call : SearchView) (document : Data) → call.costs ≡ false → None ≡ costs_shown index call document
+costs-hidden index call document hidden = sym (cond-false call.costs (tuple_under (rows_in index document) (query_in index call) (rules_in index call)) None hidden)
+
+pub filter-mapped : {X Y Z : Type 0} (f : X → Y) (h : Y → Option Z) (xs : List X) → filter_map (λ x. h (f x)) xs ≡ filter_map h (map f xs)
+filter-mapped f h [] = refl
+filter-mapped f h (x ∷ xs) = ap (cons_option (h (f x))) (filter-mapped f h xs)
 
 pub length-map : {X Y : Type 0} (f : X → Y) (xs : List X) → length (map f xs) ≡ length xs
 length-map f [] = refl
@@ -288,28 +321,29 @@ cut-window ms offset start end most is le = by (near-or-far offset most)
     by (inl near) = ap (λ n. hits_of ms n (end - n)) (let e : start ≡ offset = omega arith in e)
     by (inr far) = ap (hits_of ms start) (let e : end - start ≡ 0 = omega arith in e) ∙ sym (ap (hits_of ms offset) (let e : end - offset ≡ 0 = omega arith in e))
 
--- what was ranked and counted is what the search finds
-pub finds : (index : Index) (call : SearchView) (passing : RowsView → Bool) (graph : GraphView) (rules : List Rule) (slots : List (Option RowsView)) (start end bound total : ℕ) (ranked : List Match) (facets : Option (List FacetView))
-    → AreInSlots slots index.settings index.store → IsAsked index call passing graph rules
+-- what was found and counted is what the search finds
+pub finds : (index : Index) (call : SearchView) (passing : RowsView → Bool) (graph : GraphView) (rules : List Rule) (start end bound total : ℕ) (ids : List ℕ) (facets : Option (List FacetView))
+    → IsSound index.store → IsAsked index call passing graph rules
     → start ≡ min (offset_of call.window) bound → end ≡ window_end (most_hits index) call → end ≤ bound
-    → ranked ≡ hits_of (matches_in passing graph rules slots) start (end - start)
-    → total ≡ min (length (matches_in passing graph rules slots)) (most_hits index)
-    → facets ≡ option_map (λ _. map (counted index.settings.max_values_per_facet (rows_matching passing graph slots)) (paths_asked index.settings index.store.paths call.facets)) call.facets
-    → Finds index call ranked total facets
-finds index call passing graph rules slots start end bound total ranked facets h is starts ends le hits counts told =
-    let all = matches-same index call passing graph rules slots h is in
+    → ids ≡ ids_of (hits_of (matches_among passing graph rules (documents_of index.store.paths (uses_in index) index.store.rows)) start (end - start))
+    → total ≡ min (length (matches_among passing graph rules (documents_of index.store.paths (uses_in index) index.store.rows))) (most_hits index)
+    → facets ≡ option_map (λ _. map (counted index.settings.max_values_per_facet (rows_matching passing graph (documents_of index.store.paths (uses_in index) index.store.rows))) (paths_asked index.settings index.store.paths call.facets)) call.facets
+    → Finds index call ids total facets
+finds index call passing graph rules start end bound total ids facets sound is starts ends le hits counts told =
+    let all = matches-same index call passing graph rules is index.store.rows in
+    let found = matches_among passing graph rules (documents_of index.store.paths (uses_in index) index.store.rows) in
     let offset = offset_of call.window in
     let size = window_size (most_hits index) call in
     let asked = asked_of (most_hits index) call (matching index call) in
-    let seen : ranked ≡ map as_match asked =
-    hits ∙ cut-window (matches_in passing graph rules slots) offset start end bound starts le
-    ∙ ap (λ n. hits_of (matches_in passing graph rules slots) offset (n - offset)) ends ∙ ap (λ ms. hits_of ms offset size) all
-    ∙ sym (hits-seen before costs_of id_of_match as_match (matching index call) offset size) in
+    let seen : ids ≡ ids_of (map as_match asked) =
+    hits ∙ ap ids_of (cut-window found offset start end bound starts le
+    ∙ ap (λ n. hits_of found offset (n - offset)) ends ∙ ap (λ ms. hits_of ms offset size) all
+    ∙ sym (hits-seen before (λ (m : Match). m.costs) (λ (m : Match). m.id) as_match (matching index call) offset size)) in
     record {
-      hits = ap (filter_map (hit_at index.store.rows)) seen ∙ hits-read index.store.rows asked (asked-there index call h.kept.sound);
-      number = ap length seen ∙ length-map as_match asked ∙ sym (length-map hit_of asked);
+      hits = ap (filter_map (hit_at index call)) seen ∙ hits-read index call asked (asked-are index call sound);
+      number = ap length seen ∙ length-map (λ (m : Match). m.id) (map as_match asked) ∙ length-map as_match asked ∙ sym (length-map (hit_of call) asked);
       total = counts ∙ ap (λ n. min n (most_hits index)) (ap length all ∙ length-map as_match (matching index call));
-      facets = told ∙ ap (λ rows. option_map (λ _. map (counted index.settings.max_values_per_facet rows) (paths_asked index.settings index.store.paths call.facets)) call.facets) (rows-same index call passing graph rules slots h is)
+      facets = told ∙ ap (λ rows. option_map (λ _. map (counted index.settings.max_values_per_facet rows) (paths_asked index.settings index.store.paths call.facets)) call.facets) (rows-same index call passing graph rules is index.store.rows)
           ∙ facets-are call.facets;
     }
   where
@@ -317,8 +351,3 @@ finds index call passing graph rules slots start end bound total ranked facets h
         → option_map (λ _. map (counted index.settings.max_values_per_facet (rows_of_matches index call)) (paths_asked index.settings index.store.paths names)) names ≡ option_map (counts_of index call) names
     facets-are None = refl
     facets-are (Some names) = refl
-
--- ---- the documents of which something is kept
-
-pub kept-of : (st : SettingsView) (s : Store) (kept : List KeptRows) → AreKept kept st s → AreOf kept s
-kept-of st s kept h = ap (map (λ (k : KeptRows). k.id.0)) h.same ∙ kept-ids st s s.rows

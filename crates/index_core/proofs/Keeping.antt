@@ -1,13 +1,11 @@
 -- Documents stand under the key, whatever an index takes.
-use Rattle.std.proofs.Common.{◌≡◌, ℕ, zero, suc, ◌+◌, ◌-◌, ◌<◌, ◌≤◌, Bool, true, false, cond, List, [], ◌∷◌, length, drop, filter, Option, None, Some, Result, Ok, Err, refl, sym, ap, subst, ◌∙◌, arith, bytes_eq, nat_le}
+use Rattle.std.proofs.Common.{◌≡◌, ℕ, ◌+◌, ◌-◌, ◌<◌, Bool, true, false, cond, List, [], ◌∷◌, length, drop, filter, Option, None, Some, Result, Ok, Err, refl, sym, ap, subst, ◌∙◌, arith, bytes_eq, nat_le}
 use Rattle.std.specs.Prelude.{not, ◌&&◌, codes, unwrap_or, IfSome, OnOk, OnErr}
 use Rattle.std.specs.List.{AllByRecursion}
 use Rattle.std.specs.Str.{str_eq_ignore_ascii_case}
 use Rattle.std.proofs.lemmas.Bool.{cond_both, leb-true}
 use Rattle.serde_json.specs.Data.{Data, Members, no_members, member}
 use Rattle.search_base.specs.Trying.{◌>>=◌, refused_as}
-use Rattle.doc_values.specs.declared.keys.KeyRefusal.{KeyRefusal}
-use Rattle.doc_values.specs.declared.ids.IdRefusal.{IdRefusal}
 use Rattle.doc_values.specs.Ids.{external_id_of, ends_in_id, candidates, only, key_of}
 use Rattle.doc_values.specs.Walk.{members_in}
 use Rattle.doc_store.specs.declared.rows.StoreRow.{StoreRow}
@@ -15,10 +13,11 @@ use Rattle.doc_store.specs.Store.{Row, Store, row, put, stored, all_stored}
 use Rattle.index_image.specs.State.{IsPrimaryKey}
 use Rattle.index_core.specs.declared.refusal.CoreRefusal.{CoreRefusal}
 use Rattle.index_core.specs.declared.refusal.CoreRefusal.TheVariants.{KeyDiffers}
+use Rattle.doc_index.specs.Named.{is_named}
 use Rattle.index_core.specs.Index.{document_under}
 use Rattle.index_core.specs.Keyed.{IsUnder, AreUnder, NoneWithout, IsKeyed, AreKeyed, AreReadBack, IsKeyedWork}
 use Rattle.index_core.specs.PlanView.{Work, replace, update, remove, clear, patch, reset}
-use Rattle.index_core.specs.Plans.{key_for, rows_under, rows_for, Keeps, updating, all_updated, is_named, after_work}
+use Rattle.index_core.specs.Plans.{key_for, rows_under, rows_for, updating, all_updated, after_work}
 use Rattle.index_core.specs.Refusals.{key_refusal, id_refusal}
 use Rattle.index_core.proofs.LawLemmas.{bind_ok}
 use Rattle.index_core.proofs.Rising.{id-over}

@@ -25,18 +25,19 @@ use Rattle.index_core.specs.declared.refusal.CoreRefusal.{CoreRefusal}
 use Rattle.index_core.specs.declared.refusal.CoreRefusal.TheVariants.{KeyDiffers}
 use Rattle.index_core.specs.Index.{Index, documents}
 use Rattle.index_core.specs.PlanView.{PlanView, Work, replace, update, remove, clear, patch, reset}
-use Rattle.index_core.specs.Plans.{key_for, rows_for, plan_of, documents_planned, patch_planned, planned, is_named, after_work, settings_after, unless_spent, applied}
+use Rattle.index_core.specs.Plans.{key_for, rows_for, plan_of, documents_planned, patch_planned, planned, after_work, settings_after, unless_spent, applied}
+use Rattle.doc_index.specs.Named.{is_named}
 use Rattle.index_core.specs.Rules.{entries_named}
 use Rattle.index_core.specs.Fetches.{use_alike, needed_under}
 use Rattle.search_base.specs.CostOrder.{before}
-use Rattle.row_search.specs.Hits.{costs_of, id_of, hits_of}
-use Rattle.index_core.specs.Matching.{matching, rules_in, with_costs}
+use Rattle.search_base.specs.Hits.{Match}
+use Rattle.list_search.specs.Matches.{ids_of, hits_of}
+use Rattle.index_core.specs.Matching.{matching, rules_in}
 use Rattle.search_call.specs.Windows.{offset_of}
 use Rattle.index_core.specs.Found.{asked_of, most_hits, window_size}
-use Rattle.index_core.specs.Shown.{hit_at}
 use Rattle.index_core.proofs.HitLemmas.{hits-seen}
-use Rattle.index_core.proofs.Finding.{as_match, hits-read, asked-there}
-use Rattle.index_core.proofs.NoWord.{no_costs, empty-matching, listed, some-there, documents-of}
+use Rattle.index_core.proofs.Finding.{as_match, asked-are, IsThere, rows-there, rows-take, rows-drop}
+use Rattle.index_core.proofs.NoWord.{no_costs, empty-matching, listed, document_at, documents-read, hits-documents}
 use Rattle.std.proofs.lemmas.List.{drop-map, take-map}
 use Rattle.index_core.specs.Laws.{KeyStays, PathsStay, IdsAreSpentOnce, NoWordFindsTheList, LeavesRanking, OtherPatchesLeaveRanking, SettingsReadOnce}
 use Rattle.index_core.proofs.Updating.{updated-stored}
@@ -161,16 +162,17 @@ ids_are_spent_once index after change id takes low gone = subst (λ (i : Index).
 pub no_word_finds_the_list : NoWordFindsTheList
 no_word_finds_the_list index call sound none ask unfiltered =
     let asked = asked_of (most_hits index) call (matching index call) in
+    let offset = offset_of call.window in
     let size = window_size (most_hits index) call in
     let rows = index.store.rows in
     let costs = no_costs (rules_in index call) in
-    let all = empty-matching index call none ask unfiltered rows in
-    let some = take size (drop (offset_of call.window) rows) in
-    let seen : map as_match asked ≡ map as_match (map (λ r. with_costs r costs) some) =
-    hits-seen before costs_of id_of as_match (matching index call) (offset_of call.window) size ∙ ap (λ ms. hits_of (map as_match ms) (offset_of call.window) size) all
-    ∙ listed costs rows index.store.next_id (offset_of call.window) size sound.increase in
-    ap (map (λ hit. hit.document)) (sym (hits-read rows asked (asked-there index call sound)) ∙ ap (filter_map (hit_at rows)) seen ∙ hits-read rows (map (λ r. with_costs r costs) some) (some-there index (offset_of call.window) size costs sound))
-    ∙ documents-of costs some ∙ sym (ap (take size) (drop-map (λ (r : Row). r.document) (offset_of call.window) rows) ∙ take-map (λ (r : Row). r.document) size (drop (offset_of call.window) rows))
+    let some = take size (drop offset rows) in
+    let seen : ids_of (map as_match asked) ≡ map (λ (r : Row). r.id) some =
+    ap ids_of (hits-seen before (λ (m : Match). m.costs) (λ (m : Match). m.id) as_match (matching index call) offset size ∙ ap (λ ms. hits_of (map as_match ms) offset size) (empty-matching index call none ask unfiltered rows))
+    ∙ listed costs rows index.store.next_id offset size sound.increase in
+    sym (hits-documents index call asked (asked-are index call sound)) ∙ ap (filter_map (document_at rows)) seen
+    ∙ documents-read rows some (rows-take (IsThere rows) size (drop offset rows) (rows-drop (IsThere rows) offset rows (rows-there index.store sound)))
+    ∙ sym (ap (take size) (drop-map (λ (r : Row). r.document) offset rows) ∙ take-map (λ (r : Row). r.document) size (drop offset rows))
 
 -- ---- settings
 

@@ -1,5 +1,5 @@
 -- Settings that use paths alike.
-use Rattle.std.proofs.Common.{◌≡◌, ℕ, suc, ◌+◌, Bool, true, false, List, [], ◌∷◌, ◌++◌, ◌≤◌, length, map, drop, Option, None, Some, refl, sym, ap, ap₂, subst, ◌∙◌, append-nil}
+use Rattle.std.proofs.Common.{◌≡◌, ℕ, suc, ◌+◌, Bool, true, false, List, [], ◌∷◌, ◌++◌, ◌≤◌, length, drop, Option, None, Some, refl, sym, ap, ap₂, subst, ◌∙◌, append-nil}
 use Rattle.std.specs.Prelude.{◌&&◌, codes}
 use Rattle.std.specs.Bool.{beq}
 use Rattle.std.specs.List.{filter_map, flat_map}
@@ -14,10 +14,6 @@ use Rattle.index_settings.specs.Values.{texts_in, synonyms_in}
 use Rattle.index_settings.specs.Table.{defaults}
 use Rattle.index_settings.specs.Patch.{chosen, patched}
 use Rattle.doc_rows.specs.declared.path_use.PathUse.{PathUse}
-use Rattle.doc_rows.specs.Rows.{rows_of}
-use Rattle.doc_store.specs.Store.{Row, Store}
-use Rattle.row_search.specs.Slots.{KeptRows, kept_at}
-use Rattle.index_core.specs.Kept.{AreKept}
 use Rattle.index_core.specs.Fetches.{same_rank, same_use, use_alike, LeavesUses}
 use Rattle.index_core.specs.QueryWords.{only_word, words_of, rows_under, each_once, QueryWordsView, AreWordsOf, LeavesWords}
 use Rattle.index_core.specs.Matching.{use_of, uses_from}
@@ -64,14 +60,8 @@ uses-are (x ∷ xs) (y ∷ ys) h =
     let parts = both (same_rank x.rank y.rank) (beq x.faceted y.faceted) first.0 in
     ap₂ (λ rank faceted. record { rank = rank; faceted = faceted } ∷ xs) (rank-is x.rank y.rank parts.0) (bool-is x.faceted y.faceted parts.1) ∙ ap (λ v. y ∷ v) (uses-are xs ys first.1)
 
--- what is kept stays under settings that use paths alike
-pub kept-alike : (new old : SettingsView) (s : Store) (kept : List KeptRows) → use_alike new old s.paths ≡ true → AreKept kept old s → AreKept kept new s
-kept-alike new old s kept alike h = record {
-  same = h.same ∙ ap (λ uses. map (λ (r : Row). kept_at r.id (rows_of r.document s.paths uses)) s.rows) (sym (uses-are (uses_from new 0 s.paths) (uses_from old 0 s.paths) alike));
-  sound = h.sound;
-}
-
-uses-length : (st : SettingsView) (number : ℕ) (paths : List (List ℕ)) → length (uses_from st number paths) ≡ length paths
+-- each path has a use
+pub uses-length : (st : SettingsView) (number : ℕ) (paths : List (List ℕ)) → length (uses_from st number paths) ≡ length paths
 uses-length st number [] = refl
 uses-length st number (path ∷ paths) = ap suc (uses-length st (number + 1) paths)
 

@@ -1,5 +1,5 @@
 -- What a search sees of a document stays when the registry grows by paths that the document does not have.
-use Rattle.std.proofs.Common.{◌≡◌, ℕ, ◌+◌, Bool, true, false, ◌||◌, List, [], ◌∷◌, ◌++◌, map, Option, None, Some, refl, sym, ap, ◌∙◌}
+use Rattle.std.proofs.Common.{◌≡◌, ℕ, ◌+◌, Bool, true, false, ◌||◌, List, [], ◌∷◌, ◌++◌, Option, None, Some, refl, sym, ap, ◌∙◌}
 use Rattle.std.specs.Prelude.{bytes_eq}
 use Rattle.std.proofs.lemmas.Bool.{cond-false, true≢false}
 use Rattle.serde_json.specs.Data.{Data}
@@ -14,7 +14,8 @@ use Rattle.doc_store.proofs.NameLemmas.{same_bytes, bytes_eq-turned}
 use Rattle.doc_store.specs.Paths.{has_path}
 use Rattle.doc_store.specs.Store.{Row}
 use Rattle.doc_store.specs.Sound.{StandOnce, AreRegistered, CoverRows}
-use Rattle.row_search.specs.Slots.{kept_at}
+use Rattle.doc_index.specs.Documents.{documents_of}
+use Rattle.row_index.specs.Documents.{document_with}
 
 -- a path that no visit is at holds nothing
 found-none : (path : List ℕ) (paths : List (List ℕ)) (visits : List Visit) → has_path path paths ≡ false → AreRegistered (visited visits) paths → found_at path visits ≡ []
@@ -88,8 +89,8 @@ once-absent (path ∷ paths) more h = absent-behind path more paths (has-append 
 -- ---- the rows of all documents
 
 pub all-stay : (st : SettingsView) (rows : List Row) (paths more : List (List ℕ)) → StandOnce (paths ++ more) → CoverRows rows paths
-    → map (λ r. kept_at r.id (rows_with st (paths ++ more) r.document)) rows ≡ map (λ r. kept_at r.id (rows_with st paths r.document)) rows
+    → documents_of (paths ++ more) (uses_from st 0 (paths ++ more)) rows ≡ documents_of paths (uses_from st 0 paths) rows
 all-stay st [] paths more once h = refl
 all-stay st (r ∷ rows) paths more once h =
-    ap (λ v. kept_at r.id v ∷ map (λ r. kept_at r.id (rows_with st (paths ++ more) r.document)) rows) (rows-stay st r.document paths more (once-absent paths more once) h.0)
-    ∙ ap (λ v. kept_at r.id (rows_with st paths r.document) ∷ v) (all-stay st rows paths more once h.1)
+    ap (λ v. document_with r.id v ∷ documents_of (paths ++ more) (uses_from st 0 (paths ++ more)) rows) (rows-stay st r.document paths more (once-absent paths more once) h.0)
+    ∙ ap (λ v. document_with r.id (rows_with st paths r.document) ∷ v) (all-stay st rows paths more once h.1)

@@ -14,9 +14,10 @@ use Rattle.index_settings.specs.declared.fault.SettingsRefusal.{SettingsRefusal}
 use Rattle.index_settings.specs.Table.{patch_fault}
 use Rattle.search_base.specs.Trying.{◌>>=◌}
 use Rattle.index_core.specs.declared.refusal.CoreRefusal.{CoreRefusal}
+use Rattle.doc_index.specs.Named.{is_named}
 use Rattle.index_core.specs.Index.{Index}
 use Rattle.index_core.specs.PlanView.{PlanView, Work, replace, update, remove, clear, patch, reset}
-use Rattle.index_core.specs.Plans.{key_for, rows_for, plan_of, documents_planned, patch_planned, planned, is_named, after_work}
+use Rattle.index_core.specs.Plans.{key_for, rows_for, plan_of, documents_planned, patch_planned, planned, after_work}
 use Rattle.index_core.specs.Updating.{updated_rows}
 use Rattle.index_core.specs.Laws.{Spares, DocumentsStay}
 use Rattle.index_core.proofs.LawLemmas.{bind_ok, applied-is}

@@ -1,21 +1,27 @@
 -- The documents of an update, one after the other.
-use Rattle.std.proofs.Common.{◌≡◌, ℕ, zero, suc, ◌+◌, ◌<◌, ◌≤◌, Bool, true, false, cond, ◌||◌, List, [], ◌∷◌, ◌++◌, length, filter, Option, None, Some, refl, sym, ap, ap₂, subst, ◌∙◌, arith, append_assoc}
-use Rattle.std.specs.Prelude.{bytes_eq, slice_get}
+use Rattle.std.proofs.Common.{◌≡◌, ◌≢◌, ℕ, zero, suc, ◌<◌, ◌≤◌, ◌==◌, Bool, true, false, cond, ◌||◌, List, [], ◌∷◌, ◌++◌, length, map, filter, get_or, Option, None, Some, refl, sym, ap, ap₂, subst, ◌∙◌, arith, append_assoc}
+use Rattle.std.specs.Prelude.{bytes_eq, slice_get, nat_lt}
 use Rattle.std.specs.Option.{option_map, is_some}
 use Rattle.std.specs.List.{list_any}
 use Rattle.std.specs.BTreeMap.{BTreeMap, get, UpdatesBy}
 use Rattle.std.specs.Cmp.Lexicographic.{slice_cmp}
 use Rattle.std.specs.Ordering.{nat_cmp}
 use Rattle.std.proofs.lemmas.Map.Text.{is_eq-slice_cmp}
-use Rattle.std.proofs.lemmas.Bool.{cond-true, cond-false}
+use Rattle.std.proofs.lemmas.Bool.{cond-true, cond-false, cond_both, eq-eqb, ne_eqb, eqb-false, ltb-true, ltb-false}
+use Rattle.std.proofs.Math.Bool.{or-true}
+use Rattle.std.specs.List.Sorted.{IsNonDecreasingBy, IsPartitionPoint}
 use Rattle.serde_json.specs.Data.{Data}
 use Rattle.doc_store.specs.declared.rows.StoreRow.{StoreRow}
-use Rattle.doc_store.specs.Store.{Row, Store, put, stored, all_stored, id_of, externals}
-use Rattle.doc_store.specs.Sound.{AreApart, IsSound}
+use Rattle.doc_index.specs.declared.named.Stored.{Stored}
+use Rattle.doc_index.specs.Named.{is_named, named, stored_of, row_of, AreRead}
+use Rattle.doc_store.specs.Store.{Row, Store, put, stored, all_stored, id_of, row_at, externals}
+use Rattle.doc_store.specs.Sound.{Increase, IsSound}
+use Rattle.doc_store.proofs.LawLemmas.{id_of-low}
 use Rattle.doc_store.proofs.NameLemmas.{same_bytes, bytes_eq-turned}
+use Rattle.postings.proofs.WordLemmas.{bytes_itself}
 use Rattle.index_core.specs.Index.{document_under}
-use Rattle.index_core.specs.Plans.{is_named, over, updating, all_updated}
-use Rattle.index_core.specs.Updating.{updated_rows, or_else, last_of, document_at, ArePlaces, reads}
+use Rattle.index_core.specs.Plans.{over, updating, all_updated}
+use Rattle.index_core.specs.Updating.{updated_rows, or_else, last_of, document_at, ArePlaces, IsRead}
 
 -- ---- an update is documents stored one after the other
 
@@ -110,160 +116,155 @@ places-behind old new key rows r h is puts = record {
     inside q place true e got = let same = same_some (length rows) place (sym (found q ∙ cond-true _ _ _ e) ∙ got) in omega (arith, length-behind rows r, same)
     inside q place false e got = let less = h.within q place (sym (found q ∙ cond-false _ _ _ e) ∙ got) in omega (arith, length-behind rows r, less)
 
--- ---- how many stored documents are named
+-- ---- the external ids of an update
 
-abbrev named : List StoreRow → List Row → ℕ
-named rows stored_rows = length (filter (is_named (externals rows)) stored_rows)
+pub updated-ids : (rs : List StoreRow) (s : Store) → externals (updated_rows rs s) ≡ externals rs
+updated-ids [] s = refl
+updated-ids (r ∷ rs) s = ap (λ v. r.external ∷ v) (updated-ids rs (stored (updating r s) s))
 
--- an external id is among those that came where a last document of it is
-named-last : (rows : List StoreRow) (q : List ℕ) → list_any (bytes_eq q) (externals rows) ≡ is_some (last_of q rows)
-named-last [] q = refl
-named-last (r ∷ rows) q = ap (λ b. b || list_any (bytes_eq q) (externals rows)) (bytes_eq-turned q r.external) ∙ ap (λ b. bytes_eq r.external q || b) (named-last rows q) ∙ by (bytes_eq r.external q) (last_of q rows)
+-- ---- stored documents that were read
+
+-- the first of these with an internal id
+abbrev text_at : ℕ → List Stored → Option Data
+text_at id [] = None
+text_at id (x ∷ xs) = cond (id == x.id.0) (Some x.text) (text_at id xs)
+
+-- the internal ids rise
+abbrev Rise : ℕ → List Stored → Type 0
+Rise low [] = Unit {0}
+Rise low (x ∷ xs) = (low ≤ x.id.0) × Rise (suc x.id.0) xs
+
+text-same : (id : ℕ) (stored : List Stored) (rows : List Row) → AreRead stored rows → text_at id stored ≡ option_map (λ r. r.document) (row_at id rows)
+text-same id [] [] h = refl
+text-same id [] (r ∷ rows) h = absurd (cc)
+text-same id (x ∷ xs) [] h = absurd (cc)
+text-same id (x ∷ xs) (r ∷ rows) h =
+    let one : stored_of x ≡ row_of r = cc in
+    let more : map stored_of xs ≡ map row_of rows = cc in
+    ap₂ (λ n d. cond (id == n) (Some d) (text_at id xs)) (ap (λ p. p.0) one) (ap (λ p. p.1) one) ∙ ap (cond (id == r.id) (Some r.document)) (text-same id xs rows more) ∙ by (id == r.id)
   where
-    by : (b : Bool) (o : Option Data) → (b || is_some o) ≡ is_some (or_else o (cond b (Some r.document) None))
-    by true (Some d) = refl
-    by true None = refl
-    by false (Some d) = refl
-    by false None = refl
-
-named-behind : (rows : List StoreRow) (r : StoreRow) (x : Row) → is_named (externals (rows ++ r ∷ [])) x ≡ (is_named (externals rows) x || bytes_eq x.external r.external)
-named-behind [] r x = by (bytes_eq x.external r.external)
-  where
-    by : (b : Bool) → (b || false) ≡ (false || b)
+    by : (b : Bool) → cond b (Some r.document) (option_map (λ r. r.document) (row_at id rows)) ≡ option_map (λ r. r.document) (cond b (Some r) (row_at id rows))
     by true = refl
     by false = refl
-named-behind (y ∷ rows) r x = ap (λ b. bytes_eq x.external y.external || b) (named-behind rows r x) ∙ by (bytes_eq x.external y.external) (is_named (externals rows) x) (bytes_eq x.external r.external)
+
+rise-read : (p : Row → Bool) (stored : List Stored) (low : ℕ) (rows : List Row) (high : ℕ) → Increase low rows high → AreRead stored (filter p rows) → Rise low stored
+rise-read p stored low [] high h read = nothing stored read
   where
-    by : (a b c : Bool) → (a || (b || c)) ≡ ((a || b) || c)
-    by true b c = refl
-    by false b c = refl
-
-count-none : (rows : List StoreRow) (q : List ℕ) (xs : List Row) → id_of q xs ≡ None → length (filter (λ x. is_named (externals rows) x || bytes_eq x.external q) xs) ≡ length (filter (is_named (externals rows)) xs)
-count-none rows q [] h = refl
-count-none rows q (x ∷ xs) h = by (bytes_eq q x.external) refl (count-none rows q xs)
+    nothing : (stored : List Stored) → AreRead stored [] → Rise low stored
+    nothing [] read = tt
+    nothing (x ∷ xs) read = absurd (cc)
+rise-read p stored low (r ∷ rows) high h read = by (p r) stored read (λ stored. rise-read p stored (suc r.id) rows high h.1)
   where
-    or-false : (b : Bool) → (b || false) ≡ b
-    or-false true = refl
-    or-false false = refl
+    lower : (stored : List Stored) → Rise (suc r.id) stored → Rise low stored
+    lower [] up = tt
+    lower (x ∷ xs) up = (omega (arith, h.0, up.0), up.1)
 
-    more : (b : Bool) (m n : List Row) → length m ≡ length n → length (cond b (x ∷ m) m) ≡ length (cond b (x ∷ n) n)
-    more true m n e = ap suc e
-    more false m n e = e
+    by : (b : Bool) (stored : List Stored) → AreRead stored (cond b (r ∷ filter p rows) (filter p rows)) → ((stored : List Stored) → AreRead stored (filter p rows) → Rise (suc r.id) stored) → Rise low stored
+    by false stored read again = lower stored (again stored read)
+    by true [] read again = tt
+    by true (x ∷ xs) read again =
+        let one : stored_of x ≡ row_of r = cc in
+        let same : x.id.0 ≡ r.id = ap (λ p. p.0) one in
+        let more : map stored_of xs ≡ map row_of (filter p rows) = cc in
+        (omega (arith, h.0, same), subst (λ n. Rise (suc n) xs) (sym same) (again xs more))
 
-    by : (b : Bool) → bytes_eq q x.external ≡ b → (id_of q xs ≡ None → length (filter (λ x. is_named (externals rows) x || bytes_eq x.external q) xs) ≡ length (filter (is_named (externals rows)) xs))
-        → length (filter (λ x. is_named (externals rows) x || bytes_eq x.external q) (x ∷ xs)) ≡ length (filter (is_named (externals rows)) (x ∷ xs))
-    by true e again = absurd (let bad = sym (cond-true (bytes_eq q x.external) (Some x.id) (id_of q xs) e) ∙ h in cc)
-    by false e again =
-        ap (λ b. length (cond b (x ∷ filter (λ x. is_named (externals rows) x || bytes_eq x.external q) xs) (filter (λ x. is_named (externals rows) x || bytes_eq x.external q) xs)))
-        (ap (λ b. is_named (externals rows) x || b) (bytes_eq-turned x.external q ∙ e) ∙ or-false (is_named (externals rows) x))
-        ∙ more (is_named (externals rows) x) _ _ (again (sym (cond-false _ _ _ e) ∙ h))
+abbrev pub id_in : Stored → ℕ
+id_in x = x.id.0
 
-count-some : (rows : List StoreRow) (q : List ℕ) (xs : List Row) (id : ℕ) → AreApart xs → last_of q rows ≡ None → id_of q xs ≡ Some id
-    → length (filter (λ x. is_named (externals rows) x || bytes_eq x.external q) xs) ≡ suc (length (filter (is_named (externals rows)) xs))
-count-some rows q [] id apart new h = absurd (cc)
-count-some rows q (x ∷ xs) id apart new h = by (bytes_eq q x.external) refl (count-some rows q xs id apart.1 new)
+rise-first : (low : ℕ) (x : Stored) (xs : List Stored) (k : ℕ) (d : Stored) → Rise low (x ∷ xs) → k < suc (length xs) → x.id.0 ≤ id_in (get_or (x ∷ xs) k d)
+rise-first low x xs zero d h less = omega arith
+rise-first low x [] (suc k) d h less = absurd (omega (arith, less))
+rise-first low x (y ∷ ys) (suc k) d h less = let rest = rise-first (suc x.id.0) y ys k d h.1 (omega (arith, less)) in let up = h.1.0 in omega (arith, rest, up)
+
+rise-sorted : (low : ℕ) (xs : List Stored) → Rise low xs → IsNonDecreasingBy id_in xs
+rise-sorted low [] h i j d le less = absurd (omega (arith, less))
+rise-sorted low (x ∷ xs) h zero j d le less = rise-first low x xs j d h less
+rise-sorted low (x ∷ xs) h (suc i) zero d le less = absurd (omega (arith, le))
+rise-sorted low (x ∷ xs) h (suc i) (suc j) d le less = rise-sorted (suc x.id.0) xs h.1 i j d (omega (arith, le)) (omega (arith, less))
+
+above-none : (id low : ℕ) (xs : List Stored) → Rise low xs → id < low → text_at id xs ≡ None
+above-none id low [] h less = refl
+above-none id low (x ∷ xs) h less = cond-false (id == x.id.0) _ _ (ne_eqb id x.id.0 (λ e. absurd (omega (arith, h.0, less)))) ∙ above-none id (suc x.id.0) xs h.1 (omega (arith, h.0, less))
+
+-- the first that is not below an internal id has it, where one has it
+abbrev pub IsPoint : ℕ → List Stored → ℕ → Type 0
+IsPoint id xs i = IsPartitionPoint (λ x. nat_lt (id_in x) id ≡ true) (λ x. nat_lt (id_in x) id ≡ false) xs i
+
+at-point : (id low : ℕ) (xs : List Stored) (i : ℕ) → Rise low xs → IsPoint id xs i → is_some (text_at id xs) ≡ true → i ≤ length xs → option_map (λ x. x.text) (slice_get xs i) ≡ text_at id xs
+at-point id low [] i h point there within = absurd (cc)
+at-point id low (x ∷ xs) zero h point there within = by (id == x.id.0) refl
   where
-    or-false : (b : Bool) → (b || false) ≡ b
-    or-false true = refl
-    or-false false = refl
+    first : nat_lt (id_in x) id ≡ false
+    first = point.1 0 x (omega arith) (omega arith)
 
-    or-true : (b : Bool) → (b || true) ≡ true
-    or-true true = refl
-    or-true false = refl
-
-    more : (b : Bool) (m n : List Row) → length m ≡ suc (length n) → length (cond b (x ∷ m) m) ≡ suc (length (cond b (x ∷ n) n))
-    more true m n e = ap suc e
-    more false m n e = e
-
-    by : (b : Bool) → bytes_eq q x.external ≡ b → (id_of q xs ≡ Some id → length (filter (λ x. is_named (externals rows) x || bytes_eq x.external q) xs) ≡ suc (length (filter (is_named (externals rows)) xs)))
-        → length (filter (λ x. is_named (externals rows) x || bytes_eq x.external q) (x ∷ xs)) ≡ suc (length (filter (is_named (externals rows)) (x ∷ xs)))
-    by true e again =
-        let same : q ≡ x.external = same_bytes q x.external e in
-        let unnamed : is_named (externals rows) x ≡ false = named-last rows x.external ∙ ap is_some (ap (λ v. last_of v rows) (sym same) ∙ new) in
-        let none : id_of q xs ≡ None = ap (λ v. id_of v xs) same ∙ apart.0 in
-        ap (λ b. length (cond b (x ∷ filter (λ x. is_named (externals rows) x || bytes_eq x.external q) xs) (filter (λ x. is_named (externals rows) x || bytes_eq x.external q) xs)))
-        (ap (λ b. is_named (externals rows) x || b) (bytes_eq-turned x.external q ∙ e) ∙ or-true (is_named (externals rows) x))
-        ∙ ap suc (count-none rows q xs none ∙ sym (ap (λ b. length (cond b (x ∷ filter (is_named (externals rows)) xs) (filter (is_named (externals rows)) xs))) unnamed))
-    by false e again =
-        ap (λ b. length (cond b (x ∷ filter (λ x. is_named (externals rows) x || bytes_eq x.external q) xs) (filter (λ x. is_named (externals rows) x || bytes_eq x.external q) xs)))
-        (ap (λ b. is_named (externals rows) x || b) (bytes_eq-turned x.external q ∙ e) ∙ or-false (is_named (externals rows) x))
-        ∙ more (is_named (externals rows) x) _ _ (again (sym (cond-false _ _ _ e) ∙ h))
-
-same-counts : (p q : Row → Bool) → ((x : Row) → p x ≡ q x) → (xs : List Row) → length (filter p xs) ≡ length (filter q xs)
-same-counts p q h [] = refl
-same-counts p q h (x ∷ xs) = ap (λ b. length (cond b (x ∷ filter p xs) (filter p xs))) (h x) ∙ more (q x) (filter p xs) (filter q xs) (same-counts p q h xs)
-  where
-    more : (b : Bool) (m n : List Row) → length m ≡ length n → length (cond b (x ∷ m) m) ≡ length (cond b (x ∷ n) n)
-    more true m n e = ap suc e
-    more false m n e = e
-
-already : (rows : List StoreRow) (q : List ℕ) (d : Data) → last_of q rows ≡ Some d → (x : Row) → (is_named (externals rows) x || bytes_eq x.external q) ≡ is_named (externals rows) x
-already rows q d h x = by (bytes_eq x.external q) refl
-  where
-    or-false : (b : Bool) → (b || false) ≡ b
-    or-false true = refl
-    or-false false = refl
-
-    by : (b : Bool) → bytes_eq x.external q ≡ b → (is_named (externals rows) x || bytes_eq x.external q) ≡ is_named (externals rows) x
-    by false e = ap (λ b. is_named (externals rows) x || b) e ∙ or-false (is_named (externals rows) x)
-    by true e =
-        let yes : is_named (externals rows) x ≡ true = named-last rows x.external ∙ ap is_some (ap (λ v. last_of v rows) (same_bytes x.external q e) ∙ h) in
-        ap (λ b. b || bytes_eq x.external q) yes ∙ sym yes
-
--- one document more
-pub named-more : (rows : List StoreRow) (r : StoreRow) (s : Store) → IsSound s → named (rows ++ r ∷ []) s.rows ≡ named rows s.rows + reads (last_of r.external rows) (id_of r.external s.rows)
-named-more rows r s sound = same-counts (is_named (externals (rows ++ r ∷ []))) (λ x. is_named (externals rows) x || bytes_eq x.external r.external) (named-behind rows r) s.rows ∙ by (last_of r.external rows) refl (id_of r.external s.rows) refl
-  where
-    by : (l : Option Data) → last_of r.external rows ≡ l → (i : Option ℕ) → id_of r.external s.rows ≡ i
-        → length (filter (λ x. is_named (externals rows) x || bytes_eq x.external r.external) s.rows) ≡ named rows s.rows + reads (last_of r.external rows) (id_of r.external s.rows)
-    by (Some d) e i f = let none : reads (last_of r.external rows) (id_of r.external s.rows) ≡ 0 = ap (λ l. reads l (id_of r.external s.rows)) e in
-        let same = same-counts (λ x. is_named (externals rows) x || bytes_eq x.external r.external) (is_named (externals rows)) (already rows r.external d e) s.rows in omega (arith, same, none)
-    by None e None f = let none : reads (last_of r.external rows) (id_of r.external s.rows) ≡ 0 = ap₂ reads e f in let same = count-none rows r.external s.rows f in omega (arith, same, none)
-    by None e (Some id) f = let one : reads (last_of r.external rows) (id_of r.external s.rows) ≡ 1 = ap₂ reads e f in let more = count-some rows r.external s.rows id sound.apart e f in omega (arith, more, one)
-
-names-fewer : (names more : List (List ℕ)) (xs : List Row) → length (filter (is_named names) xs) ≤ length (filter (is_named (names ++ more)) xs)
-names-fewer names more [] = omega arith
-names-fewer names more (x ∷ xs) = by (is_named names x) refl (names-fewer names more xs)
-  where
-    any-more : (names : List (List ℕ)) → is_named names x ≡ true → is_named (names ++ more) x ≡ true
-    any-more [] h = absurd (cc)
-    any-more (n ∷ names) h = one (bytes_eq x.external n) refl h (any-more names)
+    by : (b : Bool) → (id == x.id.0) ≡ b → Some x.text ≡ text_at id (x ∷ xs)
+    by true e = sym (cond-true _ _ _ e)
+    by false e =
+        let low_id = ltb-false x.id.0 id first in
+        let other = eqb-false id x.id.0 e in
+        let none : text_at id (x ∷ xs) ≡ None = cond-false _ _ _ e ∙ above-none id (suc x.id.0) xs h.1 (other-below id x.id.0 low_id other) in
+        absurd (let bad = sym there ∙ ap is_some none in cc)
       where
-        one : (b : Bool) → bytes_eq x.external n ≡ b → is_named (n ∷ names) x ≡ true → (is_named names x ≡ true → is_named (names ++ more) x ≡ true) → is_named ((n ∷ names) ++ more) x ≡ true
-        one true e h again = ap (λ b. b || is_named (names ++ more) x) e
-        one false e h again = ap (λ b. b || is_named (names ++ more) x) e ∙ again (sym (ap (λ b. b || is_named names x) e) ∙ h)
+        other-below : (a b : ℕ) → a ≤ b → a ≢ b → a < suc b
+        other-below a b le ne = omega (arith, le)
+at-point id low (x ∷ xs) (suc i) h point there within =
+    let first = ltb-true x.id.0 id (point.0 0 x (omega arith) (omega arith)) in
+    let skip : text_at id (x ∷ xs) ≡ text_at id xs = cond-false (id == x.id.0) _ _ (ne_eqb id x.id.0 (λ e. absurd (omega (arith, first, e)))) in
+    at-point id (suc x.id.0) xs i h.1 ((λ k d le less. point.0 (suc k) d (omega arith) (omega (arith, less))), (λ k d le less. point.1 (suc k) d (omega (arith, le)) (omega (arith, less)))) (sym (ap is_some skip) ∙ there) (omega (arith, within)) ∙ sym skip
 
-    either : (b : Bool) (m : List Row) → length m ≤ length (cond b (x ∷ m) m)
-    either true m = omega arith
-    either false m = omega arith
+-- the named one of an external id is the stored one
+named-one : (ids : List (List ℕ)) (external : List ℕ) (id low : ℕ) (rows : List Row) (high : ℕ) → Increase low rows high → list_any (bytes_eq external) ids ≡ true → id_of external rows ≡ Some id
+    → (option_map (λ r. r.document) (row_at id (named ids rows)) ≡ document_under external rows) × (is_some (document_under external rows) ≡ true)
+named-one ids external id low [] high h among found = absurd (cc)
+named-one ids external id low (r ∷ rows) high h among found = by (bytes_eq external r.external) refl (named-one ids external id (suc r.id) rows high h.1 among) (id_of-low external (suc r.id) rows high id h.1)
+  where
+    some_same : (a b : ℕ) → Some a ≡ Some b → a ≡ b
+    some_same a b h = cc
 
-    by : (b : Bool) → is_named names x ≡ b → length (filter (is_named names) xs) ≤ length (filter (is_named (names ++ more)) xs) → length (filter (is_named names) (x ∷ xs)) ≤ length (filter (is_named (names ++ more)) (x ∷ xs))
-    by true e again =
-        let left : length (filter (is_named names) (x ∷ xs)) ≡ suc (length (filter (is_named names) xs)) = ap length (cond-true _ _ _ e) in
-        let right : length (filter (is_named (names ++ more)) (x ∷ xs)) ≡ suc (length (filter (is_named (names ++ more)) xs)) = ap length (cond-true _ _ _ (any-more names e)) in omega (arith, again, left, right)
-    by false e again =
-        let left : length (filter (is_named names) (x ∷ xs)) ≡ length (filter (is_named names) xs) = ap length (cond-false _ _ _ e) in
-        let right = either (is_named (names ++ more) x) (filter (is_named (names ++ more)) xs) in omega (arith, again, left, right)
+    by : (b : Bool) → bytes_eq external r.external ≡ b
+        → (id_of external rows ≡ Some id → (option_map (λ r. r.document) (row_at id (named ids rows)) ≡ document_under external rows) × (is_some (document_under external rows) ≡ true)) → (id_of external rows ≡ Some id → suc r.id ≤ id)
+        → (option_map (λ r. r.document) (row_at id (named ids (r ∷ rows))) ≡ document_under external (r ∷ rows)) × (is_some (document_under external (r ∷ rows)) ≡ true)
+    by true e again low =
+        let same : r.id ≡ id = some_same r.id id (sym (cond-true _ _ _ e) ∙ found) in
+        let yes : is_named ids r ≡ true = ap (λ v. list_any (bytes_eq v) ids) (sym (same_bytes external r.external e)) ∙ among in
+        let under : document_under external (r ∷ rows) ≡ Some r.document = cond-true _ _ _ e in (
+          ap (λ v. option_map (λ r. r.document) (row_at id v)) (cond-true (is_named ids r) (r ∷ named ids rows) (named ids rows) yes)
+              ∙ ap (option_map (λ (v : Row). v.document)) (cond-true (id == r.id) (Some r) (row_at id (named ids rows)) (eq-eqb id r.id (sym same))) ∙ sym under,
+          ap is_some under,
+        )
+    by false e again low =
+        let rest = sym (cond-false (bytes_eq external r.external) (Some r.id) (id_of external rows) e) ∙ found in
+        let above = low rest in
+        let under : document_under external (r ∷ rows) ≡ document_under external rows = cond-false _ _ _ e in
+        let skip : row_at id (r ∷ named ids rows) ≡ row_at id (named ids rows) = cond-false (id == r.id) _ _ (ne_eqb id r.id (λ same. absurd (omega (arith, above, same)))) in (
+          cond_both (is_named ids r) (r ∷ named ids rows) (named ids rows) (λ v. option_map (λ r. r.document) (row_at id v) ≡ option_map (λ r. r.document) (row_at id (named ids rows))) (λ _. ap (option_map (λ (v : Row). v.document)) skip) (λ _. refl)
+              ∙ (again rest).0 ∙ sym under,
+          ap is_some under ∙ (again rest).1,
+        )
+
+pub read-sorted : (external : List ℕ) (stored : List Stored) (s : Store) → IsSound s → IsRead external stored s → IsNonDecreasingBy id_in stored
+read-sorted external stored s sound h = rise-sorted 0 stored (rise-read (is_named h.ids) stored 0 s.rows s.next_id sound.increase h.read)
+
+pub text-read : (external : List ℕ) (stored : List Stored) (s : Store) (id i : ℕ) → IsSound s → IsRead external stored s → id_of external s.rows ≡ Some id → IsPoint id stored i → i ≤ length stored
+    → option_map (λ x. x.text) (slice_get stored i) ≡ document_under external s.rows
+text-read external stored s id i sound h found point within =
+    let one = named-one h.ids external id 0 s.rows s.next_id sound.increase h.among found in
+    let same = text-same id stored (named h.ids s.rows) h.read in
+    at-point id 0 stored i (rise-read (is_named h.ids) stored 0 s.rows s.next_id sound.increase h.read) point (ap is_some (same ∙ one.0) ∙ one.1) within ∙ same ∙ one.0
 
 -- ---- the loop
 
-pub record Updates (all left : List StoreRow) (s : Store) (rows : List StoreRow) (places : BTreeMap (List ℕ) ℕ) (start now : ℕ) : Type 0 where
+pub record Updates (all left : List StoreRow) (s : Store) (rows : List StoreRow) (places : BTreeMap (List ℕ) ℕ) : Type 0 where
   pub told : rows ++ updated_rows left (all_stored rows s) ≡ updated_rows all s
   pub names : externals rows ++ externals left ≡ externals all
   pub places_are : ArePlaces places rows
-  pub counted : now ≡ start + named rows s.rows
 
-pub updates-start : (all : List StoreRow) (s : Store) (places : BTreeMap (List ℕ) ℕ) (start : ℕ) → ((q : List ℕ) → get (slice_cmp nat_cmp) places q ≡ None) → Updates all all s [] places start start
-updates-start all s places start empty = record {
+pub updates-start : (all : List StoreRow) (s : Store) (places : BTreeMap (List ℕ) ℕ) → ((q : List ℕ) → get (slice_cmp nat_cmp) places q ≡ None) → Updates all all s [] places
+updates-start all s places empty = record {
   told = refl;
   names = refl;
   places_are = record { each = λ q. ap (document_at []) (empty q); within = λ q place e. absurd (let none = sym (empty q) ∙ e in cc) };
-  counted = let none = count-nothing s.rows in omega arith;
 }
-  where
-    count-nothing : (xs : List Row) → length (filter (is_named []) xs) ≡ 0
-    count-nothing [] = refl
-    count-nothing (x ∷ xs) = count-nothing xs
 
 map-behind : (rows : List StoreRow) (r : StoreRow) → externals (rows ++ r ∷ []) ≡ externals rows ++ r.external ∷ []
 map-behind [] r = refl
@@ -272,16 +273,15 @@ map-behind (x ∷ rows) r = ap (λ v. x.external ∷ v) (map-behind rows r)
 abbrev one_of : List ℕ → Data → StoreRow
 one_of external document = record { external = external; document = document }
 
-pub updates-one : (all left : List StoreRow) (r : StoreRow) (rest : List StoreRow) (s : Store) (rows more : List StoreRow) (places next : BTreeMap (List ℕ) ℕ) (start now later : ℕ) (document : Data) (key : List ℕ) → IsSound s → left ≡ r ∷ rest
+pub updates-one : (all left : List StoreRow) (r : StoreRow) (rest : List StoreRow) (s : Store) (rows more : List StoreRow) (places next : BTreeMap (List ℕ) ℕ) (document : Data) (key : List ℕ) → left ≡ r ∷ rest
     → document ≡ over (or_else (last_of r.external rows) (document_under r.external s.rows)) r.document → more ≡ rows ++ one_of r.external document ∷ [] → key ≡ r.external
-    → UpdatesBy (slice_cmp nat_cmp) (slice_cmp nat_cmp key) places next (Some (length rows)) → later ≡ now + reads (last_of r.external rows) (id_of r.external s.rows) → Updates all left s rows places start now → Updates all rest s more next start later
-updates-one all left r rest s rows more places next start now later document key sound is merges pushed keyed puts reads_is h = subst (λ v. Updates all rest s v next start later) (sym pushed) (record {
+    → UpdatesBy (slice_cmp nat_cmp) (slice_cmp nat_cmp key) places next (Some (length rows)) → Updates all left s rows places → Updates all rest s more next
+updates-one all left r rest s rows more places next document key is merges pushed keyed puts h = subst (λ v. Updates all rest s v next) (sym pushed) (record {
   told =
       append_assoc rows (new ∷ []) (updated_rows rest (all_stored (rows ++ new ∷ []) s)) ∙ ap (λ t. rows ++ new ∷ updated_rows rest t) (all_stored-behind rows new s)
       ∙ ap (λ v. rows ++ v ∷ updated_rows rest (stored v (all_stored rows s))) (sym same) ∙ ap (λ v. rows ++ updated_rows v (all_stored rows s)) (sym is) ∙ h.told;
   names = ap (λ v. v ++ externals rest) (map-behind rows new) ∙ append_assoc (externals rows) (r.external ∷ []) (externals rest) ∙ ap (λ v. externals rows ++ externals v) (sym is) ∙ h.names;
   places_are = places-behind places next key rows new h.places_are keyed puts;
-  counted = let more_named = named-more rows new s sound in let before = h.counted in omega (arith, more_named, before, reads_is);
 })
   where
     new : StoreRow
@@ -290,13 +290,15 @@ updates-one all left r rest s rows more places next start now later document key
     same : updating r (all_stored rows s) ≡ one_of r.external document
     same = ap (λ o. one_of r.external (over o r.document)) (under-stored rows s r.external) ∙ ap (one_of r.external) (sym merges)
 
--- no more are read than are named
-pub updates-few : (all left : List StoreRow) (r : StoreRow) (rest : List StoreRow) (s : Store) (rows : List StoreRow) (places : BTreeMap (List ℕ) ℕ) (start now later : ℕ) → IsSound s → left ≡ r ∷ rest
-    → later ≡ now + reads (last_of r.external rows) (id_of r.external s.rows) → Updates all left s rows places start now → later ≤ start + named all s.rows
-updates-few all left r rest s rows places start now later sound is reads_is h =
-    let more_named = named-more rows (one_of r.external r.document) s sound in
-    let before = h.counted in
-    let names : externals (rows ++ one_of r.external r.document ∷ []) ++ externals rest ≡ externals all =
-    ap (λ v. v ++ externals rest) (map-behind rows (one_of r.external r.document)) ∙ append_assoc (externals rows) (r.external ∷ []) (externals rest) ∙ ap (λ v. externals rows ++ externals v) (sym is) ∙ h.names in
-    let few = subst (λ v. length (filter (is_named (externals (rows ++ one_of r.external r.document ∷ []))) s.rows) ≤ length (filter (is_named v) s.rows)) names (names-fewer (externals (rows ++ one_of r.external r.document ∷ [])) (externals rest) s.rows) in
-    omega (arith, more_named, before, few, reads_is)
+-- the document of the next row was read, if one is stored
+pub next-read : (all left : List StoreRow) (r : StoreRow) (rest : List StoreRow) (s : Store) (rows : List StoreRow) (places : BTreeMap (List ℕ) ℕ) (stored : List Stored) → left ≡ r ∷ rest → Updates all left s rows places
+    → AreRead stored (named (externals all) s.rows) → IsRead r.external stored s
+next-read all left r rest s rows places stored is h read = record {
+  ids = externals all;
+  read = read;
+  among = ap (list_any (bytes_eq r.external)) (sym h.names ∙ ap (λ v. externals rows ++ externals v) is) ∙ among (externals rows);
+}
+  where
+    among : (ids : List (List ℕ)) → list_any (bytes_eq r.external) (ids ++ r.external ∷ externals rest) ≡ true
+    among [] = ap (λ b. b || list_any (bytes_eq r.external) (externals rest)) (bytes_itself r.external)
+    among (id ∷ ids) = ap (λ b. bytes_eq r.external id || b) (among ids) ∙ or-true (bytes_eq r.external id)

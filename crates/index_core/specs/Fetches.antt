@@ -1,18 +1,20 @@
--- How many stored documents a change has to read.
-use Rattle.std.specs.Prelude.{ℕ, ◌≡◌, ◌==◌, ◌&&◌, Bool, true, false, List, length, filter, codes, Option, None, Some, if◌then◌else◌}
+-- How many stored documents a change or a search has to read.
+use Rattle.std.specs.Prelude.{ℕ, ◌≡◌, ◌==◌, ◌&&◌, Bool, true, false, List, length, codes, Option, None, Some, Result, Ok, Err, if◌then◌else◌}
 use Rattle.std.specs.Bool.{beq}
 use Rattle.std.specs.Cmp.Lexicographic.{pointwise}
 use Rattle.serde_json.specs.Data.{Data}
 use Rattle.serde_json.specs.Find.{get}
 use Rattle.doc_rows.specs.declared.path_use.PathUse.{PathUse}
 use Rattle.doc_store.specs.Store.{externals}
+use Rattle.doc_index.specs.Named.{named}
 use Rattle.index_settings.specs.View.{SettingsView}
 use Rattle.index_settings.specs.Table.{defaults}
 use Rattle.index_settings.specs.Patch.{patched}
+use Rattle.index_core.specs.declared.refusal.SearchRefusal.{SearchRefusal}
+use Rattle.index_core.specs.Found.{Found}
 use Rattle.index_core.specs.Index.{Index}
 use Rattle.index_core.specs.Matching.{uses_from}
 use Rattle.index_core.specs.PlanView.{Work, replace, update, remove, clear, patch, reset}
-use Rattle.index_core.specs.Plans.{is_named}
 
 abbrev pub same_rank : Option ℕ → Option ℕ → Bool
 same_rank None None = true
@@ -38,12 +40,21 @@ pub record LeavesUses (members : Data) : Type 0 where
 abbrev pub needed_under : SettingsView → Index → ℕ
 needed_under settings index = if use_alike settings index.settings index.store.paths then 0 else length index.store.rows
 
--- An update reads each stored document that it names once, and settings that use some path otherwise read each document
--- once; no other change reads one.
+-- the documents that some external ids name
+abbrev pub named_needed : List (List ℕ) → Index → ℕ
+named_needed ids index = length (named ids index.store.rows)
+
+-- A change of documents reads each stored document that it names once, and settings that use some path otherwise read
+-- each document once; no other change reads one.
 abbrev pub needed : Work → Index → ℕ
-needed (replace rows) index = 0
-needed (update rows) index = length (filter (is_named (externals rows)) index.store.rows)
-needed (remove ids) index = 0
+needed (replace rows) index = named_needed (externals rows) index
+needed (update rows) index = named_needed (externals rows) index
+needed (remove ids) index = named_needed ids index
 needed clear index = 0
 needed (patch members) index = needed_under (patched defaults index.settings members) index
 needed reset index = needed_under defaults index
+
+-- a search reads its hits, and none where it is refused
+abbrev pub hits_needed : Result Found SearchRefusal → ℕ
+hits_needed (Ok found) = length found.hits
+hits_needed (Err refusal) = 0

@@ -20,10 +20,10 @@ use Rattle.index_core.specs.Matching.{Matching, matching, rows_matching}
 use Rattle.index_core.specs.Rules.{path_named}
 use Rattle.index_core.specs.SearchFaults.{search_fault}
 
--- a document that is found, and the costs by which it stands where it stands
+-- a document that is found, and the costs by which it stands where it stands, where they are asked for
 pub record FoundHit : Type 0 where
   pub document : Data
-  pub costs : List CostKey
+  pub costs : Option (List CostKey)
 
 -- the hits, the number of matches, and the counts where they are asked for
 pub record Found : Type 0 where
@@ -45,8 +45,8 @@ window_end most call = min (offset_of call.window + limit_of call.window) most
 abbrev pub window_size : ℕ → SearchView → ℕ
 window_size most call = window_end most call - offset_of call.window
 
-abbrev pub hit_of : Matching → FoundHit
-hit_of m = record { document = m.row.document; costs = m.costs }
+abbrev pub hit_of : SearchView → Matching → FoundHit
+hit_of call m = record { document = m.row.document; costs = if call.costs then Some m.costs else None }
 
 -- the hits from the window's offset on, up to its end, in their order
 abbrev pub asked_of : ℕ → SearchView → List Matching → List Matching
@@ -87,7 +87,7 @@ abbrev pub found_in : Index → SearchView → Found
 found_in index call =
     let matches = matching index call in
     record {
-      hits = map hit_of (asked_of (most_hits index) call matches);
+      hits = map (hit_of call) (asked_of (most_hits index) call matches);
       total = min (length matches) (most_hits index);
       facets = option_map (counts_of index call) call.facets;
     }

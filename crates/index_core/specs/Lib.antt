@@ -11,12 +11,10 @@ pub mod SearchFaults
 pub mod Found
 pub mod Fetches
 pub mod Laws
-pub mod Kept
-pub mod Slots
+pub mod Indexed
 pub mod Whole
 pub mod Shown
-pub mod Putting
-pub mod Removing
+pub mod Ranking
 pub mod Updating
 pub mod Keyed
 pub mod Images

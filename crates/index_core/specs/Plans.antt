@@ -1,6 +1,5 @@
 -- What a change does to an index.
-use Rattle.std.specs.Prelude.{◌≡◌, ℕ, ◌+◌, Bool, not, List, [], ◌∷◌, filter, Option, Some, None, Result, Ok, Err, bytes_eq, if◌then◌else◌}
-use Rattle.std.specs.List.{list_any}
+use Rattle.std.specs.Prelude.{◌≡◌, ℕ, ◌+◌, List, [], ◌∷◌, Option, Some, None, Result, Ok, Err, bytes_eq, if◌then◌else◌}
 use Rattle.serde_json.specs.Data.{Data}
 use Rattle.doc_values.specs.Changes.{KindData}
 use Rattle.doc_values.specs.Changes as kind
@@ -8,7 +7,8 @@ use Rattle.doc_values.specs.Ids.{external_id_of, key_of}
 use Rattle.doc_values.specs.Stored.{merge}
 use Rattle.doc_store.specs.declared.rows.StoreRow.{StoreRow}
 use Rattle.doc_store.specs.declared.rows.StoreRefusal.{StoreRefusal}
-use Rattle.doc_store.specs.Store.{Row, Store, stored, all_stored, spent}
+use Rattle.doc_store.specs.Store.{Store, stored, all_stored, spent}
+use Rattle.doc_index.specs.Left.{without_named, without_all}
 use Rattle.index_settings.specs.declared.fault.SettingsRefusal.{SettingsRefusal}
 use Rattle.index_settings.specs.View.{SettingsView}
 use Rattle.index_settings.specs.Table.{defaults, patch_fault}
@@ -95,21 +95,11 @@ abbrev pub all_updated : List StoreRow → Store → Store
 all_updated [] s = s
 all_updated (r ∷ rs) s = all_updated rs (stored (updating r s) s)
 
-abbrev pub is_named : List (List ℕ) → Row → Bool
-is_named ids r = list_any (bytes_eq r.external) ids
-
--- the documents that none of the ids names; their internal ids are never given again, and no path goes
-abbrev pub all_removed : List (List ℕ) → Store → Store
-all_removed ids s = record { paths = s.paths; next_id = s.next_id; rows = filter (λ r. not (is_named ids r)) s.rows }
-
-abbrev pub cleared : Store → Store
-cleared s = record { paths = s.paths; next_id = s.next_id; rows = [] }
-
 abbrev pub after_work : Work → Store → Store
 after_work (replace rows) s = all_stored rows s
 after_work (update rows) s = all_updated rows s
-after_work (remove ids) s = all_removed ids s
-after_work clear s = cleared s
+after_work (remove ids) s = without_named ids s
+after_work clear s = without_all s
 after_work (patch members) s = s
 after_work reset s = s
 

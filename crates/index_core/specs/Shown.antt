@@ -1,8 +1,10 @@
 -- What contracts see of hits.
-use Rattle.std.specs.Prelude.{◌≡◌, ℕ, List, length, map, Option}
+use Rattle.std.specs.Prelude.{◌≡◌, ℕ, List, length, map, Option, None, if◌then◌else◌}
 use Rattle.std.specs.Option.{option_map}
 use Rattle.std.specs.List.{filter_map}
-use Rattle.search_base.specs.Hits.{Match}
+use Rattle.serde_json.specs.Data.{Data}
+use Rattle.search_base.specs.declared.cost_key.CostKey.{CostKey}
+use Rattle.search_base.specs.Query.{tuple_under}
 use Rattle.doc_store.specs.Store.{Row, row_at}
 use Rattle.facet_counts.specs.FacetView.{FacetView}
 use Rattle.search_call.specs.SearchView.{SearchView}
@@ -10,13 +12,23 @@ use Rattle.index_core.specs.declared.call.Hit.{Hit}
 use Rattle.index_core.specs.declared.call.SearchResult.{SearchResult}
 use Rattle.index_core.specs.Index.{Index}
 use Rattle.index_core.specs.Found.{FoundHit, Found, found_in}
+use Rattle.index_core.specs.Matching.{rows_in, query_in, rules_in}
 
 abbrev pub hit_shown : Hit → FoundHit
-hit_shown hit = record { document = hit.document.now; costs = hit.costs.items }
+hit_shown hit = record { document = hit.document.now; costs = option_map (λ costs. costs.items) hit.costs }
 
--- the document of a match, where it is among these
-abbrev pub hit_at : List Row → Match → Option FoundHit
-hit_at rows m = option_map (λ row. record { document = row.document; costs = m.costs }) (row_at m.id rows)
+-- the costs of a document under a search, where it asks for them
+abbrev pub costs_shown : Index → SearchView → Data → Option (List CostKey)
+costs_shown index call document =
+    if call.costs then tuple_under (rows_in index document) (query_in index call) (rules_in index call) else None
+
+-- a stored document as a hit of a search
+abbrev pub hit_under : Index → SearchView → Row → FoundHit
+hit_under index call row = record { document = row.document; costs = costs_shown index call row.document }
+
+-- the document with an internal id as a hit, where there is one
+abbrev pub hit_at : Index → SearchView → ℕ → Option FoundHit
+hit_at index call id = option_map (hit_under index call) (row_at id index.store.rows)
 
 -- what a search found, as the code holds it
 abbrev pub result_shown : SearchResult → Found
@@ -26,10 +38,10 @@ result_shown result = record {
   facets = option_map (λ facets. facets.items) result.facets;
 }
 
--- what was ranked is what the search finds, before its documents are read
-pub record Finds (index : Index) (call : SearchView) (ranked : List Match) (matches : ℕ)
-    (counts : Option (List FacetView)) : Type 0 where
-  pub hits : filter_map (hit_at index.store.rows) ranked ≡ (found_in index call).hits
-  pub number : length ranked ≡ length (found_in index call).hits
+-- these are the internal ids of the hits, and the numbers and counts that the search finds, before a document is read
+pub record Finds (index : Index) (call : SearchView) (ids : List ℕ) (matches : ℕ) (counts : Option (List FacetView))
+    : Type 0 where
+  pub hits : filter_map (hit_at index call) ids ≡ (found_in index call).hits
+  pub number : length ids ≡ length (found_in index call).hits
   pub total : matches ≡ (found_in index call).total
   pub facets : counts ≡ (found_in index call).facets

@@ -1,10 +1,13 @@
 -- The documents of an update, as they are stored.
-use Rattle.std.specs.Prelude.{◌≡◌, ◌<◌, ℕ, List, [], ◌∷◌, length, Option, None, Some, bytes_eq, slice_get, if◌then◌else◌}
+use Rattle.std.specs.Prelude.{◌≡◌, ◌<◌, ℕ, List, [], ◌∷◌, length, true, Option, None, Some, bytes_eq, slice_get, if◌then◌else◌}
 use Rattle.std.specs.Option.{option_map}
+use Rattle.std.specs.List.{list_any}
 use Rattle.std.specs.BTreeMap.{BTreeMap, get}
 use Rattle.std.specs.Cmp.Lexicographic.{slice_cmp}
 use Rattle.std.specs.Ordering.{nat_cmp}
 use Rattle.serde_json.specs.Data.{Data}
+use Rattle.doc_index.specs.declared.named.Stored.{Stored}
+use Rattle.doc_index.specs.Named.{named, AreRead}
 use Rattle.doc_store.specs.declared.rows.StoreRow.{StoreRow}
 use Rattle.doc_store.specs.Store.{Store, stored}
 use Rattle.index_core.specs.Plans.{updating}
@@ -35,8 +38,8 @@ pub record ArePlaces (places : BTreeMap (List ℕ) ℕ) (rows : List StoreRow) :
   pub within : (external : List ℕ) (place : ℕ) → get (slice_cmp nat_cmp) places external ≡ Some place
       → place < length rows
 
--- how many documents are read for one that comes: the stored one, where none of its id came before
-abbrev pub reads : Option Data → Option ℕ → ℕ
-reads (Some d) stored = 0
-reads None None = 0
-reads None (Some id) = 1
+-- the stored document with an external id is among those that were read
+pub record IsRead (external : List ℕ) (stored : List Stored) (s : Store) : Type 0 where
+  pub ids : List (List ℕ)
+  pub read : AreRead stored (named ids s.rows)
+  pub among : list_any (bytes_eq external) ids ≡ true

@@ -2,16 +2,16 @@
 use Rattle.std.specs.Prelude.{◌≡◌, ℕ, List, [], Option}
 use Rattle.doc_store.specs.StoreView.{StoreView}
 use Rattle.index_settings.specs.View.{SettingsView}
-use Rattle.packed_rows.specs.Packed.{KeptView}
+use Rattle.row_index.specs.Standing.{RowIndexView}
+use Rattle.index_core.specs.Indexed.{IsIndexed}
 use Rattle.index_core.specs.Keyed.{IsKeyed}
 use Rattle.index_core.specs.QueryWords.{QueryWordsView, AreWordsOf}
-use Rattle.index_core.specs.Slots.{AreInSlots}
 
--- the documents stand under the key, the rows and words are those of the store and the settings, and nothing is staged
+-- the documents stand under the key, the row index and words are those of the store and the settings, and no document
+-- is staged
 pub record IsWhole (key : Option (List ℕ)) (store : StoreView) (settings : SettingsView) (query_words : QueryWordsView)
-    (kept : KeptView) : Type 0 where
+    (index : RowIndexView) : Type 0 where
   pub keyed : IsKeyed key store.content.rows
-  pub rows : AreInSlots kept.slots settings store.content
+  pub rows : IsIndexed index settings store.content
   pub words : AreWordsOf query_words settings
-  pub no_rows : kept.staged ≡ []
   pub no_documents : store.staged ≡ []

@@ -2,12 +2,12 @@ use doc_values::DocumentText;
 use facet_counts::FacetReply;
 use search_base::CostKey;
 
-/// A document that a search found, and its costs: an entry for each ranking rule that is built, in the order of the
-/// rules.
+/// A document that a search found, and its costs, where the search asks for them: an entry for each ranking rule that is
+/// built, in the order of the rules.
 #[derive(Drop)]
 pub struct Hit<'a> {
     pub document: &'a DocumentText,
-    pub costs: Vec<CostKey>,
+    pub costs: Option<Vec<CostKey>>,
 }
 
 /// What a search found: the hits that were asked for, the best match first, how many documents match, and the counts of

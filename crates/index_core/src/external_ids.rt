@@ -1,7 +1,8 @@
-ghost use Rattle.std.specs.Prelude.{◌≡◌};
+ghost use Rattle.std.specs.Prelude.{◌≡◌, IfOk};
 ghost use Rattle.std.specs.Option.{option_copied};
 ghost use Rattle.search_base.specs.Gives.{Gives};
 ghost use Rattle.search_base.specs.Trying.{refused_as};
+ghost use Rattle.doc_store.specs.Store.{externals};
 ghost use Rattle.doc_values.specs.Ids.{external_id_of};
 ghost use Rattle.index_core.specs.Refusals.{id_refusal};
 ghost use Rattle.index_core.specs.Plans.{rows_for as rows_of_change, rows_under as rows_from};
@@ -9,7 +10,7 @@ ghost use Rattle.index_core.specs.Plans.{rows_for as rows_of_change, rows_under 
 use crate::refusal::{CoreFault, CoreRefusal};
 use doc_store::StoreRow;
 use doc_values::{DocumentText, IdRefusal, external_id};
-use search_base::{Fault, Word};
+use search_base::{Fault, NoMemory, Word};
 use std::alloc::Global;
 
 /// The documents of a change, each with its external id under the key. Without a key there are no documents.
@@ -66,4 +67,15 @@ pub(crate) fn id_at(
         }
         Err(Fault::NoMemory) => Err(Fault::NoMemory),
     }
+}
+
+/// The external ids of documents that come.
+pub(crate) fn ids_of(alloc: Global, rows: &[StoreRow]) -> Result<Vec<Word>, NoMemory>
+    ensures { IfOk result (λ ids. ids.items ≡ externals rows.now) }
+{
+    let mut ids = Vec::with_capacity(alloc, rows.len())?;
+    for row in rows {
+        ids.push(row.external.clone()?)?;
+    }
+    Ok(ids)
 }

@@ -1,4 +1,5 @@
 ghost use Rattle.std.specs.Prelude.{◌≡◌, ◌+◌, ◌≤◌, List, true, length, map, take, drop, IfOk, OnOk, OnErr, IsTrue, ◌↔◌, if◌then◌else◌};
+ghost use Rattle.std.specs.List.{filter_map};
 ghost use Rattle.std.specs.Option.{option_copied, option_map, is_some};
 ghost use Rattle.search_base.specs.Gives.{Gives, Checks};
 ghost use Rattle.doc_values.specs.Changes.{kind_view};
@@ -13,37 +14,44 @@ ghost use Rattle.index_core.specs.Index.{empty_index, documents as documents_in,
 ghost use Rattle.index_core.specs.Refusals.{store_refusal};
 ghost use Rattle.index_core.specs.PlanView.{work_view, IsGood};
 ghost use Rattle.index_core.specs.Plans.{planned, applied, after_work, settings_after, IsPlanFor};
-ghost use Rattle.index_core.specs.Fetches.{needed};
+ghost use Rattle.index_core.specs.Fetches.{needed, hits_needed};
 ghost use Rattle.index_core.specs.Found.{found};
-ghost use Rattle.index_core.specs.Shown.{result_shown, Finds};
+ghost use Rattle.index_core.specs.Ranking.{IsRankingOf};
+ghost use Rattle.index_core.specs.Shown.{result_shown, hit_shown, hit_at, Finds};
 
-use crate::call::{Listing, SearchResult};
-use crate::change::{clear_documents, joined, remove_documents, store_documents};
+use crate::call::{Hit, Listing, SearchResult};
+use crate::change::{joined, remove_named, store_rows};
+use crate::external_ids::ids_of;
 use crate::image::{copy_of_settings, image_documents, stored_rows};
 use crate::key::{copy_of, text_of};
-use crate::new_settings::{patch_settings, reset_settings, rows_of_all};
+use crate::new_settings::{index_of_store, patch_settings, reset_settings};
 use crate::plan::{
     Plan, Work, keeping_key, no_work, planned_patch, planned_replace, planned_update,
 };
 use crate::query_words::QueryWords;
-use crate::read::{read, read_hits};
+use crate::ranking::{Ranking, costs_of};
+use crate::read::read;
 use crate::refusal::{CoreFault, SearchFault};
 use crate::rules::rules_of;
 use crate::search::{Findings, asked_paths, check_search, if_asked, window_end, window_start};
 use crate::update::update_rows;
+use crate::uses::uses_of;
+use bucket_sort::{BucketLog, SilentLog};
+use doc_index::{clear_documents, read_named};
+use doc_search::search_documents;
 use doc_store::DocStore;
 use doc_values::{ChangeKind, DocumentText};
-use facet_counts::FacetCounts;
 use index_image::ImageIndex;
 use index_settings::Settings;
-use packed_rows::PackedSlots;
-use row_filter::RowFilter;
-use row_search::rank;
-use search_base::{NoMemory, Steps, Word};
+use row_index::RowIndex;
+use search_base::{DocId, NoMemory, Steps, Word};
 use search_call::SearchCall;
 use std::alloc::Global;
 use std::marker::Model;
 use std::mem;
+
+// The mark of the buckets that a search opens, which nothing counts here.
+struct Opening;
 
 /// One index, seen as its primary key, its store and its settings. What it keeps so that a search reads no document and
 /// cuts no words of the settings is not seen. Nothing is staged in it between two calls.
@@ -53,7 +61,7 @@ pub struct IndexCore {
     store: DocStore,
     settings: Settings,
     words: QueryWords,
-    kept: PackedSlots,
+    rows: RowIndex,
 }
 
 impl Model for IndexCore {
@@ -66,7 +74,7 @@ impl Model for IndexCore {
 
     ghost view = { λ index. record { key = index.key; store = index.store.content; settings = index.settings } };
 
-    ghost invariant = { λ index. IsWhole index.key index.store index.settings index.words index.kept };
+    ghost invariant = { λ index. IsWhole index.key index.store index.settings index.words index.rows };
 }
 
 impl IndexCore {
@@ -80,7 +88,7 @@ impl IndexCore {
             store: DocStore::new(alloc)?,
             words: QueryWords::of(alloc, &settings)?,
             settings,
-            kept: PackedSlots::new(alloc),
+            rows: RowIndex::new(alloc),
         })
     }
 
@@ -139,9 +147,9 @@ impl IndexCore {
     /// none that gave it another key. Takes its memory before it changes anything: a refusal, want of memory too,
     /// leaves the index as it was.
     ///
-    /// Where ids or paths are spent, ids are named first. An update reads each stored document that it names once, and
-    /// new settings read each document once where they use some path otherwise; no other change reads one. What a patch
-    /// does not name is not looked at, and shares its list with the settings before.
+    /// Where ids or paths are spent, ids are named first. Documents that come or go read each stored document that they
+    /// name once, and new settings read each document once where they use some path otherwise; no other change reads
+    /// one. What a patch does not name is not looked at, and shares its list with the settings before.
     pub fn apply<F>(
         &mut self,
         alloc: Global,
@@ -179,47 +187,76 @@ impl IndexCore {
         ensures fetches { OnOk result (fetches.new ≡ fetches.old + needed (work_view work) self.old) }
         ensures at_most { fetches.new ≤ fetches.old + needed (work_view work) self.old }
     {
+        let settings = &mut self.settings;
         match work {
             Work::Replace { rows } => {
-                store_documents(alloc, &self.settings, &mut self.store, &mut self.kept, rows)
+                let ids = ids_of(alloc, rows.as_slice())?;
+                let replaced = read_named(alloc, &self.store, ids.as_slice(), fetches)?;
+                let replaced = replaced.as_slice();
+                store_rows(
+                    alloc,
+                    settings,
+                    &mut self.store,
+                    &mut self.rows,
+                    rows,
+                    replaced,
+                )
             }
             Work::Update { rows } => {
-                let rows = update_rows(alloc, &self.store, rows, fetches)?;
-                store_documents(alloc, &self.settings, &mut self.store, &mut self.kept, rows)
+                let ids = ids_of(alloc, rows.as_slice())?;
+                let replaced = read_named(alloc, &self.store, ids.as_slice(), fetches)?;
+                let replaced = replaced.as_slice();
+                let rows = update_rows(alloc, &self.store, rows, replaced)?;
+                store_rows(
+                    alloc,
+                    settings,
+                    &mut self.store,
+                    &mut self.rows,
+                    rows,
+                    replaced,
+                )
             }
             Work::Remove { ids } => {
-                remove_documents(&mut self.store, &mut self.kept, ids.as_slice());
+                let ids = ids.as_slice();
+                let removed = read_named(alloc, &self.store, ids, fetches)?;
+                let removed = removed.as_slice();
+                remove_named(
+                    alloc,
+                    settings,
+                    &mut self.store,
+                    &mut self.rows,
+                    ids,
+                    removed,
+                )?;
                 Ok(())
             }
             Work::Clear => {
-                clear_documents(&mut self.store, &mut self.kept);
+                clear_documents(alloc, &mut self.store, &mut self.rows);
                 Ok(())
             }
             Work::Patch { members } => {
-                let (kept, words) = (&mut self.kept, &mut self.words);
-                let settings = &mut self.settings;
-                patch_settings(alloc, &self.store, kept, words, settings, &members, fetches)?;
+                let (rows, words) = (&mut self.rows, &mut self.words);
+                patch_settings(alloc, &self.store, rows, words, settings, &members, fetches)?;
                 Ok(())
             }
             Work::Reset => {
-                let (kept, words) = (&mut self.kept, &mut self.words);
-                let settings = &mut self.settings;
-                reset_settings(alloc, &self.store, kept, words, settings, fetches)?;
+                let (rows, words) = (&mut self.rows, &mut self.words);
+                reset_settings(alloc, &self.store, rows, words, settings, fetches)?;
                 Ok(())
             }
         }
     }
 
-    /// What a search finds: its hits, each a stored document with its costs, the number of matches, and the counts that
-    /// it asks for, over all matches. The hits are the asked slice of the documents that match, in the order of their
-    /// costs and then of their internal ids. The settings say which costs count and in which order, which paths are
-    /// searched, which words of a query are left out or stand for others, and how many matches and values are counted
-    /// or handed out.
+    /// What a search finds: its hits, each a stored document, with its costs where these are asked for, the number of
+    /// matches, and the counts that it asks for, over all matches. The hits are the asked slice of the documents that
+    /// match, in the order of their costs and then of their internal ids. The settings say which costs count and in which
+    /// order, which paths are searched, which words of a query are left out or stand for others, and how many matches and
+    /// values are counted or handed out.
     ///
     /// Refused is a search that sorts where the ranking rules do not (`NoSortRule`) or by an attribute that may not be
     /// sorted by (`NotSortable`), then one that filters (`NotFilterable`), and then one that counts (`NotFacet`) by an
     /// attribute that may not be filtered by; the first such attribute is named. Reads no other document than the hits,
-    /// and each of them once; where it is refused, or memory is wanting, none.
+    /// and each of them once at most; where it is refused, none.
     pub fn search<F>(
         &self,
         alloc: Global,
@@ -228,15 +265,12 @@ impl IndexCore {
     ) -> Result<SearchResult, SearchFault>
         ensures answer { Gives result_shown result (found self.now call.now) }
         ensures fetches { IfOk result (λ found. fetches.new ≡ fetches.old + length found.hits.items) }
-        ensures starved { OnErr result (fetches.new ≡ fetches.old) }
+        ensures at_most { fetches.new ≤ fetches.old + hits_needed (found self.now call.now) }
     {
         check_search(alloc, &self.settings, call)?;
-        let Findings {
-            ranked,
-            total,
-            facets,
-        } = self.find(alloc, call)?;
-        let hits = read_hits(alloc, &self.store, ranked, fetches)?;
+        let ranking = self.ranking(alloc, call)?;
+        let Findings { ids, total, facets } = self.find(alloc, call, &ranking)?;
+        let hits = self.hits(alloc, call, &ranking, ids.as_slice(), fetches)?;
         Ok(SearchResult {
             hits,
             total,
@@ -244,36 +278,105 @@ impl IndexCore {
         })
     }
 
-    // Ranks the documents of a search, and counts them. None is read.
-    fn find(&self, alloc: Global, call: &SearchCall) -> Result<Findings, NoMemory>
-        ensures { IfOk result (λ found. Finds self.now call.now found.ranked.items found.total
-            (option_map (λ facets. facets.items) found.facets)) }
+    // How the documents of a search are ranked.
+    fn ranking(&self, alloc: Global, call: &SearchCall) -> Result<Ranking, NoMemory>
+        ensures { IfOk result (λ ranking. IsRankingOf ranking self.now call.now) }
     {
         let paths = self.store.paths();
-        let query = self.words.query(alloc, call)?;
-        let rules = rules_of(alloc, &self.settings, paths, &call.sort)?;
-        let filter = RowFilter::of(alloc, &call.filter, paths)?;
-        let asked = asked_paths(alloc, &self.settings, paths, call)?;
-        let mut counts = FacetCounts::new(alloc, asked)?;
+        Ok(Ranking {
+            uses: uses_of(alloc, &self.settings, paths)?,
+            query: self.words.query(alloc, call)?,
+            rules: rules_of(alloc, &self.settings, paths, &call.sort)?,
+        })
+    }
+
+    // Finds the hits of a search, and counts matches and values. No document is read.
+    fn find(
+        &self,
+        alloc: Global,
+        call: &SearchCall,
+        ranking: &Ranking,
+    ) -> Result<Findings, NoMemory>
+        requires { IsRankingOf ranking.now self.now call.now }
+        ensures { IfOk result (λ found. Finds self.now call.now (map (λ id. id.0) found.ids.items) found.total
+            (option_map (λ facets. facets.items) found.facets)) }
+    {
+        let asked = asked_paths(alloc, &self.settings, self.store.paths(), call)?;
         let most = self.settings.max_total_hits();
         let start = window_start(call.window);
-        let end = window_end(most, call.window);
-        let ranked = rank(
+        let limit = window_end(most, call.window).saturating_sub(start);
+        let log = Box::new(alloc, SilentLog)?;
+        let mut log: Box<dyn BucketLog> = log;
+        let mut openings = Steps::<Opening>::new();
+        let found = search_documents(
             alloc,
-            &self.kept,
-            &query,
-            &filter,
-            rules.as_slice(),
+            &self.store,
+            &self.rows,
+            ranking.uses.as_slice(),
+            &ranking.query,
+            &call.filter,
+            ranking.rules.as_slice(),
             start,
-            end,
-            &mut counts,
+            limit,
+            asked,
+            self.settings.max_values_per_facet(),
+            &mut log,
+            &mut openings,
         )?;
-        let replies = counts.finish(alloc, self.settings.max_values_per_facet())?;
         Ok(Findings {
-            ranked: ranked.hits,
-            total: ranked.total.min(most),
-            facets: if_asked(call, replies),
+            ids: found.hits,
+            total: found.total.min(most),
+            facets: if_asked(call, found.facets),
         })
+    }
+
+    // The documents with these internal ids as hits, in this order. Each is read once; where memory is wanting, no more
+    // are read.
+    fn hits<F>(
+        &self,
+        alloc: Global,
+        call: &SearchCall,
+        ranking: &Ranking,
+        ids: &[DocId],
+        fetches: &mut Steps<F>,
+    ) -> Result<Vec<Hit>, NoMemory>
+        requires { IsRankingOf ranking.now self.now call.now }
+        ensures hits { IfOk result (λ hits. map hit_shown hits.items
+            ≡ filter_map (λ id. hit_at self.now call.now id.0) ids.now) }
+        ensures fetches { OnOk result (fetches.new ≡ fetches.old + length ids.now) }
+        ensures at_most { fetches.new ≤ fetches.old + length ids.now }
+    {
+        let mut hits = Vec::with_capacity(alloc, ids.len())?;
+        for id in ids {
+            if let Some(hit) = self.hit(alloc, call, ranking, *id, fetches)? {
+                hits.push(hit)?;
+            }
+        }
+        Ok(hits)
+    }
+
+    // The document with an internal id as a hit, where there is one.
+    fn hit<F>(
+        &self,
+        alloc: Global,
+        call: &SearchCall,
+        ranking: &Ranking,
+        id: DocId,
+        fetches: &mut Steps<F>,
+    ) -> Result<Option<Hit>, NoMemory>
+        requires { IsRankingOf ranking.now self.now call.now }
+        ensures hit { IfOk result (λ hit. option_map hit_shown hit ≡ hit_at self.now call.now id.0) }
+        ensures step { fetches.new ≡ fetches.old + 1 }
+    {
+        let Some(document) = self.store.fetch(id, fetches) else {
+            return Ok(None);
+        };
+        let costs = if call.costs {
+            costs_of(alloc, document, self.store.paths(), ranking)?
+        } else {
+            None
+        };
+        Ok(Some(Hit { document, costs }))
     }
 
     /// The document with an external id. Reads that document once, and none where there is none. Takes no memory.
@@ -351,13 +454,13 @@ impl IndexCore {
         } = image;
         let rows = stored_rows(alloc, text_of(&key), documents)?;
         let store = DocStore::restore(alloc, paths, next_id, rows)?;
-        let kept = rows_of_all(alloc, &store, &settings, fetches)?;
+        let index = index_of_store(alloc, &store, &settings, fetches)?;
         Ok(IndexCore {
             key,
             store,
             words: QueryWords::of(alloc, &settings)?,
             settings,
-            kept,
+            rows: index,
         })
     }
 }

@@ -8,8 +8,9 @@
 //! an `Index`: its key, its store of paths and rows, and its settings. The costs of a document are those under the
 //! readings of the query, of which definitions know no graph. Stands on `doc_store`, which keeps the documents, on
 //! `doc_values`, which reads keys and ids off them, on `index_settings`, which patches settings, on `query_graph` and
-//! `synonym_terms`, which read queries, on `doc_rows`, `packed_rows` and `row_search`, which keep what a search sees of
-//! documents and rank it, and on `index_image`, which has the rows of images.
+//! `synonym_terms`, which read queries, on `row_index`, `doc_index` and `doc_search`, which keep what a search sees of
+//! documents and search it, on `plain_rank`, which gives the costs of a hit, and on `index_image`, which has the rows of
+//! images.
 #![tactic(auto)]
 
 mod call;
@@ -17,12 +18,12 @@ mod change;
 mod external_ids;
 mod image;
 mod index;
-mod kept;
 mod key;
 mod laws;
 mod new_settings;
 mod plan;
 mod query_words;
+mod ranking;
 mod read;
 mod refusal;
 mod rules;

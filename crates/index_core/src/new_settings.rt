@@ -1,22 +1,19 @@
-ghost use Rattle.std.specs.Prelude.{◌≡◌, ◌+◌, ◌≤◌, ◌++◌, ◌∷◌, [], length, true, false, None, IfOk, IfSome, IfNone, OnOk, OnErr, if◌then◌else◌};
+ghost use Rattle.std.specs.Prelude.{◌≡◌, ◌+◌, ◌≤◌, length, true, false, None, IfOk, IfSome, IfNone, OnOk, OnErr, if◌then◌else◌};
 ghost use Rattle.serde_json.specs.View.{view as data_of};
-ghost use Rattle.std.specs.Option.{is_some};
 ghost use Rattle.doc_store.specs.Sound.{IsSound};
-ghost use Rattle.doc_store.specs.Store.{row_at};
 ghost use Rattle.index_settings.specs.Patch.{patched};
 ghost use Rattle.index_settings.specs.Table.{defaults, patch_fault};
 ghost use Rattle.index_core.specs.Fetches.{use_alike as are_alike, LeavesUses};
 ghost use Rattle.index_core.specs.QueryWords.{AreWordsOf, LeavesWords};
-ghost use Rattle.index_core.specs.Slots.{AreInSlots, rows_at};
+ghost use Rattle.index_core.specs.Indexed.{IsIndexed};
 
-use crate::kept::stage_document;
 use crate::query_words::QueryWords;
 use crate::uses::{use_alike, uses_of};
-use doc_rows::PathUse;
+use doc_index::index_of_all;
 use doc_store::DocStore;
 use index_settings::{Settings, patch_checked};
-use packed_rows::PackedSlots;
-use search_base::{DocId, NoMemory, Steps, Word};
+use row_index::RowIndex;
+use search_base::{NoMemory, Steps, Word};
 use serde_json::Value;
 use std::alloc::Global;
 
@@ -25,18 +22,16 @@ use std::alloc::Global;
 pub(crate) fn patch_settings<F>(
     alloc: Global,
     store: &DocStore,
-    kept: &mut PackedSlots,
+    index: &mut RowIndex,
     words: &mut QueryWords,
     settings: &mut Settings,
     members: &Value,
     fetches: &mut Steps<F>,
 ) -> Result<(), NoMemory>
     requires good { patch_fault (data_of members.now) ≡ None }
-    requires kept { AreInSlots kept.old.slots settings.old store.now.content }
-    requires staged { kept.old.staged ≡ [] }
+    requires indexed { IsIndexed index.old settings.old store.now.content }
     requires words { AreWordsOf words.old settings.old }
-    ensures kept { AreInSlots kept.new.slots settings.new store.now.content }
-    ensures staged { kept.new.staged ≡ [] }
+    ensures indexed { IsIndexed index.new settings.new store.now.content }
     ensures words { AreWordsOf words.new settings.new }
     ensures settings { OnOk result (settings.new ≡ patched defaults settings.old (data_of members.now)) }
     ensures stays { OnErr result (settings.new ≡ settings.old) }
@@ -50,7 +45,7 @@ pub(crate) fn patch_settings<F>(
     let others = patch_checked(alloc, settings, members)?;
     let named = words_named(alloc, &others, members)?;
     let may_differ = names_uses(members);
-    settle(alloc, store, kept, settings, others, may_differ, fetches)?;
+    settle(alloc, store, index, settings, others, may_differ, fetches)?;
     if let Some(named) = named {
         *words = named;
     }
@@ -87,16 +82,14 @@ fn words_named(
 pub(crate) fn reset_settings<F>(
     alloc: Global,
     store: &DocStore,
-    kept: &mut PackedSlots,
+    index: &mut RowIndex,
     words: &mut QueryWords,
     settings: &mut Settings,
     fetches: &mut Steps<F>,
 ) -> Result<(), NoMemory>
-    requires kept { AreInSlots kept.old.slots settings.old store.now.content }
-    requires staged { kept.old.staged ≡ [] }
+    requires indexed { IsIndexed index.old settings.old store.now.content }
     requires words { AreWordsOf words.old settings.old }
-    ensures kept { AreInSlots kept.new.slots settings.new store.now.content }
-    ensures staged { kept.new.staged ≡ [] }
+    ensures indexed { IsIndexed index.new settings.new store.now.content }
     ensures words { AreWordsOf words.new settings.new }
     ensures settings { OnOk result (settings.new ≡ defaults) }
     ensures stays { OnErr result (settings.new ≡ settings.old) }
@@ -107,28 +100,26 @@ pub(crate) fn reset_settings<F>(
 {
     let others = Settings::defaults(alloc)?;
     let named = QueryWords::of(alloc, &others)?;
-    settle(alloc, store, kept, settings, others, true, fetches)?;
+    settle(alloc, store, index, settings, others, true, fetches)?;
     *words = named;
     Ok(())
 }
 
-// Gives an index other settings. What is kept of its documents is made anew where some path is used otherwise, and
-// then each document is read once. The uses of paths are compared only where they may differ. All memory is taken
+// Gives an index other settings. Its documents are indexed anew where some path is used otherwise, and then each is
+// read once. The uses of paths are compared only where they may differ. All memory is taken
 // before anything changes.
 fn settle<F>(
     alloc: Global,
     store: &DocStore,
-    kept: &mut PackedSlots,
+    index: &mut RowIndex,
     settings: &mut Settings,
     others: Settings,
     may_differ: bool,
     fetches: &mut Steps<F>,
 ) -> Result<(), NoMemory>
-    requires kept { AreInSlots kept.old.slots settings.old store.now.content }
-    requires staged { kept.old.staged ≡ [] }
+    requires indexed { IsIndexed index.old settings.old store.now.content }
     requires same { may_differ ≡ false → are_alike others settings.old store.now.content.paths ≡ true }
-    ensures kept { AreInSlots kept.new.slots settings.new store.now.content }
-    ensures staged { kept.new.staged ≡ [] }
+    ensures indexed { IsIndexed index.new settings.new store.now.content }
     ensures settings { OnOk result (settings.new ≡ others) }
     ensures stays { OnErr result (settings.new ≡ settings.old) }
     ensures fetches { OnOk result (fetches.new ≡ fetches.old
@@ -140,7 +131,7 @@ fn settle<F>(
         *settings = others;
         return Ok(());
     }
-    *kept = rows_of_all(alloc, store, &others, fetches)?;
+    *index = index_of_store(alloc, store, &others, fetches)?;
     *settings = others;
     Ok(())
 }
@@ -158,57 +149,18 @@ fn stay_alike(settings: &Settings, others: &Settings, paths: &[Word], may_differ
     }
 }
 
-/// The rows of each stored document under these settings, in a table of their own. Each document is read once.
-pub(crate) fn rows_of_all<F>(
+/// The index of all documents of a store under these settings. Each document is read once.
+pub(crate) fn index_of_store<F>(
     alloc: Global,
     store: &DocStore,
     settings: &Settings,
     fetches: &mut Steps<F>,
-) -> Result<PackedSlots, NoMemory>
+) -> Result<RowIndex, NoMemory>
     requires sound { IsSound store.now.content }
-    ensures rows { IfOk result (λ all. AreInSlots all.slots settings.now store.now.content) }
-    ensures staged { IfOk result (λ all. all.staged ≡ []) }
+    ensures indexed { IfOk result (λ index. IsIndexed index settings.now store.now.content) }
     ensures fetches { OnOk result (fetches.new ≡ fetches.old + length store.now.content.rows) }
     ensures at_most { fetches.new ≤ fetches.old + length store.now.content.rows }
 {
     let uses = uses_of(alloc, settings, store.paths())?;
-    let uses = uses.as_slice();
-    let mut all = PackedSlots::new(alloc);
-    all.reserve(store.next_id() as usize)?;
-    for id in 0..store.next_id() {
-        add_slot(alloc, store, uses, DocId(id), &mut all, fetches)?;
-    }
-    Ok(all)
-}
-
-// The slot of an internal id: the rows of its document, or an empty one.
-fn add_slot<F>(
-    alloc: Global,
-    store: &DocStore,
-    uses: &[PathUse],
-    id: DocId,
-    all: &mut PackedSlots,
-    fetches: &mut Steps<F>,
-) -> Result<(), NoMemory>
-    requires few { length store.now.content.paths ≤ 1000 }
-    requires uses { length uses.now ≡ length store.now.content.paths }
-    requires staged { all.old.staged ≡ [] }
-    requires place { length all.old.slots ≡ id.0 }
-    ensures rows { OnOk result (all.new.slots ≡ all.old.slots ++ rows_at id.0 uses.now store.now.content ∷ []) }
-    ensures staged { OnOk result (all.new.staged ≡ []) }
-    ensures fetches { OnOk result (fetches.new
-        ≡ fetches.old + (if is_some (row_at id.0 store.now.content.rows) then 1 else 0)) }
-    ensures at_most { fetches.new
-        ≤ fetches.old + (if is_some (row_at id.0 store.now.content.rows) then 1 else 0) }
-{
-    if !store.holds(id) {
-        return all.push_empty();
-    }
-    let text = store.fetch(id, fetches);
-    let (Some(text), Some(external)) = (text, store.external(id)) else {
-        return all.push_empty();
-    };
-    stage_document(alloc, text, external, store.paths(), uses, all)?;
-    all.settle(id);
-    Ok(())
+    index_of_all(alloc, store, uses.as_slice(), fetches)
 }

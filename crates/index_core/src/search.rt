@@ -14,8 +14,7 @@ use facet_counts::{FacetPath, FacetReply, in_order};
 use filter_tree::Filter;
 use index_settings::{Settings, is_covered};
 use row_filter::attributes;
-use row_search::Candidate;
-use search_base::{Fault, NoMemory, Word};
+use search_base::{DocId, Fault, NoMemory, Word};
 use search_call::{Criterion, SearchCall, Window};
 use std::alloc::Global;
 
@@ -114,11 +113,11 @@ fn first_uncountable<'a>(entries: &[Word], names: &'a [Word]) -> Option<&'a Word
     names.iter().find(|name| name.as_str() != "*" && !is_covered(entries, name.as_str()))
 }
 
-/// What a search found, before its documents are read: those that were ranked, the number of matches, of which no more
-/// are counted than the settings say, and the counts that are asked for.
+/// What a search found, before its documents are read: the internal ids of the hits, the number of matches, of which no
+/// more are counted than the settings say, and the counts that are asked for.
 #[derive(Drop)]
 pub(crate) struct Findings {
-    pub(crate) ranked: Vec<Candidate>,
+    pub(crate) ids: Vec<DocId>,
     pub(crate) total: u64,
     pub(crate) facets: Option<Vec<FacetReply>>,
 }

@@ -1,36 +1,35 @@
-ghost use Rattle.std.specs.Prelude.{◌≡◌, ◌+◌, ◌≤◌, Some, IfOk, OnOk, length, filter};
+ghost use Rattle.std.specs.Prelude.{◌≡◌, Some, IfOk, OnOk};
 ghost use Rattle.std.specs.Option.{option_copied, option_map};
+ghost use Rattle.doc_index.specs.Named.{named, AreRead};
 ghost use Rattle.doc_store.specs.Sound.{IsSound};
-ghost use Rattle.doc_store.specs.Store.{externals, id_of};
+ghost use Rattle.doc_store.specs.Store.{externals};
 ghost use Rattle.index_core.specs.Index.{document_under};
 ghost use Rattle.index_core.specs.Keyed.{AreReadBack};
-ghost use Rattle.index_core.specs.Plans.{is_named, over};
-ghost use Rattle.index_core.specs.Updating.{updated_rows, ArePlaces, last_of, or_else, reads};
+ghost use Rattle.index_core.specs.Plans.{over};
+ghost use Rattle.index_core.specs.Updating.{updated_rows, ArePlaces, IsRead, last_of, or_else};
 
+use doc_index::Stored;
 use doc_store::{DocStore, StoreRow};
 use doc_values::{DocumentText, merged};
-use search_base::{NoMemory, Steps, Word};
+use search_base::{NoMemory, Word};
 use std::alloc::Global;
 use std::collections::BTreeMap;
 
 // The place, among documents that were merged, of the last one of each external id.
 type Places = BTreeMap<Word, usize>;
 
-/// The documents of an update, each over the one of its external id that is stored by then. Each stored document that
-/// is named is read once.
-pub(crate) fn update_rows<F>(
+/// The documents of an update, each over the one of its external id that is stored by then. The stored documents that
+/// it names were read.
+pub(crate) fn update_rows(
     alloc: Global,
     store: &DocStore,
     documents: Vec<StoreRow>,
-    fetches: &mut Steps<F>,
+    stored: &[Stored],
 ) -> Result<Vec<StoreRow>, NoMemory>
-    requires { IsSound store.now.content }
+    requires sound { IsSound store.now.content }
+    requires read { AreRead stored.now (named (externals documents.items) store.now.content.rows) }
     ensures rows { IfOk result (λ rows. rows.items ≡ updated_rows documents.items store.now.content) }
     ensures back { OnOk result (AreReadBack documents.items) }
-    ensures fetches { OnOk result (fetches.new ≡ fetches.old
-        + length (filter (is_named (externals documents.items)) store.now.content.rows)) }
-    ensures at_most { fetches.new ≤ fetches.old
-        + length (filter (is_named (externals documents.items)) store.now.content.rows) }
 {
     let mut places = BTreeMap::new(alloc);
     let mut rows = Vec::with_capacity(alloc, documents.len())?;
@@ -40,7 +39,7 @@ pub(crate) fn update_rows<F>(
         let _text = document.text();
         let before = rows.as_slice();
         let place = before.len();
-        let document = updated(alloc, store, before, &places, &external, document, fetches)?;
+        let document = updated(alloc, store, before, &places, stored, &external, document)?;
         places.insert(external.clone()?, place)?;
         rows.push(StoreRow { external, document })?;
     }
@@ -48,32 +47,47 @@ pub(crate) fn update_rows<F>(
 }
 
 // The document over the last one of its external id: one of those that were merged, or else the stored one.
-fn updated<F>(
+fn updated(
     alloc: Global,
     store: &DocStore,
     rows: &[StoreRow],
     places: &Places,
+    stored: &[Stored],
     external: &Word,
     document: DocumentText,
-    fetches: &mut Steps<F>,
 ) -> Result<DocumentText, NoMemory>
     requires sound { IsSound store.now.content }
     requires places { ArePlaces places.now rows.now }
-    ensures document { IfOk result (λ updated. updated
+    requires read { IsRead external.now stored.now store.now.content }
+    ensures { IfOk result (λ updated. updated
         ≡ over (or_else (last_of external.now rows.now)
         (document_under external.now store.now.content.rows)) document) }
-    ensures fetches { fetches.new
-        ≡ fetches.old + reads (last_of external.now rows.now) (id_of external.now store.now.content.rows) }
 {
     if let Some(row) = last_row(rows, places, external) {
         return Ok(merged_text(alloc, &row.document, &document)?);
     }
-    match store.id_of(external) {
-        Some(id) => match store.fetch(id, fetches) {
-            Some(stored) => Ok(merged_text(alloc, stored, &document)?),
-            None => Ok(document),
-        },
+    match stored_text(store, stored, external) {
+        Some(text) => Ok(merged_text(alloc, text, &document)?),
         None => Ok(document),
+    }
+}
+
+// The stored document with an external id, where there is one. It is among those that were read, which stand in the
+// order of their internal ids.
+fn stored_text<'a>(
+    store: &DocStore,
+    stored: &'a [Stored],
+    external: &Word,
+) -> Option<&'a DocumentText>
+    requires sound { IsSound store.now.content }
+    requires read { IsRead external.now stored.now store.now.content }
+    ensures { option_map (λ text. text.now) result ≡ document_under external.now store.now.content.rows }
+{
+    let id = store.id_of(external)?;
+    let place = stored.partition_point(|found| found.id.0 < id.0);
+    match stored.get(place) {
+        Some(found) => Some(&found.text),
+        None => None,
     }
 }
 

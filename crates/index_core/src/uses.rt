@@ -1,4 +1,5 @@
 ghost use Rattle.std.specs.Prelude.{◌≡◌, ◌≤◌, length, IfOk};
+ghost use Rattle.doc_search.specs.Ranked.{RankedBelow};
 ghost use Rattle.index_core.specs.Fetches.{same_use as is_same_use, use_alike as are_alike};
 ghost use Rattle.index_core.specs.Matching.{use_of as use_in, uses_from};
 
@@ -16,12 +17,21 @@ pub(crate) fn uses_of(
     requires { length paths.now ≤ 1000 }
     ensures uses { IfOk result (λ uses. uses.items ≡ uses_from settings.now 0 paths.now) }
     ensures len { IfOk result (λ uses. length uses.items ≡ length paths.now) }
+    ensures ranks { IfOk result (λ uses. RankedBelow 65535 uses.items) }
 {
+    entries_are_few(settings);
     let mut uses = Vec::with_capacity(alloc, paths.len())?;
     for (number, path) in paths.iter().enumerate() {
         uses.push(use_of(settings, path, number as u16))?;
     }
     Ok(uses)
+}
+
+// No more than 65,535 entries say what is searched. It does nothing.
+fn entries_are_few(settings: &Settings)
+    ensures { length settings.now.searchable_attributes ≤ 65535 }
+{
+    let _entries = settings.searchable_attributes();
 }
 
 /// Whether both settings use each path of a registry alike. Takes no memory.

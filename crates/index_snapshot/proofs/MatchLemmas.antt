@@ -1,5 +1,5 @@
--- The matches among documents are those among their ids, and among their slots.
-use Rattle.std.proofs.Common.{◌≡◌, ℕ, suc, Bool, true, false, cond, List, [], ◌∷◌, map, filter, Option, None, Some, refl, ap, ap₂, ◌∙◌}
+-- The matches among documents are those among their ids.
+use Rattle.std.proofs.Common.{◌≡◌, ℕ, Bool, true, false, cond, List, [], ◌∷◌, map, filter, None, refl, ap, ap₂, ◌∙◌}
 use Rattle.std.specs.Option.{option_map}
 use Rattle.std.specs.List.{cons_option}
 use Rattle.search_base.specs.declared.rule.Rule.{Rule}
@@ -9,10 +9,8 @@ use Rattle.search_base.specs.Tuple.{tuple}
 use Rattle.row_index.specs.Documents.{IndexedDocument}
 use Rattle.list_search.specs.Matches.{match_at}
 use Rattle.list_search.specs.Matches as lists
-use Rattle.row_search.specs.Slots.{kept_from}
-use Rattle.row_search.specs.Matching as slots
 use Rattle.index_snapshot.specs.Rows.{rows_of, rows_at}
-use Rattle.index_snapshot.specs.Matches.{AreInOrder, matches_among, passing, documents_from, documents_in}
+use Rattle.index_snapshot.specs.Matches.{AreInOrder, matches_among, passing}
 use Rattle.index_snapshot.proofs.OrderLemmas.{AreThere, all_there}
 
 module _ (passes : RowsView → Bool) (query : GraphView) (rules : List Rule) where
@@ -33,13 +31,3 @@ module _ (passes : RowsView → Bool) (query : GraphView) (rules : List Rule) wh
       → lists.matches_among (rows_at documents) query rules universe ≡ matches_among passes query rules documents
   matches_over documents universe order is =
       ap (lists.matches_among (rows_at documents) query rules) is ∙ found_among documents documents (all_there documents order)
-
-  from_slots : (id : ℕ) (rows : List (Option RowsView))
-      → matches_among passes query rules (documents_from id rows) ≡ slots.matches_among passes query rules (kept_from id rows)
-  from_slots id [] = refl
-  from_slots id (None ∷ rest) = from_slots (suc id) rest
-  from_slots id (Some rows ∷ rest) =
-      ap (cons_option (option_map (match_at id) (cond (passes rows) (tuple rows query rules) None))) (from_slots (suc id) rest)
-
-  pub matches_by_slots : (rows : List (Option RowsView)) → matches_among passes query rules (documents_in rows) ≡ slots.matches_in passes query rules rows
-  matches_by_slots rows = from_slots 0 rows

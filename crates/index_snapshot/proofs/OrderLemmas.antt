@@ -1,5 +1,5 @@
 -- Documents in the order of their ids.
-use Rattle.std.proofs.Common.{◌≡◌, ℕ, suc, ◌<◌, ◌==◌, Bool, true, false, ◌||◌, cond, List, [], ◌∷◌, map, filter, Option, None, Some, refl, sym, ap, ◌∙◌, arith}
+use Rattle.std.proofs.Common.{◌≡◌, ℕ, ◌<◌, ◌==◌, Bool, true, false, ◌||◌, cond, List, [], ◌∷◌, map, filter, Some, refl, sym, ap, ◌∙◌, arith}
 use Rattle.std.specs.List.{AllByRecursion}
 use Rattle.std.proofs.lemmas.Bool.{eqb-true, eq-eqb}
 use Rattle.search_base.specs.RowsView.{RowsView}
@@ -7,7 +7,7 @@ use Rattle.doc_sets.specs.Sets.{has, AreAbove, IsIncreasing}
 use Rattle.doc_sets.proofs.SetLemmas.{has-above, increasing-same}
 use Rattle.row_index.specs.Documents.{IndexedDocument, document_at, has_id, AreApart}
 use Rattle.index_snapshot.specs.Rows.{rows_of, rows_at}
-use Rattle.index_snapshot.specs.Matches.{AreInOrder, passing, documents_from, documents_in}
+use Rattle.index_snapshot.specs.Matches.{AreInOrder, passing}
 
 abbrev pub ids_in : List IndexedDocument → List ℕ
 ids_in documents = map (λ document. document.id) documents
@@ -57,18 +57,3 @@ passing_by passes documents (x ∷ xs) there =
         ≡ ids_in (cond b (x ∷ filter (λ document. passes document.rows) xs) (filter (λ document. passes document.rows) xs))
     by true later = ap (λ ids. x.id ∷ ids) later
     by false later = later
-
--- ---- documents in slots
-
-above_from : (a id : ℕ) (slots : List (Option RowsView)) → a < id → AreAbove a (ids_in (documents_from id slots))
-above_from a id [] less = tt
-above_from a id (None ∷ slots) less = above_from a (suc id) slots (omega arith)
-above_from a id (Some rows ∷ slots) less = (less, above_from a (suc id) slots (omega arith))
-
-order_from : (id : ℕ) (slots : List (Option RowsView)) → AreInOrder (documents_from id slots)
-order_from id [] = tt
-order_from id (None ∷ slots) = order_from (suc id) slots
-order_from id (Some rows ∷ slots) = (above_from id (suc id) slots (omega arith), order_from (suc id) slots)
-
-pub slots_in_order : (slots : List (Option RowsView)) → AreInOrder (documents_in slots)
-slots_in_order slots = order_from 0 slots

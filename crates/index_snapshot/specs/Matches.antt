@@ -1,5 +1,5 @@
 -- The documents that pass a filter and that a query matches, each with its costs.
-use Rattle.std.specs.Prelude.{ℕ, suc, Bool, List, [], ◌∷◌, map, filter, Option, None, Some, if◌then◌else◌}
+use Rattle.std.specs.Prelude.{ℕ, Bool, List, map, filter, Option, None, if◌then◌else◌}
 use Rattle.std.specs.Option.{option_map}
 use Rattle.std.specs.List.{filter_map}
 use Rattle.search_base.specs.declared.rule.Rule.{Rule}
@@ -9,7 +9,7 @@ use Rattle.search_base.specs.RowsView.{RowsView}
 use Rattle.search_base.specs.Tuple.{tuple}
 use Rattle.doc_sets.specs.Sets.{IsIncreasing}
 use Rattle.bucket_sort.specs.declared.log.Opening.{Opening}
-use Rattle.row_index.specs.Documents.{IndexedDocument, document_with}
+use Rattle.row_index.specs.Documents.{IndexedDocument}
 use Rattle.list_search.specs.Matches.{match_at}
 use Rattle.list_search.specs.Matches as lists
 use Rattle.index_snapshot.specs.Rows.{rows_at}
@@ -34,13 +34,3 @@ passing passes documents = map (λ document. document.id) (filter (λ document. 
 -- the buckets that a search opens on its way to the asked hits
 abbrev pub opened : (RowsView → Bool) → GraphView → List Rule → List IndexedDocument → ℕ → ℕ → List Opening
 opened passes query rules documents = lists.opened (rows_at documents) query rules (passing passes documents)
-
--- the documents in slots, of which the first has this id
-abbrev pub documents_from : ℕ → List (Option RowsView) → List IndexedDocument
-documents_from id [] = []
-documents_from id (None ∷ slots) = documents_from (suc id) slots
-documents_from id (Some rows ∷ slots) = document_with id rows ∷ documents_from (suc id) slots
-
--- the documents in slots, one for each id
-abbrev pub documents_in : List (Option RowsView) → List IndexedDocument
-documents_in slots = documents_from 0 slots

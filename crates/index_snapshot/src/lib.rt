@@ -5,16 +5,14 @@
 //! index, and the rows of an id are those of its document, or none. `search` gives the documents that pass a filter and
 //! that a query matches, and the asked slice of them, by definitions over the list of documents alone. The crate stands
 //! on `search_base`, `doc_sets`, `row_index`, `list_conditions`, `whole_words`, `filter_sets`, `rule_buckets` and
-//! `list_search`, and names `row_search` for the law that both searches find the same.
+//! `list_search`.
 #![tactic(auto)]
 
 mod answers;
 mod hits;
 mod indexed;
-mod laws;
 mod source;
 
 pub use hits::search;
 pub use indexed::IndexedRows;
-pub use laws::slots_are_searched_alike;
 pub use source::Snapshot;

@@ -37,15 +37,39 @@ impl Hits {
         self.count = self.count.checked_add(1).ok_or(NoMemory)?;
         Ok(())
     }
+
+    // Those of a page more, behind the others. The page is gone over again only for the first of all.
+    fn see_page(&mut self, page: &[u64], matching: &Matching<'_>) -> Result<(), NoMemory>
+        ensures { OnOk result ((ids : List ℕ) → AreHits self.old ids
+            → AreHits self.new (ids ++ filter (has matching.now.ids) (ids_of page.now))) }
+    {
+        let count = matching.count_in(page);
+        if count == 0 {
+            return Ok(());
+        }
+        if self.first.is_none() {
+            self.first = matching.first_in(page);
+        }
+        self.count = self.count.checked_add(count).ok_or(NoMemory)?;
+        Ok(())
+    }
 }
 
-/// The documents of the set that have an entry in the list. The shorter of the two is walked.
+// Finding a document of the set in a list takes about as long as asking for the documents of so many entries.
+const LOOK_UP: u64 = 32;
+
+// Whether a list of so many entries is walked, and not the set of so many documents.
+fn is_walked(entries: usize, documents: u64) -> bool {
+    entries as u64 / LOOK_UP <= documents
+}
+
+/// The documents of the set that have an entry in the list. The list is walked, or the set where this is much shorter.
 pub(crate) fn hits_of(list: &SortedPages, matching: &Matching<'_>) -> Result<Hits, NoMemory>
     ensures { IfOk result (λ hits. IsWhole list.now.entries
         → AreHits hits (filter (λ d. has_document d list.now.entries) matching.now.ids)) }
 {
     sets_are_their_members();
-    if list.len() as u64 <= matching.len() {
+    if is_walked(list.len(), matching.len()) {
         hits_in_list(list, matching)
     } else {
         hits_in_set(list, matching)
@@ -57,11 +81,8 @@ fn hits_in_list(list: &SortedPages, matching: &Matching<'_>) -> Result<Hits, NoM
     ensures { IfOk result (λ hits. AreHits hits (filter (has matching.now.ids) (ids_of list.now.entries))) }
 {
     let mut hits = Hits::none();
-    for entry in list.iter() {
-        let id = DocId((entry >> 32) as u32);
-        if matching.contains(id) {
-            hits.see(id)?;
-        }
+    for page in list.pages() {
+        hits.see_page(page, matching)?;
     }
     Ok(hits)
 }

@@ -10,7 +10,7 @@ use Rattle.index_settings.specs.Table.{defaults, patch_fault}
 use Rattle.index_settings.specs.Patch.{patched}
 use Rattle.index_settings.specs.declared.fault.SettingsRefusal.{SettingsRefusal}
 use Rattle.index_core.specs.Index.{Index, empty_index}
-use Rattle.index_core.specs.PlanView.{PlanView, Work, replace, update, remove, clear}
+use Rattle.index_core.specs.PlanView.{PlanView}
 use Rattle.index_core.specs.PlanView as work
 use Rattle.index_core.specs.Plans.{planned}
 use Rattle.index_core.specs.declared.refusal.CoreRefusal.{CoreRefusal}
@@ -22,7 +22,7 @@ use Rattle.search_base.specs.Trying.{or_refuse, refused_as}
 use Rattle.request_refusals.specs.declared.refusal.Refusal.TheVariants.{NoIndex}
 use Rattle.search_routes.specs.State.{Indexes}
 use Rattle.search_routes.specs.Machine.{core_refusal, index_at, index_named}
-use Rattle.search_routes.specs.Needs.{there_need, work_need, plan_need, need_in, documents_need, stored_in, needs_documents}
+use Rattle.search_routes.specs.Needs.{there_need, plan_need, need_in, documents_need, stored_in, needs_documents}
 
 itself : (rank : Option ℕ) (faceted : Bool) → (same_rank rank rank && beq faceted faceted) ≡ true
 itself None true = refl
@@ -96,33 +96,24 @@ reset_needs (Some i) = read_most defaults i
 
 -- ---- a plan reads no more than its change needs
 
-same_most : (n : ℕ) → n ≤ n
-same_most n = omega arith
-
-within : (w : Work) (i : Index) → needed w i ≤ work_need w i
-within (replace rows) i = omega arith
-within (update rows) i = same_most _
-within (remove ids) i = omega arith
-within clear i = omega arith
-within (work.patch members) i = same_most _
-within work.reset i = same_most _
-
 pub planned_needs : (key : List ℕ) (i : Index) (change : KindData) (plan : PlanView) → refused_as (core_refusal key) (planned i change) ≡ Ok plan → needed plan.work i ≤ documents_need i change
 planned_needs key i change plan is = by (planned i change) is
   where
     by : (r : Result PlanView CoreRefusal) → refused_as (core_refusal key) r ≡ Ok plan → needed plan.work i ≤ plan_need r i
-    by (Ok p) is = let same : p ≡ plan = cc in subst (λ v. needed v.work i ≤ work_need p.work i) same (within p.work i)
+    by (Ok p) is = let same : p ≡ plan = cc in subst (λ v. needed v.work i ≤ needed p.work i) same (omega arith)
     by (Err fault) is = absurd (cc)
 
 -- ---- a read of an index that is there
 
-equal_most : (m n : ℕ) → m ≡ n → m ≤ n
-equal_most m n e = omega (arith, e)
-
-pub named_need : (uid : List ℕ) (es : Indexes) (i : Index) (need : Index → ℕ) (before after : ℕ) → index_named uid es ≡ Ok i
-    → after ≡ before + need i → after ≤ before + there_need (index_at uid es) need
-named_need uid es i need before after is count = by (index_at uid es) is
+-- no more than the index needs are read
+pub named_most : (uid : List ℕ) (es : Indexes) (i : Index) (need : Index → ℕ) (before after : ℕ) → index_named uid es ≡ Ok i
+    → after ≤ before + need i → after ≤ before + there_need (index_at uid es) need
+named_most uid es i need before after is most = by (index_at uid es) is
   where
     by : (o : Option Index) → or_refuse (NoIndex uid) o ≡ Ok i → after ≤ before + there_need o need
     by None is = absurd (cc)
-    by (Some j) is = let same : i ≡ j = cc in subst (λ v. after ≤ before + need v) same (equal_most after (before + need i) count)
+    by (Some j) is = let same : i ≡ j = cc in subst (λ v. after ≤ before + need v) same most
+
+pub named_need : (uid : List ℕ) (es : Indexes) (i : Index) (need : Index → ℕ) (before after : ℕ) → index_named uid es ≡ Ok i
+    → after ≡ before + need i → after ≤ before + there_need (index_at uid es) need
+named_need uid es i need before after is count = named_most uid es i need before after is (omega (arith, count))

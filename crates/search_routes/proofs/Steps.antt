@@ -25,7 +25,7 @@ use Rattle.index_core.specs.PlanView.{PlanView}
 use Rattle.index_core.specs.Plans.{planned, applied}
 use Rattle.index_core.specs.declared.call.Hit.{Hit as HeldFound}
 use Rattle.index_core.specs.Shown.{hit_shown}
-use Rattle.search_routes.specs.Done.{hit_with}
+use Rattle.search_routes.specs.Done.{reply_hit}
 use Rattle.index_core.specs.Found.{Found, found}
 use Rattle.index_core.specs.declared.refusal.SearchRefusal.{SearchRefusal}
 use Rattle.search_call.specs.SearchView.{SearchView}
@@ -115,11 +115,10 @@ created_new before es uid key full none full_is room =
 
 -- ---- a search
 
--- hits with their costs or without, as contracts see them
-pub hits_seen : (costs : Bool) (found : List HeldFound) → map view_of (map (hit_with costs) found) ≡ map (hit_view costs) (map hit_shown found)
-hits_seen costs [] = refl
-hits_seen true (hit ∷ found) = ap (λ hits. hit_view true (hit_shown hit) ∷ hits) (hits_seen true found)
-hits_seen false (hit ∷ found) = ap (λ hits. hit_view false (hit_shown hit) ∷ hits) (hits_seen false found)
+-- hits as contracts see them
+pub hits_seen : (found : List HeldFound) → map view_of (map reply_hit found) ≡ map hit_view (map hit_shown found)
+hits_seen [] = refl
+hits_seen (hit ∷ found) = ap (λ hits. hit_view (hit_shown hit) ∷ hits) (hits_seen found)
 
 -- what a search of an index that is there is answered
 answer_found : (es : Indexes) (uid : List ℕ) (call : SearchView) (i : Index) (r : Result Found SearchRefusal) → index_named uid es ≡ Ok i → found i call ≡ r

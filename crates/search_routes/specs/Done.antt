@@ -1,5 +1,5 @@
 -- What the code does, beside the steps of the machine.
-use Rattle.std.specs.Prelude.{◌≡◌, ℕ, Bool, Some, None, Result, Ok, Err, if◌then◌else◌}
+use Rattle.std.specs.Prelude.{◌≡◌, ℕ, Bool, Result, Ok, Err}
 use Rattle.doc_values.specs.Changes.{change_view}
 use Rattle.http_wire.specs.Reply.{Answer}
 use Rattle.http_wire.specs.Stream.{Request}
@@ -65,6 +65,6 @@ Answers (Ok given) reply = reply ≡ given
 Answers (Err fault.NoMemory) reply = reply ≡ Memory
 Answers (Err (fault.Refused r)) reply = (starved : Bool) × IsSentAs reply (or_memory (refused r) starved)
 
--- a hit that an index found as a hit of the reply, with its costs or without
-abbrev pub hit_with : Bool → FoundHit → Hit
-hit_with costs hit = record { document = hit.document; costs = if costs then Some hit.costs else None }
+-- a hit that an index found as a hit of the reply
+abbrev pub reply_hit : FoundHit → Hit
+reply_hit hit = record { document = hit.document; costs = hit.costs }

@@ -1,5 +1,5 @@
 -- The plain machine: what it answers to a request, and what it holds after that.
-use Rattle.std.specs.Prelude.{ℕ, ◌+◌, List, [], ◌∷◌, length, map, take, drop, Bool, false, nat_le, codes, Option, Some, None, is_none, is_some, unwrap_or, ◌&&◌, Result, Ok, Err, if◌then◌else◌}
+use Rattle.std.specs.Prelude.{ℕ, ◌+◌, List, [], ◌∷◌, length, map, take, drop, Bool, false, nat_le, codes, Option, Some, None, is_none, is_some, unwrap_or, ◌&&◌, Result, Ok, Err}
 use Rattle.std.specs.Ordering.{nat_cmp}
 use Rattle.std.specs.Cmp.Lexicographic.{slice_cmp}
 use Rattle.std.specs.Map.{lookup, remove_entry}
@@ -194,12 +194,12 @@ abbrev pub index_rows : Indexes → List Data
 index_rows es = map (λ e. replies.index_data e.0 e.1.key) es
 
 -- a hit, with its costs where the search asks for them
-abbrev pub hit_view : Bool → FoundHit → HitView
-hit_view costs hit = record { document = hit.document; costs = if costs then Some hit.costs else None }
+abbrev pub hit_view : FoundHit → HitView
+hit_view hit = record { document = hit.document; costs = hit.costs }
 
 -- a hit shows the members that both the settings and the search name
 abbrev pub hits_answer : SearchView → SettingsView → Found → Answer
-hits_answer call s f = replies.hits s.displayed_attributes call f.total (map (hit_view call.costs) f.hits) f.facets
+hits_answer call s f = replies.hits s.displayed_attributes call f.total (map hit_view f.hits) f.facets
 
 -- why a search is refused by its index
 abbrev pub search_refusal : SearchRefusal → Refusal

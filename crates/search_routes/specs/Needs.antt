@@ -1,18 +1,15 @@
 -- How many stored documents a call needs to read.
-use Rattle.std.specs.Prelude.{ℕ, List, length, filter, Bool, ◌||◌, codes, Option, Some, None, is_some, unwrap_or, Result, Ok, Err, if◌then◌else◌}
+use Rattle.std.specs.Prelude.{ℕ, List, length, Bool, ◌||◌, codes, Option, Some, None, is_some, unwrap_or, Result, Ok, Err, if◌then◌else◌}
 use Rattle.serde_json.specs.Data.{Data}
 use Rattle.serde_json.specs.Find.{get}
 use Rattle.doc_values.specs.Changes.{KindData, create, drop_index, replace, update, remove, clear, patch, reset}
-use Rattle.doc_store.specs.Store.{Store, externals}
 use Rattle.http_wire.specs.Stream.{Request}
 use Rattle.index_core.specs.Index.{Index, empty_index, documents as documents_in, document_under}
-use Rattle.index_core.specs.PlanView.{Work, PlanView}
-use Rattle.index_core.specs.PlanView as work
-use Rattle.index_core.specs.Plans.{planned, is_named}
-use Rattle.index_core.specs.Fetches.{needed}
-use Rattle.index_core.specs.Found.{Found, found}
+use Rattle.index_core.specs.PlanView.{PlanView}
+use Rattle.index_core.specs.Plans.{planned}
+use Rattle.index_core.specs.Fetches.{needed, hits_needed}
+use Rattle.index_core.specs.Found.{found}
 use Rattle.index_core.specs.declared.refusal.CoreRefusal.{CoreRefusal}
-use Rattle.index_core.specs.declared.refusal.SearchRefusal.{SearchRefusal}
 use Rattle.request_refusals.specs.declared.refusal.Refusal.{Refusal}
 use Rattle.request_calls.specs.Asked.{ReadData, health, indexes, index, documents, document, settings, search, CallData, write, read}
 use Rattle.request_calls.specs.Calls.{call_of}
@@ -21,23 +18,10 @@ use Rattle.search_routes.specs.Machine.{index_at, slice}
 
 -- ---- changes
 
--- how many documents that are there these external ids name
-abbrev pub named_there : List (List ℕ) → Store → ℕ
-named_there ids s = length (filter (is_named ids) s.rows)
-
 -- The documents that are added, updated or removed and were there before; and all, where other settings search other
--- paths.
-abbrev pub work_need : Work → Index → ℕ
-work_need (work.replace rows) i = named_there (externals rows) i.store
-work_need (work.update rows) i = named_there (externals rows) i.store
-work_need (work.remove ids) i = named_there ids i.store
-work_need work.clear i = 0
-work_need (work.patch members) i = needed (work.patch members) i
-work_need work.reset i = needed work.reset i
-
--- a change that is refused by its key or its ids needs none
+-- paths. A change that is refused by its key or its ids needs none.
 abbrev pub plan_need : Result PlanView CoreRefusal → Index → ℕ
-plan_need (Ok plan) i = work_need plan.work i
+plan_need (Ok plan) i = needed plan.work i
 plan_need (Err why) i = 0
 
 abbrev pub documents_need : Index → KindData → ℕ
@@ -80,11 +64,6 @@ abbrev pub one_if_some : Option Data → ℕ
 one_if_some None = 0
 one_if_some (Some d) = 1
 
--- a search that its index refuses needs none
-abbrev pub found_need : Result Found SearchRefusal → ℕ
-found_need (Ok f) = length f.hits
-found_need (Err why) = 0
-
 -- the documents in the reply
 abbrev pub read_need : Indexes → ReadData → ℕ
 read_need es health = 0
@@ -94,7 +73,7 @@ read_need es (documents uid offset limit fields) =
     there_need (index_at uid es) (λ i. length (slice offset limit (documents_in i)))
 read_need es (document uid id fields) = there_need (index_at uid es) (λ i. one_if_some (document_under id i.store.rows))
 read_need es (settings uid) = 0
-read_need es (search uid call) = there_need (index_at uid es) (λ i. found_need (found i call))
+read_need es (search uid call) = there_need (index_at uid es) (λ i. hits_needed (found i call))
 
 -- ---- calls and requests
 

@@ -4,7 +4,7 @@ ghost use Rattle.std.specs.Option.{option_copied, option_map};
 ghost use Rattle.index_core.specs.Shown.{result_shown};
 ghost use Rattle.request_calls.specs.Asked.{read_view};
 ghost use Rattle.request_calls.specs.Asked as asked;
-ghost use Rattle.search_routes.specs.Done.{Sends, hit_with};
+ghost use Rattle.search_routes.specs.Done.{Sends, reply_hit};
 ghost use Rattle.search_routes.specs.Machine.{answer_to, hits_answer, search_refusal as refusal_of_search};
 ghost use Rattle.search_routes.specs.Needs.{read_need};
 
@@ -154,7 +154,7 @@ fn found_reply(
         total,
         facets,
     } = found;
-    let hits = hits_with(alloc, hits, call.costs)?;
+    let hits = reply_hits(alloc, hits)?;
     let displayed = settings.displayed_attributes();
     let facets = rows_of(&facets);
     Ok(hits_reply(alloc, call, displayed, total, &hits, facets)?)
@@ -182,21 +182,13 @@ fn search_refusal(refusal: SearchRefusal) -> Refusal
     }
 }
 
-// The hits as the reply has them, with their costs or without.
-fn hits_with<'a>(
-    alloc: Global,
-    found: Vec<FoundHit<'a>>,
-    costs: bool,
-) -> Result<Vec<Hit<'a>>, NoMemory>
-    ensures { IfOk result (λ hits. hits.items ≡ map (hit_with costs) found.entry.items) }
+// The hits as the reply has them.
+fn reply_hits<'a>(alloc: Global, found: Vec<FoundHit<'a>>) -> Result<Vec<Hit<'a>>, NoMemory>
+    ensures { IfOk result (λ hits. hits.items ≡ map reply_hit found.entry.items) }
 {
-    let mut hits = Vec::new(alloc);
+    let mut hits = Vec::with_capacity(alloc, found.len())?;
     for hit in found {
-        let FoundHit {
-            document,
-            costs: own,
-        } = hit;
-        let costs = if costs { Some(own) } else { None };
+        let FoundHit { document, costs } = hit;
         hits.push(Hit { document, costs })?;
     }
     Ok(hits)

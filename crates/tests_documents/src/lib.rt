@@ -11,8 +11,6 @@ mod hex;
 #[cfg(test)]
 mod images;
 #[cfg(test)]
-mod packed;
-#[cfg(test)]
 mod payloads;
 #[cfg(test)]
 mod rows;

@@ -1,9 +1,9 @@
 use crate::checks::{check, set, word};
 use doc_sets::DocSet;
-use facet_counts::{FacetPath, FacetReply};
+use facet_counts::{FacetCounts, FacetPath, FacetReply, in_order};
 use facet_shelf::Shelf;
 use list_facets::counts;
-use search_base::{FacetValue, Leaf, PathId};
+use search_base::{DocRows, FacetValue, Leaf, PathId};
 use std::alloc::Global;
 use std::process::Abort;
 
@@ -45,7 +45,7 @@ const LEAVES: [(u32, u16, i128, &str, &str); 19] = [
 
 // The matches, the path, how many values are given at most, and what is told: of each value its normal form, its
 // spelling and its count, and then the least and the greatest number.
-const COUNTS: [(&[u32], Option<u16>, u64, &str); 17] = [
+const COUNTS: [(&[u32], Option<u16>, u64, &str); 23] = [
     (
         &[0, 1],
         Some(GENRE),
@@ -58,6 +58,7 @@ const COUNTS: [(&[u32], Option<u16>, u64, &str); 17] = [
     (&[2], Some(GENRE), 100, "drama DraMa 1, "),
     (&[2, 3], Some(GENRE), 1, "0 none 1, 0 to 0, "),
     (&[0, 1], Some(GENRE), 2, "action Action 1, drama Drama 2, "),
+    (&[0, 1], Some(GENRE), 1, "action Action 1, "),
     (&[0, 1], Some(GENRE), 0, ""),
     (&[], Some(GENRE), 100, ""),
     (&[7], Some(GENRE), 100, ""),
@@ -73,6 +74,31 @@ const COUNTS: [(&[u32], Option<u16>, u64, &str); 17] = [
         1,
         "-9223372036854775808 -9223372036854775808 1, -9223372036854775808 to 5, ",
     ),
+    (
+        &[0],
+        Some(YEAR),
+        100,
+        "-9223372036854775808 -9223372036854775808 1, 5 5 1, -9223372036854775808 to 5, ",
+    ),
+    (
+        &[0, 1],
+        Some(YEAR),
+        2,
+        "-9223372036854775808 -9223372036854775808 1, 18446744073709551615 18446744073709551615 1, -9223372036854775808 to 18446744073709551615, ",
+    ),
+    (
+        &[0, 1],
+        Some(YEAR),
+        1,
+        "-9223372036854775808 -9223372036854775808 1, -9223372036854775808 to 18446744073709551615, ",
+    ),
+    (
+        &[0, 1],
+        Some(YEAR),
+        0,
+        "-9223372036854775808 to 18446744073709551615, ",
+    ),
+    (&[], Some(YEAR), 100, ""),
     (&[1], Some(MIXED), 100, "-2 -2 1, 7 7 1, -2 to 7, "),
     (&[2], Some(MIXED), 100, "3 3 1, zoo Zoo 1, 3 to 3, "),
     (
@@ -185,4 +211,45 @@ fn a_document_of_many_counted_values(rt: HostRuntime) {
         shown == Some(("9999", "the last", 2)),
         "the first spelling of all",
     );
+}
+
+// The first two documents, counted one after the other.
+#[test]
+fn documents_are_counted_one_after_the_other(rt: HostRuntime) {
+    let alloc = rt.alloc();
+    let genre = FacetPath {
+        attribute: word(&rt, alloc, "genre"),
+        path: Some(PathId(GENRE)),
+    };
+    let asked = Vec::from_array(alloc, [genre]).expect(&rt, "memory");
+    let mut counts = FacetCounts::new(alloc, asked).expect(&rt, "memory");
+    check(&rt, !counts.is_empty(), "one path");
+    for document in 0..2 {
+        let rows = DocRows {
+            places: Vec::new(alloc),
+            leaves: leaves_of(&rt, alloc, document),
+            marks: Vec::new(alloc),
+        };
+        counts.add(alloc, &rows).expect(&rt, "memory");
+    }
+    let want = "action Action 1, drama Drama 2, élan Élan 1, ";
+    for reply in &counts.finish(alloc, 100).expect(&rt, "memory") {
+        check(&rt, told(&rt, alloc, reply).as_str() == want, want);
+    }
+    let none = FacetCounts::new(alloc, Vec::new(alloc)).expect(&rt, "memory");
+    check(&rt, none.is_empty(), "no attribute");
+}
+
+#[test]
+fn texts_in_the_order_of_their_bytes(rt: HostRuntime) {
+    let alloc = rt.alloc();
+    let mut names = Vec::new(alloc);
+    for name in ["b", "é", "a", "b", "z", "B"] {
+        names.push(word(&rt, alloc, name)).expect(&rt, "memory");
+    }
+    let mut ordered = String::new(alloc);
+    for name in &in_order(alloc, names.as_slice()).expect(&rt, "memory") {
+        ordered.push_str(name.as_str()).expect(&rt, "memory");
+    }
+    check(&rt, ordered.as_str() == "Babzé", "order");
 }

@@ -1,5 +1,6 @@
-use crate::checks::{set, word};
+use crate::checks::{check, set, word};
 use crate::sorts::{index, is};
+use doc_sets::DocSet;
 use filter_sets::select;
 use filter_tree::{Filter, Test};
 use std::alloc::Global;
@@ -21,6 +22,14 @@ fn equal(rt: &impl Abort, alloc: Global, text: &str) -> Test {
     Test::Equal(word(rt, alloc, text))
 }
 
+// Of the documents of a set the others are those that were not found.
+fn check_others(rt: &impl Abort, all: &DocSet, found: &DocSet, others: &DocSet) {
+    let left = all.len().checked_sub(found.len());
+    check(rt, left == Some(others.len()), "all others");
+    check(rt, left == Some(others.and_len(all)), "others of all");
+    check(rt, others.and_len(found) == 0, "in both");
+}
+
 #[test]
 fn filters_select_documents(rt: HostRuntime) {
     let alloc = rt.alloc();
@@ -30,7 +39,7 @@ fn filters_select_documents(rt: HostRuntime) {
     let some = set(&rt, alloc, &[1, 2]);
     let texts = Vec::from_array(alloc, [word(&rt, alloc, "2005"), word(&rt, alloc, "2012")]);
     let texts = texts.expect(&rt, "memory");
-    // A filter, the documents of all that pass it, and those of 1 and 2.
+    // A filter, the documents of all that pass it, and those of 1 and 2. The others of 1 and 2 pass its negation.
     for (filter, ids, inside) in [
         (Filter::All, [0, 1, 2, 3].as_slice(), [1, 2].as_slice()),
         (
@@ -103,6 +112,9 @@ fn filters_select_documents(rt: HostRuntime) {
         assert!(rt; is(&docs, ids));
         let docs = select(alloc, &index, &filter, paths.as_slice(), &some).expect(&rt, "memory");
         assert!(rt; is(&docs, inside));
+        let filter = not(&rt, alloc, filter);
+        let others = select(alloc, &index, &filter, paths.as_slice(), &some).expect(&rt, "memory");
+        check_others(&rt, &some, &docs, &others);
     }
 }
 

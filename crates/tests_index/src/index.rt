@@ -5,7 +5,7 @@ ghost use Rattle.index_core.specs.Keyed.{HasKey};
 use crate::checks::{add, check, check_text, word};
 use doc_values::{ChangeKind, DocumentText, documents_of};
 use filter_tree::Filter;
-use index_core::{CoreFault, CoreRefusal, Hit, IndexCore, SearchRefusal};
+use index_core::{CoreFault, CoreRefusal, IndexCore, SearchRefusal};
 use index_settings::SettingsRefusal;
 use search_base::{CostKey, Fault, SortKey, Steps, Strategy, Word};
 use search_call::{Criterion, SearchCall, Window};
@@ -133,8 +133,8 @@ fn told(rt: &impl Abort, alloc: Global, index: &IndexCore, call: &SearchCall) ->
     let mut told = String::new(alloc);
     for hit in &result.hits {
         tell_id(rt, alloc, &hit.document, &mut told);
-        if call.costs {
-            tell_costs(rt, hit, &mut told);
+        if let Some(costs) = &hit.costs {
+            tell_costs(rt, costs.as_slice(), &mut told);
         }
         add(rt, &mut told, " ");
     }
@@ -149,8 +149,8 @@ fn tell_id(rt: &impl Abort, alloc: Global, kept: &DocumentText, told: &mut Strin
     add(rt, told, &name);
 }
 
-fn tell_costs(rt: &impl Abort, hit: &Hit, told: &mut String) {
-    for cost in &hit.costs {
+fn tell_costs(rt: &impl Abort, costs: &[CostKey], told: &mut String) {
+    for cost in costs {
         match cost {
             CostKey::Number(number) => write!(told, ",{number}").expect(rt, "memory"),
             CostKey::Up(key) | CostKey::Down(key) => tell_key(rt, key, told),

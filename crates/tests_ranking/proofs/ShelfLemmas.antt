@@ -4,13 +4,15 @@ use Rattle.std.specs.List.{list_all, AllByRecursion}
 use Rattle.std.proofs.lemmas.Bool.{eqb-true, ltb-true}
 use Rattle.search_base.specs.declared.document.Place.{Place}
 use Rattle.search_base.specs.RowsView.{RowsView}
+use Rattle.doc_sets.specs.Sets.{AreAbove}
 use Rattle.condition_graph.specs.Meets.{IsRanked}
 use Rattle.posting_sets.specs.Numbers.{rank_at}
 use Rattle.posting_sets.specs.Blocks.{HaveRanks}
 use Rattle.row_index.specs.Documents.{IndexedDocument, document_with, has_id, IsBatch, without, after}
 use Rattle.row_index.specs.Standing.{placed}
 use Rattle.index_snapshot.specs.Rows.{AreRanked}
-use Rattle.index_snapshot.proofs.OrderLemmas.{slots_in_order, apart_in_order}
+use Rattle.index_snapshot.specs.Matches.{AreInOrder}
+use Rattle.index_snapshot.proofs.OrderLemmas.{apart_in_order}
 use Rattle.tests_ranking.specs.Ranked.{is_rank, is_ranked, has_ranks, have_ranks}
 use Rattle.tests_ranking.specs.Shelves.{shelved_from, shelved}
 
@@ -52,12 +54,23 @@ one_more rows at next row within is here =
     ∙ ap (λ r. document_with at r ∷ shelved_from (suc at) (drop (suc at) rows)) here
     ∙ sym (ap (shelved_from at) (drop-cons rows at row within))
 
+above_from : (a id : ℕ) (rows : List RowsView) → a < id → AreAbove a (map (λ (d : IndexedDocument). d.id) (shelved_from id rows))
+above_from a id [] less = tt
+above_from a id (r ∷ rs) less = (less, above_from a (suc id) rs (omega arith))
+
+order_from : (id : ℕ) (rows : List RowsView) → AreInOrder (shelved_from id rows)
+order_from id [] = tt
+order_from id (r ∷ rs) = (above_from id (suc id) rs (omega arith), order_from (suc id) rs)
+
+pub in_order : (rows : List RowsView) → AreInOrder (shelved rows)
+in_order rows = order_from 0 rows
+
 none_left : (documents : List IndexedDocument) → AllByRecursion (λ document. has_id document.id (without [] []) ≡ false) documents
 none_left [] = tt
 none_left (x ∷ xs) = (refl, none_left xs)
 
 pub first_batch : (rows : List RowsView) → IsBatch [] (shelved rows) []
-first_batch rows = record { whole = tt; once = apart_in_order (shelved rows) (slots_in_order (map Some rows)); free = none_left (shelved rows) }
+first_batch rows = record { whole = tt; once = apart_in_order (shelved rows) (in_order rows); free = none_left (shelved rows) }
 
 pub after_first : (rows : List RowsView) → after [] (shelved rows) [] ≡ shelved rows
 after_first rows = append-nil (shelved rows)

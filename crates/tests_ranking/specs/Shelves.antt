@@ -1,15 +1,15 @@
 -- Documents in an index, each at the place of its number.
-use Rattle.std.specs.Prelude.{ℕ, List, map, Option, Some}
+use Rattle.std.specs.Prelude.{ℕ, suc, List, [], ◌∷◌, map, Option}
 use Rattle.search_base.specs.RowsView.{RowsView}
 use Rattle.posting_sets.specs.Blocks.{HaveRanks}
-use Rattle.row_index.specs.Documents.{IndexedDocument}
+use Rattle.row_index.specs.Documents.{IndexedDocument, document_with}
 use Rattle.row_index.specs.Standing.{RowIndexView, StandsFor, placed}
 use Rattle.index_snapshot.specs.Rows.{AreRanked}
-use Rattle.index_snapshot.specs.Matches.{documents_from}
 
 -- the documents of which the first has this number
 abbrev pub shelved_from : ℕ → List RowsView → List IndexedDocument
-shelved_from id rows = documents_from id (map Some rows)
+shelved_from id [] = []
+shelved_from id (rows ∷ rest) = document_with id rows ∷ shelved_from (suc id) rest
 
 abbrev pub shelved : List RowsView → List IndexedDocument
 shelved rows = shelved_from 0 rows

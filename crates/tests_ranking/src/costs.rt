@@ -363,18 +363,18 @@ fn check_costs(
     check_text(rt, &found, costs, document);
 }
 
-// Lines of a document and its costs by all rules.
-fn check_documents(rt: &impl Abort, alloc: Global, query: &str, documents: &str) {
+// Lines of a document and its costs by some rules.
+fn check_documents(rt: &impl Abort, alloc: Global, query: &str, documents: &str, rules: &[Rule]) {
     for line in documents.split('\n') {
         let (document, costs) = line.split_once(" ~").unwrap_or((line, ""));
-        check_costs(rt, alloc, query, document, &RULES, costs);
+        check_costs(rt, alloc, query, document, rules, costs);
     }
 }
 
 #[test]
 fn costs_by_all_rules(rt: HostRuntime) {
     for (query, documents) in &CASES {
-        check_documents(&rt, rt.alloc(), query, documents);
+        check_documents(&rt, rt.alloc(), query, documents, &RULES);
     }
 }
 
@@ -394,6 +394,36 @@ const SECOND: Option<PathId> = Some(PathId(1));
 
 const BY_SECOND: [Rule; 2] = [Rule::Up(SECOND), Rule::Down(SECOND)];
 
+/// Two words, of which the first may stay alone.
+pub(crate) const KNIGHT: &str =
+    "knight dark: 2: 0 1 plain knight, 1 2 plain dark: 1: 0 1 plain knight";
+
+// Queries, rules, and documents with a title and a year, each with its costs.
+const YEARS: [(&str, &[Rule], &str); 3] = [
+    (
+        KNIGHT,
+        &[Rule::Words, Rule::Down(SECOND)],
+        "the dark knight/2008 ~ 0 -2008\n\
+         dark knight rises/2012 ~ 0 -2012\n\
+         knight/1999 ~ 1 -1999\n\
+         darkness/2002 ~ none",
+    ),
+    (
+        "",
+        &[Rule::Up(SECOND)],
+        "the dark knight/2008 ~ 2008\n\
+         knight/1999 ~ 1999\n\
+         darkness/2002 ~ 2002",
+    ),
+    (
+        "",
+        &[Rule::Words, Rule::Inexact],
+        "the dark knight/2008 ~ 0 0\n\
+         dark knight rises/2012 ~ 0 0\n\
+         knight/1999 ~ 0 0",
+    ),
+];
+
 const BY_NONE: [Rule; 2] = [Rule::Up(None), Rule::Down(None)];
 
 #[test]
@@ -402,6 +432,9 @@ fn sort_keys(rt: HostRuntime) {
         check_costs(&rt, rt.alloc(), "", document, &BY_SECOND, keys);
     }
     check_costs(&rt, rt.alloc(), "", "1/2", &BY_NONE, " missing missing");
+    for (query, rules, documents) in &YEARS {
+        check_documents(&rt, rt.alloc(), query, documents, rules);
+    }
 }
 
 // Rules, and the costs of one document under one query: as the rules are told, one entry each.

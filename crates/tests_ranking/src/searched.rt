@@ -1,11 +1,11 @@
 ghost use Rattle.std.specs.Prelude.{◌<◌};
 
 use crate::checks::{check, word};
-use crate::costs::{CASES, RULES, graph, rows};
+use crate::costs::{CASES, KNIGHT, RULES, graph, rows};
 use crate::shelves::{Shelf, make_shelf};
 use bucket_sort::{BucketLog, RecordLog};
 use filter_tree::{Filter, Test};
-use index_snapshot::{Snapshot, search, slots_are_searched_alike};
+use index_snapshot::{Snapshot, search};
 use list_search::Found;
 use search_base::{PathId, Rule, Steps};
 use std::alloc::Global;
@@ -34,7 +34,6 @@ fn found(
     offset: u64,
     limit: u64,
 ) -> Found {
-    slots_are_searched_alike();
     let graph = graph(rt, alloc, query);
     let paths = [
         word(rt, alloc, "0"),
@@ -131,8 +130,6 @@ fn hits_stand_by_the_worked_costs(rt: HostRuntime) {
 
 // Documents with a title and a year.
 const SHELF: &str = "the dark knight/2008\ndark knight rises/2012\nknight/1999\ndarkness/2002";
-
-const KNIGHT: &str = "knight dark: 2: 0 1 plain knight, 1 2 plain dark: 1: 0 1 plain knight";
 
 const YEAR: Option<PathId> = Some(PathId(1));
 

@@ -7,7 +7,7 @@ use doc_rows::PathUse;
 use doc_search::{DocumentsFound, search_documents};
 use doc_store::DocStore;
 use facet_counts::FacetPath;
-use filter_tree::Filter;
+use filter_tree::{Filter, Test};
 use query_graph::{build_graph, items};
 use search_base::{PathId, Rule, Steps, Strategy};
 use std::alloc::Global;
@@ -19,14 +19,25 @@ const DOCUMENTS: &str = r#"1|{"kind":["A",7],"text":"dark knight","title":"One"}
 2|{"kind":7,"title":"Knight"}
 3|{"note":"dark"}"#;
 
-// What a search asks for, from which hit on and for how many; its hits, the best first; how many documents match; and of
-// each value of a kind its text, how it is spelled and how many of these documents have it.
-const SEARCHES: &str = "dark|0 9|0 1|2|7 7 1;a a 2;
-dark|1 9|1|2|7 7 1;a a 2;
-knight|0 9|2 1|2|7 7 2;a A 1;
-knight|0 1|2|2|7 7 2;a A 1;
-|0 9|0 1 2 3|4|7 7 2;a a 2;
-gotham|0 9||0|";
+// What a search asks for, and the least number that a kind is to have, or none; from which hit on and for how many; its
+// hits, the best first; how many documents match; and of each value of a kind its text, how it is spelled and how many
+// of these documents have it.
+const SEARCHES: &str = "dark||0 9|0 1|2|7 7 1;a a 2;
+dark||1 9|1|2|7 7 1;a a 2;
+knight||0 9|2 1|2|7 7 2;a A 1;
+knight||0 1|2|2|7 7 2;a A 1;
+||0 9|0 1 2 3|4|7 7 2;a a 2;
+gotham||0 9||0|";
+
+// Documents whose kind is a year, and searches that count years in all that pass and match, beyond the asked hits.
+const YEARS: &str = r#"1|{"kind":2008,"title":"the dark knight"}
+2|{"kind":2012,"title":"dark knight rises"}
+3|{"kind":1999,"title":"knight"}
+4|{"kind":2002,"title":"darkness"}"#;
+
+const SEARCHES_OF_YEARS: &str = "knight dark||0 1|1|3|1999 1999 1;2008 2008 1;2012 2012 1;
+knight dark|2000|0 1|1|2|2008 2008 1;2012 2012 1;
+|2002|1 1|2|3|2002 2002 1;2008 2008 1;2012 2012 1;";
 
 fn uses() -> [PathUse; 4]
     ensures is { result ≡ USES }
@@ -46,15 +57,28 @@ fn add(rt: &impl Abort, alloc: Global, store: &mut DocStore, line: &str) {
     let _ids = store.commit(plan);
 }
 
+// The documents of a kind that is not below a number, or all.
+fn filter(rt: &impl Abort, alloc: Global, least: &str) -> Filter {
+    match least.parse::<i128>() {
+        Ok(number) => Filter::Test {
+            attribute: word(rt, alloc, "kind"),
+            test: Test::AtLeast(number),
+        },
+        Err(_) => Filter::All,
+    }
+}
+
 fn found(
     rt: &impl Abort,
     alloc: Global,
     store: &DocStore,
     query: &str,
+    least: &str,
     offset: u64,
     limit: u64,
 ) -> DocumentsFound {
     let index = index_of(rt, alloc, store);
+    let filter = filter(rt, alloc, least);
     let uses = uses();
     let items = items(alloc, query, &[]).expect(rt, "memory");
     let table = SynonymTable::new(alloc);
@@ -74,7 +98,7 @@ fn found(
         &index,
         &uses,
         &graph,
-        &Filter::All,
+        &filter,
         &[Rule::Field],
         offset,
         limit,
@@ -103,26 +127,36 @@ fn told(rt: &impl Abort, alloc: Global, found: &DocumentsFound) -> String {
 }
 
 fn check_search(rt: &impl Abort, alloc: Global, store: &DocStore, line: &str) {
-    let mut parts = line.splitn(3, '|');
+    let mut parts = line.splitn(4, '|');
     let query = parts.next().unwrap_or("");
+    let least = parts.next().unwrap_or("");
     let window = parts.next().unwrap_or("");
     let wanted = parts.next().unwrap_or("");
     let (offset, limit) = window.split_once(' ').unwrap_or(("", ""));
     let offset = offset.parse::<u64>().ok().expect(rt, "a number");
     let limit = limit.parse::<u64>().ok().expect(rt, "a number");
-    let found = found(rt, alloc, store, query, offset, limit);
+    let found = found(rt, alloc, store, query, least, offset, limit);
     let told = told(rt, alloc, &found);
     assert!(rt; told.as_str() == wanted, "{line}: {told}");
 }
 
+// Searches over these documents, which come after the first.
+fn check_all(rt: &impl Abort, alloc: Global, documents: &str, searches: &str) {
+    let mut store = first_store(rt, alloc);
+    for line in documents.lines() {
+        add(rt, alloc, &mut store, line);
+    }
+    for line in searches.lines() {
+        check_search(rt, alloc, &store, line);
+    }
+}
+
 #[test]
 fn stored_documents_are_found_through_their_index(rt: HostRuntime) {
-    let alloc = rt.alloc();
-    let mut store = first_store(&rt, alloc);
-    for line in DOCUMENTS.lines() {
-        add(&rt, alloc, &mut store, line);
-    }
-    for line in SEARCHES.lines() {
-        check_search(&rt, alloc, &store, line);
-    }
+    check_all(&rt, rt.alloc(), DOCUMENTS, SEARCHES);
+}
+
+#[test]
+fn values_are_counted_in_all_matches(rt: HostRuntime) {
+    check_all(&rt, rt.alloc(), YEARS, SEARCHES_OF_YEARS);
 }

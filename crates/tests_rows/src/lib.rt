@@ -9,4 +9,8 @@ mod found;
 #[cfg(test)]
 mod rows;
 #[cfg(test)]
+mod same;
+#[cfg(test)]
+mod sessions;
+#[cfg(test)]
 mod stored;

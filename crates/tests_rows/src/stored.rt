@@ -5,7 +5,7 @@ ghost use Rattle.doc_index.specs.Documents.{documents_of};
 ghost use Rattle.doc_index.specs.Named.{named, AreRead};
 
 use doc_index::{
-    Stored, clear_documents, index_of_all, read_named, remove_documents, store_documents,
+    Stored, clear_documents, index_of_all, read_named, remove_documents, rows_in, store_documents,
 };
 use doc_rows::PathUse;
 use doc_sets::DocSet;
@@ -83,12 +83,18 @@ pub(crate) fn index_of(rt: &impl Abort, alloc: Global, store: &DocStore) -> RowI
     ensures sound { IsSound store.now.content }
     ensures stands { StandsFor result (documents_of store.now.content.paths USES store.now.content.rows) }
 {
-    assert!(rt; store.paths().len() == USES.len() && store.len() > 0);
+    let _documents = store.len();
+    assert!(rt; store.paths().len() == USES.len());
     let mut fetches = Steps::<u8>::new();
     index_of_all(alloc, store, &USES, &mut fetches).expect(rt, "memory")
 }
 
-fn read(rt: &impl Abort, alloc: Global, store: &DocStore, externals: &[Word]) -> Vec<Stored>
+pub(crate) fn read(
+    rt: &impl Abort,
+    alloc: Global,
+    store: &DocStore,
+    externals: &[Word],
+) -> Vec<Stored>
     requires { IsSound store.now.content }
     ensures { AreRead result.items (named externals.now store.now.content.rows) }
 {
@@ -106,7 +112,7 @@ fn add_paths(rt: &impl Abort, paths: &[Word], all: &mut Vec<Word>)
 }
 
 // The paths of a store.
-fn paths(rt: &impl Abort, alloc: Global, store: &DocStore) -> Vec<Word>
+pub(crate) fn paths(rt: &impl Abort, alloc: Global, store: &DocStore) -> Vec<Word>
     ensures { result.items ≡ store.now.content.paths }
 {
     let mut all = Vec::new(alloc);
@@ -169,7 +175,7 @@ fn remove(
 }
 
 // How often each word stands in an index.
-fn words(rt: &impl Abort, alloc: Global, index: &RowIndex) -> String {
+pub(crate) fn words(rt: &impl Abort, alloc: Global, index: &RowIndex) -> String {
     let mut text = String::new(alloc);
     for (word, list) in index.places().words_from(Bound::Unbounded) {
         write!(text, "{} {};", word.as_str(), list.len()).expect(rt, "memory");
@@ -264,4 +270,26 @@ fn a_changed_index_is_one_built_afresh(rt: HostRuntime) {
     let mut index = index_of(&rt, alloc, &store);
     clear_documents(alloc, &mut store, &mut index);
     assert!(rt; store.len() == 0 && index.ids().len() == 0);
+}
+
+// What searches see of the first document: the paths and words of its texts, and the paths and spellings of its values.
+#[test]
+fn a_text_is_seen_by_its_paths(rt: HostRuntime) {
+    let alloc = rt.alloc();
+    let row = stored_row(&rt, alloc, "0", FIRST);
+    let paths = [
+        word(&rt, alloc, "kind"),
+        word(&rt, alloc, "note"),
+        word(&rt, alloc, "text"),
+        word(&rt, alloc, "title"),
+    ];
+    let rows = rows_in(alloc, &row.document, &paths, &USES).expect(&rt, "memory");
+    let mut text = String::new(alloc);
+    for place in &rows.places {
+        write!(text, "{} {};", place.path.0, place.word.as_str()).expect(&rt, "memory");
+    }
+    for leaf in &rows.leaves {
+        write!(text, "{} {};", leaf.path.0, leaf.shown.as_str()).expect(&rt, "memory");
+    }
+    assert!(rt; text.as_str() == "2 dark;3 dark;0 a;3 Dark;", "{text}");
 }

@@ -1,15 +1,17 @@
-use Rattle.std.proofs.Common.{◌≡◌, ◌∙◌, sym, ap, ap₂, map, subst}
+use Rattle.std.proofs.Common.{◌+◌, length, ◌∙◌, sym, ap, ap₂, map, subst}
 use Rattle.filter_tree.specs.View.{view}
 use Rattle.row_filter.specs.Holds.{holds}
-use Rattle.bucket_sort.specs.Told.{and_then}
+use Rattle.bucket_sort.specs.Told.{and_then, GainsPrefix}
 use Rattle.index_snapshot.specs.Matches.{AreInOrder, opened}
 use Rattle.doc_index.specs.Documents.{documents_of}
 use Rattle.facet_counts.specs.Counts.{counted}
 use Rattle.index_snapshot.specs.Rows.{rows_at}
 use Rattle.index_snapshot.specs.Matches.{matches_among}
 use Rattle.list_search.specs.Matches.{ids_of}
+use Rattle.list_search.proofs.Slices.{gains-nothing, on-err}
 use Rattle.doc_index.proofs.StoreLemmas.{apart-documents}
 use Rattle.doc_search.proofs.MatchLemmas.{in-order, rows-matched}
+use Rattle.doc_search.proofs.ToldLemmas.{gains-all}
 use Rattle.doc_search.proofs.search.search_documents.Goals as goal
 
 pub search-requires-clause-order : goal.search-requires-clause-order
@@ -36,3 +38,26 @@ returns-clause-facets g c =
     (ap (λ documents. map (rows_at documents) c.in_ok-found.found.matching.ids) c.in_ok-searched.ensures
     ∙ ap (map (rows_at documents)) matched
     ∙ rows-matched (λ rows. holds s.paths rows (view c.args.filter.now)) c.args.query.now c.args.rules.now documents (apart-documents s.paths uses 0 s.rows s.next_id c.requires.sound.increase))
+
+pub returns-clause-steps : goal.returns-clause-steps
+returns-clause-steps g c =
+    c.in_ok-found.ensures.steps
+    ∙ ap (λ n. c.args.openings.now + n) (ap₂ (λ paths documents. length (opened (λ rows. holds paths rows (view c.args.filter.now)) c.args.query.now c.args.rules.now documents c.args.offset c.args.limit))
+    c.paths.ensures (c.new-snapshot.ensures ∙ c.in_ok-searched.ensures))
+
+pub returns-in_err-searched-clause-err_told : goal.returns-in_err-searched-clause-err_told
+returns-in_err-searched-clause-err_told g c = on-err c.from_residual.result (gains-nothing _ _)
+
+pub returns-in_err-found-clause-err_told : goal.returns-in_err-found-clause-err_told
+returns-in_err-found-clause-err_told g c =
+    on-err c.from_residual-in_err-found.result
+    (subst (GainsPrefix _ _)
+    (ap₂ (λ paths documents. opened (λ rows. holds paths rows (view c.args.filter.now)) c.args.query.now c.args.rules.now documents c.args.offset c.args.limit)
+    c.paths.ensures (c.new-snapshot.ensures ∙ c.in_ok-searched.ensures)) c.in_err-found.ensures.err_told)
+
+pub returns-in_err-facets-clause-err_told : goal.returns-in_err-facets-clause-err_told
+returns-in_err-facets-clause-err_told g c =
+    on-err c.from_residual-in_err-facets.result
+    (gains-all _ _ _ (c.in_ok-found.ensures.told
+    ∙ ap (and_then _) (ap₂ (λ paths documents. opened (λ rows. holds paths rows (view c.args.filter.now)) c.args.query.now c.args.rules.now documents c.args.offset c.args.limit)
+    c.paths.ensures (c.new-snapshot.ensures ∙ c.in_ok-searched.ensures))))

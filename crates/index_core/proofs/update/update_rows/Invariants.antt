@@ -4,6 +4,6 @@ use Rattle.index_core.proofs.update.update_rows.Given as goal
 
 -- the documents of the update so far, and they are read back from their texts
 abbrev pub invariant-loop-row : goal.invariant-loop-row
-invariant-loop-row g l =
-    Updates l.initial.row-iterator.rest.items l.row-iterator.rest.items l.store.content l.rows.items l.places l.initial.fetches l.fetches
+invariant-loop-row l =
+    Updates l.initial.row-iterator.rest.items l.row-iterator.rest.items l.store.content l.rows.items l.places
     × (AreReadBack l.row-iterator.rest.items → AreReadBack l.initial.row-iterator.rest.items)

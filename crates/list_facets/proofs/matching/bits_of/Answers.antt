@@ -1,4 +1,4 @@
-use Rattle.std.proofs.Common.{◌≡◌, ◌||◌, ◌∙◌, sym, ap}
+use Rattle.std.proofs.Common.{◌||◌, ◌∙◌, sym, ap}
 use Rattle.doc_sets.specs.Sets.{has, with_id}
 use Rattle.list_facets.proofs.HitLemmas.{bit_more}
 use Rattle.list_facets.proofs.matching.bits_of.Goals as goal

@@ -1,72 +1,79 @@
-use Rattle.std.proofs.Common.{◌≡◌, ◌+◌, ◌-◌, ◌≤◌, ◌^◌, ap, ap₂, sym, subst, ◌∙◌, length, map, List, [], ◌++◌, arith}
+use Rattle.std.proofs.Common.{Bool, ◌≡◌, ◌+◌, ◌-◌, ◌≤◌, ◌^◌, ap, ap₂, sym, subst, ◌∙◌, length, map, arith}
 use Rattle.std.specs.Prelude.{min}
 use Rattle.std.specs.Option.{option_map}
+use Rattle.search_base.specs.declared.document.DocId.{DocId}
 use Rattle.search_base.specs.RowsView.{RowsView}
 use Rattle.search_call.specs.SearchView.{SearchView}
 use Rattle.search_call.specs.Windows.{offset_of, limit_of}
 use Rattle.filter_tree.specs.View.{view as tree_of}
-use Rattle.row_filter.specs.Ready.{passes}
 use Rattle.row_filter.specs.Holds.{holds}
 use Rattle.facet_counts.specs.Counts.{counted}
-use Rattle.row_search.specs.Hits.{hits_of}
-use Rattle.row_search.specs.Matching.{matches_in, rows_matching}
+use Rattle.doc_index.specs.Documents.{documents_of}
+use Rattle.doc_search.specs.Matched.{rows_matching}
+use Rattle.doc_search.specs.Ranked.{RankedBelow}
+use Rattle.index_snapshot.specs.Matches.{matches_among}
+use Rattle.list_search.specs.Matches.{ids_of, hits_of}
+use Rattle.row_index.specs.Standing.{StandsFor}
 use Rattle.index_core.specs.Index.{Index}
-use Rattle.index_core.specs.Rules.{rules_with}
-use Rattle.index_core.specs.Found.{window_end, most_hits, paths_asked}
-use Rattle.index_core.specs.Matching.{rules_in}
+use Rattle.index_core.specs.Found.{window_end, paths_asked}
+use Rattle.index_core.specs.Matching.{uses_in}
+use Rattle.index_core.specs.Ranking.{IsRankingOf}
 use Rattle.index_core.specs.Shown.{Finds}
 use Rattle.index_core.proofs.Finding.{finds, IsAsked}
 use Rattle.index_core.proofs.index.IndexCore.find.Goals as goal
 
-pub rules_of-requires : goal.rules_of-requires
-rules_of-requires c =
-    let most = c.self.invariant.rows.kept.sound.paths_within in
-    omega (arith, ap length c.paths-paths.ensures)
-
-pub of-requires : goal.of-requires
-of-requires c =
-    let most = c.self.invariant.rows.kept.sound.paths_within in
-    omega (arith, ap length c.paths-paths.ensures)
-
 pub asked_paths-requires : goal.asked_paths-requires
 asked_paths-requires c =
-    let most = c.self.invariant.rows.kept.sound.paths_within in
-    omega (arith, ap length c.paths-paths.ensures)
+    let most = c.self.invariant.rows.sound.paths_within in
+    omega (arith, ap length c.paths.ensures)
 
-pub rank-requires-clause-few : goal.rank-requires-clause-few
-rank-requires-clause-few c =
-    let most = c.self.invariant.rows.kept.sound.ids_within in
-    omega (arith, c.self.invariant.rows.many)
+pub search_documents-requires-clause-graph : goal.search_documents-requires-clause-graph
+search_documents-requires-clause-graph c = c.requires.graph
+
+pub search_documents-requires-clause-sound : goal.search_documents-requires-clause-sound
+search_documents-requires-clause-sound c = c.self.invariant.rows.sound
+
+pub search_documents-requires-clause-ranks : goal.search_documents-requires-clause-ranks
+search_documents-requires-clause-ranks c = subst (RankedBelow 65535) (sym c.as_slice.ensures.value) c.requires.below
+
+pub search_documents-requires-clause-stands : goal.search_documents-requires-clause-stands
+search_documents-requires-clause-stands c =
+    let index : Index = record { key = c.self.inside.key; store = c.self.inside.store.content; settings = c.self.inside.settings } in
+    let is : IsRankingOf c.args.ranking.now index c.args.call.now = subst (λ (i : Index). IsRankingOf c.args.ranking.now i c.args.call.now) (sym c.self.view_is) c.requires in
+    subst (λ uses. StandsFor c.self.inside.rows (documents_of index.store.paths uses index.store.rows)) (sym (c.as_slice.ensures.value ∙ is.uses)) c.self.invariant.rows.stands
 
 pub returns : goal.returns
 returns c =
     let index : Index = record { key = c.self.inside.key; store = c.self.inside.store.content; settings = c.self.inside.settings } in
     let call = c.args.call.now in
     let seen = c.call.view_is in
-    let passing = passes c.in_ok-filter.filter in
-    let graph = c.in_ok-query.query in
-    let rules = c.as_slice.result.now in
-    let slots = c.self.inside.kept.slots in
-    let rows = rows_matching passing graph slots in
-    let asked = c.in_ok-asked.asked.items in
-    let is : IsAsked index call passing graph rules = record {
-      filter = λ rows. c.in_ok-filter.ensures rows ∙ ap (λ ps. holds ps rows (tree_of c.call.inside.filter)) c.paths-paths.ensures ∙ ap (λ (v : SearchView). holds index.store.paths rows v.filter) seen;
-      query = λ rows. c.in_ok-query.ensures.costs index.settings c.self.invariant.words rows (rules_in index call);
-      ruled =
-          c.as_slice.ensures.value ∙ c.in_ok-rules.ensures ∙ ap (λ ps. rules_with index.settings ps c.deref.result.now) c.paths-paths.ensures
-          ∙ ap (rules_with index.settings index.store.paths) (c.deref.ensures.value ∙ ap (λ (v : SearchView). v.sort) seen);
+    let ranking = c.args.ranking.now in
+    let is : IsRankingOf ranking index call = subst (λ (i : Index). IsRankingOf ranking i call) (sym c.self.view_is) c.requires in
+    let passing : RowsView → Bool = λ rows. holds index.store.paths rows (tree_of c.call.inside.filter) in
+    let graph = ranking.query in
+    let rules = c.as_slice-2.result.now in
+    let paths = index.store.paths in
+    let rows = index.store.rows in
+    let uses = c.as_slice.ensures.value ∙ is.uses in
+    let asked : IsAsked index call passing graph rules = record {
+      filter = λ rows. ap (λ (v : SearchView). holds paths rows v.filter) seen;
+      query = is.costs;
+      ruled = c.as_slice-2.ensures.value ∙ is.rules;
     } in
-    let counts : option_map (λ facets. facets.items) c.if_asked.result ≡ option_map (λ _. map (counted index.settings.max_values_per_facet rows) (paths_asked index.settings index.store.paths call.facets)) call.facets =
-    c.if_asked.ensures ∙ ap (λ xs. option_map (λ _. xs) call.facets)
-    (c.in_ok-replies.ensures asked rows (c.in_ok-ranked.ensures.facets asked [] c.in_ok-counts.ensures)
-    ∙ ap₂ (λ n fs. map (counted n rows) fs) c.max_values_per_facet.ensures.number (c.in_ok-asked.ensures ∙ ap (λ ps. paths_asked index.settings ps call.facets) c.paths-paths.ensures)) in
     let most : c.max_total_hits-most.result ≤ 1000000 = omega (arith, c.max_total_hits-most.ensures.number, c.max_total_hits-most.ensures.limit) in
-    let le : c.window_end-end.result ≤ 2 ^ 64 - 1 = omega (arith, c.window_end-end.ensures, most) in
-    let found = finds index call passing graph rules slots c.window_start-start.result c.window_end-end.result (2 ^ 64 - 1) c.min.result c.in_ok-ranked.ranked.hits.items (option_map (λ facets. facets.items) c.if_asked.result)
-    c.self.invariant.rows is
+    let le : c.window_end.result ≤ 2 ^ 64 - 1 = omega (arith, c.window_end.ensures, most) in
+    let counts : option_map (λ facets. facets.items) c.if_asked.result
+    ≡ option_map (λ _. map (counted index.settings.max_values_per_facet (rows_matching passing graph (documents_of paths (uses_in index) rows))) (paths_asked index.settings paths call.facets)) call.facets =
+    c.if_asked.ensures ∙ ap (λ xs. option_map (λ _. xs) call.facets)
+    (c.in_ok-found.ensures.facets ∙ ap (λ us. map (counted c.max_values_per_facet.result (rows_matching passing graph (documents_of paths us rows))) c.in_ok-asked.asked.items) uses
+    ∙ ap₂ (λ n fs. map (counted n (rows_matching passing graph (documents_of paths (uses_in index) rows))) fs) c.max_values_per_facet.ensures.number (c.in_ok-asked.ensures ∙ ap (λ ps. paths_asked index.settings ps call.facets) c.paths.ensures)) in
+    let found = finds index call passing graph rules c.window_start-start.result c.window_end.result (2 ^ 64 - 1) c.min.result (map (λ (id : DocId). id.0) c.in_ok-found.found.hits.items) (option_map (λ facets. facets.items) c.if_asked.result)
+    c.self.invariant.rows.sound asked
     (c.window_start-start.ensures ∙ ap (λ (v : SearchView). min (offset_of v.window) (2 ^ 64 - 1)) seen)
-    (c.window_end-end.ensures ∙ ap (min (offset_of c.call.inside.window + limit_of c.call.inside.window)) c.max_total_hits-most.ensures.number ∙ ap (window_end index.settings.max_total_hits) seen)
-    le c.in_ok-ranked.ensures.hits
-    (c.min.ensures ∙ ap (λ n. min n c.max_total_hits-most.result) c.in_ok-ranked.ensures.total ∙ ap (min (length (matches_in passing graph rules slots))) c.max_total_hits-most.ensures.number)
+    (c.window_end.ensures ∙ ap (min (offset_of c.call.inside.window + limit_of c.call.inside.window)) c.max_total_hits-most.ensures.number ∙ ap (window_end index.settings.max_total_hits) seen)
+    le
+    (c.in_ok-found.ensures.hits ∙ ap₂ (λ us n. ids_of (hits_of (matches_among passing graph rules (documents_of paths us rows)) c.window_start-start.result n)) uses c.saturating_sub-limit.ensures)
+    (c.min.ensures ∙ ap (λ n. min n c.max_total_hits-most.result) (c.in_ok-found.ensures.total ∙ ap (λ us. length (matches_among passing graph rules (documents_of paths us rows))) uses)
+    ∙ ap (min (length (matches_among passing graph rules (documents_of paths (uses_in index) rows)))) c.max_total_hits-most.ensures.number)
     counts in
-    subst (λ (i : Index). Finds i call c.in_ok-ranked.ranked.hits.items c.min.result (option_map (λ facets. facets.items) c.if_asked.result)) c.self.view_is found
+    subst (λ (i : Index). Finds i call (map (λ (id : DocId). id.0) c.in_ok-found.found.hits.items) c.min.result (option_map (λ facets. facets.items) c.if_asked.result)) c.self.view_is found

@@ -10,7 +10,7 @@ returns-in-Some-clause-document g c =
     let s = c.self.inside.store.content in
     let external = c.args.external.now in
     let found : id_of external s.rows ≡ Some c.in-Some.id.0 = sym c.id_of.ensures ∙ ap (option_map (λ id. id.0)) c.in-Some.is in
-    c.fetch.ensures.document ∙ (document-under external s c.in-Some.id.0 c.self.invariant.rows.kept.sound found).0 ∙ ap (λ (i : Index). document_under external i.store.rows) c.self.view_is
+    c.fetch.ensures.document ∙ (document-under external s c.in-Some.id.0 c.self.invariant.rows.sound found).0 ∙ ap (λ (i : Index). document_under external i.store.rows) c.self.view_is
 
 same-some : {A B : Type 0} (f : A → B) (o : Option A) → is_some o ≡ is_some (option_map f o)
 same-some f None = refl
@@ -21,7 +21,7 @@ returns-in-Some-clause-fetches g c =
     let s = c.self.inside.store.content in
     let external = c.args.external.now in
     let found : id_of external s.rows ≡ Some c.in-Some.id.0 = sym c.id_of.ensures ∙ ap (option_map (λ id. id.0)) c.in-Some.is in
-    let both = document-under external s c.in-Some.id.0 c.self.invariant.rows.kept.sound found in
+    let both = document-under external s c.in-Some.id.0 c.self.invariant.rows.sound found in
     let some : is_some (option_map (λ document. document.now) c.fetch.result) ≡ true = ap is_some (c.fetch.ensures.document ∙ both.0) ∙ both.1 in
     c.fetch.ensures.step ∙ ap (λ b. c.args.fetches.now + cond b 1 0) (sym (same-some (λ document. document.now) c.fetch.result ∙ some))
 

@@ -1,0 +1,8 @@
+-- What a log has of what was told to it.
+use Rattle.std.proofs.Common.{◌≡◌, List, [], Option, sym, append-nil}
+use Rattle.bucket_sort.specs.declared.log.Opening.{Opening}
+use Rattle.bucket_sort.specs.Told.{and_then, GainsPrefix}
+
+-- a log to which all was told has gained it
+pub gains-all : (old new : Option (List Opening)) (all : List Opening) → new ≡ and_then old all → GainsPrefix old new all
+gains-all old new all is = record { gained = all; others = []; parts = sym (append-nil all); told = is }

@@ -1,0 +1,153 @@
+-- The row index of an index through its changes.
+use Rattle.std.proofs.Common.{◌≡◌, ℕ, suc, ◌+◌, ◌<◌, ◌≤◌, Bool, true, false, List, [], ◌∷◌, ◌++◌, length, Option, Some, None, Result, Ok, Err, refl, sym, ap, subst, ◌∙◌, arith}
+use Rattle.std.specs.Prelude.{OnOk, OnErr, IfSome, bytes_eq, not}
+use Rattle.std.specs.List.{filter}
+use Rattle.std.proofs.lemmas.Bool.{cond_both, cond-true, cond-false}
+use Rattle.doc_rows.specs.declared.path_use.PathUse.{PathUse}
+use Rattle.doc_index.specs.Documents.{documents_of}
+use Rattle.doc_index.specs.Left.{without_named, without_all}
+use Rattle.doc_index.specs.Named.{is_named}
+use Rattle.doc_search.specs.Ranked.{RankedBelow}
+use Rattle.doc_store.specs.declared.rows.StoreRow.{StoreRow}
+use Rattle.doc_store.specs.Store.{Row, Store, id_of, all_stored}
+use Rattle.doc_store.specs.StoreView.{AdmissionView, IsAdmitted}
+use Rattle.doc_store.specs.Sound.{Increase, AreApart, StandOnce, CoverRows, IsSound}
+use Rattle.doc_store.proofs.SoundLemmas.{sound-all_stored}
+use Rattle.index_settings.specs.View.{SettingsView}
+use Rattle.index_settings.specs.Paths.{first_place, covers}
+use Rattle.row_index.specs.Changes.{IsTight}
+use Rattle.row_index.specs.Standing.{RowIndexView, StandsFor}
+use Rattle.index_core.specs.Fetches.{use_alike}
+use Rattle.index_core.specs.Indexed.{indexed_of, IsIndexed}
+use Rattle.index_core.specs.Matching.{uses_from}
+use Rattle.index_core.proofs.Settling.{uses-are}
+use Rattle.index_core.proofs.Stable.{all-stay}
+
+-- ---- documents that come
+
+-- the registry with these paths holds the documents that were admitted, and what a search sees of the others stays
+pub record Admits (st : SettingsView) (rs : List StoreRow) (s : Store) (paths : List (List ℕ)) : Type 0 where
+  pub few : length paths ≤ 1000
+  pub after : paths ≡ (all_stored rs s).paths
+  pub same : documents_of paths (uses_from st 0 paths) s.rows ≡ indexed_of st s
+  pub sound : IsSound (all_stored rs s)
+
+pub admits : (st : SettingsView) (rs : List StoreRow) (s : Store) (admission : AdmissionView) (paths : List (List ℕ)) → IsSound s → IsAdmitted s rs admission → paths ≡ s.paths ++ admission.added → Admits st rs s paths
+admits st rs s admission paths h admitted is = record {
+  few = subst (λ ps. length ps ≤ 1000) (sym after) sound.paths_within;
+  after = after;
+  same = ap (λ ps. documents_of ps (uses_from st 0 ps) s.rows) is ∙ all-stay st s.rows s.paths admission.added (subst StandOnce admitted.added sound.once) h.cover;
+  sound = sound;
+}
+  where
+    sound : IsSound (all_stored rs s)
+    sound = sound-all_stored rs s h admitted.within
+
+    after : paths ≡ (all_stored rs s).paths
+    after = is ∙ sym admitted.added
+
+pub stored-indexed : {A E : Type 0} (r : Result A E) (st : SettingsView) (rs : List StoreRow) (s now : Store) (paths : List (List ℕ)) (uses : List PathUse) (rows : RowIndexView) → IsSound s → Admits st rs s paths → uses ≡ uses_from st 0 paths
+    → OnOk r (now ≡ all_stored rs s) → OnErr r (now ≡ s) → StandsFor rows (documents_of paths uses now.rows) → IsTight rows → IsIndexed rows st now
+stored-indexed (Ok x) st rs s now paths uses rows h a is done stays stands tight = subst (IsIndexed rows st) (sym done) (record {
+  stands = subst (λ ps. StandsFor rows (documents_of ps (uses_from st 0 ps) (all_stored rs s).rows)) a.after
+      (subst (λ (t : Store). StandsFor rows (documents_of paths (uses_from st 0 paths) t.rows)) done (subst (λ us. StandsFor rows (documents_of paths us now.rows)) is stands));
+  tight = tight;
+  sound = a.sound;
+})
+stored-indexed (Err e) st rs s now paths uses rows h a is done stays stands tight = subst (IsIndexed rows st) (sym stays) (record {
+  stands = subst (StandsFor rows) a.same
+      (subst (λ (t : Store). StandsFor rows (documents_of paths (uses_from st 0 paths) t.rows)) stays (subst (λ us. StandsFor rows (documents_of paths us now.rows)) is stands));
+  tight = tight;
+  sound = h;
+})
+
+-- ---- documents that go
+
+increase-left : (p : Row → Bool) (low : ℕ) (rows : List Row) (high : ℕ) → Increase low rows high → Increase low (filter p rows) high
+increase-left p low [] high h = h
+increase-left p low (r ∷ rows) high h = cond_both (p r) (r ∷ filter p rows) (filter p rows) (λ v. Increase low v high)
+    (λ _. (h.0, increase-left p (suc r.id) rows high h.1)) (λ _. from-lower (filter p rows) (increase-left p (suc r.id) rows high h.1))
+  where
+    from-lower : (v : List Row) → Increase (suc r.id) v high → Increase low v high
+    from-lower [] up = omega (arith, h.0, up)
+    from-lower (x ∷ v) up = (omega (arith, h.0, up.0), up.1)
+
+absent-left : (p : Row → Bool) (external : List ℕ) (rows : List Row) → id_of external rows ≡ None → id_of external (filter p rows) ≡ None
+absent-left p external [] h = refl
+absent-left p external (r ∷ rows) h = by (bytes_eq external r.external) refl (absent-left p external rows)
+  where
+    by : (b : Bool) → bytes_eq external r.external ≡ b → (id_of external rows ≡ None → id_of external (filter p rows) ≡ None) → id_of external (filter p (r ∷ rows)) ≡ None
+    by true e again = absurd (let bad = sym (cond-true (bytes_eq external r.external) (Some r.id) (id_of external rows) e) ∙ h in cc)
+    by false e again =
+        let rest = again (sym (cond-false (bytes_eq external r.external) (Some r.id) (id_of external rows) e) ∙ h) in
+        cond_both (p r) (r ∷ filter p rows) (filter p rows) (λ v. id_of external v ≡ None) (λ _. cond-false (bytes_eq external r.external) _ _ e ∙ rest) (λ _. rest)
+
+apart-left : (p : Row → Bool) (rows : List Row) → AreApart rows → AreApart (filter p rows)
+apart-left p [] h = tt
+apart-left p (r ∷ rows) h = cond_both (p r) (r ∷ filter p rows) (filter p rows) AreApart (λ _. (absent-left p r.external rows h.0, apart-left p rows h.1)) (λ _. apart-left p rows h.1)
+
+cover-left : (p : Row → Bool) (rows : List Row) (paths : List (List ℕ)) → CoverRows rows paths → CoverRows (filter p rows) paths
+cover-left p [] paths h = tt
+cover-left p (r ∷ rows) paths h = cond_both (p r) (r ∷ filter p rows) (filter p rows) (λ v. CoverRows v paths) (λ _. (h.0, cover-left p rows paths h.1)) (λ _. cover-left p rows paths h.1)
+
+sound-left : (ids : List (List ℕ)) (s : Store) → IsSound s → IsSound (without_named ids s)
+sound-left ids s h = record {
+  increase = increase-left (λ r. not (is_named ids r)) 0 s.rows s.next_id h.increase;
+  apart = apart-left (λ r. not (is_named ids r)) s.rows h.apart;
+  once = h.once;
+  cover = cover-left (λ r. not (is_named ids r)) s.rows s.paths h.cover;
+  ids_within = h.ids_within;
+  paths_within = h.paths_within;
+}
+
+pub left-indexed : {A E : Type 0} (r : Result A E) (st : SettingsView) (ids : List (List ℕ)) (s now : Store) (uses : List PathUse) (rows : RowIndexView) → IsSound s → uses ≡ uses_from st 0 s.paths
+    → OnOk r (now ≡ without_named ids s) → OnErr r (now ≡ s) → StandsFor rows (documents_of now.paths uses now.rows) → IsTight rows → IsIndexed rows st now
+left-indexed (Ok x) st ids s now uses rows h is done stays stands tight = subst (IsIndexed rows st) (sym done) (record {
+  stands = subst (λ (t : Store). StandsFor rows (documents_of t.paths (uses_from st 0 s.paths) t.rows)) done (subst (λ us. StandsFor rows (documents_of now.paths us now.rows)) is stands);
+  tight = tight;
+  sound = sound-left ids s h;
+})
+left-indexed (Err e) st ids s now uses rows h is done stays stands tight = subst (IsIndexed rows st) (sym stays) (record {
+  stands = subst (λ (t : Store). StandsFor rows (documents_of t.paths (uses_from st 0 s.paths) t.rows)) stays (subst (λ us. StandsFor rows (documents_of now.paths us now.rows)) is stands);
+  tight = tight;
+  sound = h;
+})
+
+pub cleared-indexed : (st : SettingsView) (s now : Store) (rows : RowIndexView) → IsSound s → now ≡ without_all s → StandsFor rows [] → IsTight rows → IsIndexed rows st now
+cleared-indexed st s now rows h done stands tight = subst (IsIndexed rows st) (sym done) (record {
+  stands = stands;
+  tight = tight;
+  sound = record { increase = omega arith; apart = tt; once = h.once; cover = tt; ids_within = h.ids_within; paths_within = h.paths_within };
+})
+
+-- ---- other settings
+
+pub alike-indexed : (new old : SettingsView) (s : Store) (rows : RowIndexView) → use_alike new old s.paths ≡ true → IsIndexed rows old s → IsIndexed rows new s
+alike-indexed new old s rows alike h = record {
+  stands = subst (λ uses. StandsFor rows (documents_of s.paths uses s.rows)) (sym (uses-are (uses_from new 0 s.paths) (uses_from old 0 s.paths) alike)) h.stands;
+  tight = h.tight;
+  sound = h.sound;
+}
+
+-- ---- ranks
+
+first-below : (n : ℕ) (path : List ℕ) (entries : List (List ℕ)) → IfSome (first_place n path entries) (λ rank. rank < n + length entries)
+first-below n path [] = tt
+first-below n path (entry ∷ entries) = cond_both (covers path entry) (Some n) (first_place (n + 1) path entries) (λ o. IfSome o (λ rank. rank < n + suc (length entries)))
+    (λ _. omega arith) (λ _. weaker (first_place (n + 1) path entries) (first-below (n + 1) path entries))
+  where
+    weaker : (o : Option ℕ) → IfSome o (λ rank. rank < n + 1 + length entries) → IfSome o (λ rank. rank < n + suc (length entries))
+    weaker None h = tt
+    weaker (Some rank) h = omega (arith, h)
+
+some-below : (a b : ℕ) (o : Option ℕ) → a ≤ b → IfSome o (λ rank. rank < a) → IfSome o (λ rank. rank < b)
+some-below a b None le h = tt
+some-below a b (Some rank) le h = omega (arith, h)
+
+pub ranked-below : (st : SettingsView) (number : ℕ) (paths : List (List ℕ)) → number + length paths ≤ 1000 → length st.searchable_attributes ≤ 65535 → RankedBelow 65535 (uses_from st number paths)
+ranked-below st number [] few many = tt
+ranked-below st number (path ∷ paths) few many = (
+  cond_both _ (Some number) (first_place 0 path st.searchable_attributes) (λ o. IfSome o (λ rank. rank < 65535)) (λ _. omega (arith, few))
+      (λ _. some-below (0 + length st.searchable_attributes) 65535 (first_place 0 path st.searchable_attributes) (omega (arith, many)) (first-below 0 path st.searchable_attributes)),
+  ranked-below st (number + 1) paths (omega (arith, few)) many,
+)

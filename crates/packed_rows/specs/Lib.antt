@@ -1,2 +1,0 @@
--- Rows of documents, packed as numbers in a table.
-pub mod Packed
