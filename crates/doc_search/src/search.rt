@@ -77,6 +77,9 @@ pub fn search_documents<G>(
     ensures err_told { OnErr result (GainsPrefix (told log.old) (told log.new) (opened
         (λ rows. holds store.now.content.paths rows (view filter.now)) query.now rules.now
         (documents_of store.now.content.paths uses.now store.now.content.rows) offset limit)) }
+    ensures err_steps { OnErr result (RisesAtMost openings.old openings.new (length (opened
+        (λ rows. holds store.now.content.paths rows (view filter.now)) query.now rules.now
+        (documents_of store.now.content.paths uses.now store.now.content.rows) offset limit))) }
     ensures few { RisesAtMost openings.old openings.new (length rules.now * min (offset + limit) (length (matches_among
         (λ rows. holds store.now.content.paths rows (view filter.now)) query.now rules.now
         (documents_of store.now.content.paths uses.now store.now.content.rows)))) }

@@ -6,7 +6,8 @@
 //! disk failed, the machine from before the call or the one after it. Contracts see `DurableMachine` as a record of a
 //! `State` and a `Journal`, and tie it to the disks by `IsDurable`, and by `CrashHolds` what a crash may leave on them.
 //! Stands on search_routes for the machine, on change_journal for the two disks, on index_image and change_payloads for
-//! images and payloads, on http_wire for requests and replies, and on outside_io for disks.
+//! images and payloads, on http_wire for requests and replies, on bucket_sort and index_core for logs and what they are
+//! told, and on outside_io for disks.
 #![tactic(auto)]
 
 mod machine;

@@ -7,13 +7,16 @@ ghost use Rattle.change_journal.specs.Fits.{Fits, IsDue, IsSettled};
 ghost use Rattle.change_journal.specs.declared.opening.JournalFault.TheVariants.{Damaged, DiskFault};
 ghost use Rattle.search_routes.specs.State.{State};
 ghost use Rattle.search_routes.specs.Chosen.{answer_of, state_after};
+ghost use Rattle.index_core.specs.Opened.{log_state, Opens};
 ghost use Rattle.search_routes.specs.Needs.{needed_fetches};
+ghost use Rattle.search_routes.specs.Openings.{opened_by, most_opened_by};
 ghost use Rattle.search_routes.specs.Redo.{redone};
 ghost use Rattle.durable_machine.specs.Held.{held, opening_need};
 ghost use Rattle.durable_machine.specs.Durable.{CrashHolds, Hold, IsDurable};
 
 use crate::opening::make_again;
 use crate::recording::{append, checkpoint, entry_of};
+use bucket_sort::BucketLog;
 use change_journal::{Journal, JournalFault, Record, open};
 use http_wire::{Reply, Wire};
 use outside_io::{Disk, Failed};
@@ -40,7 +43,8 @@ impl DurableMachine {
     /// holds nothing. `fetches` counts the stored documents that are read, at most `opening_need`.
     ///
     /// `Damaged` comes only with the first byte that is damaged, `DiskFault` only where a disk's count of faults rose,
-    /// and `NoMemory` for want of memory. On an error, whatever a crash leaves on the disks holds what they held before.
+    /// and `NoMemory` for want of memory. On an error, whatever a crash leaves on the disks holds what they held
+    /// before.
     pub fn opened<K: Disk, F>(
         alloc: Global,
         disk_a: &mut K,
@@ -84,21 +88,26 @@ impl DurableMachine {
 
     /// Answers one request. An accepted change is recorded before its reply is given, and where the journal is long by
     /// then a checkpoint is made; one that finds no memory is passed over. `fetches` counts the stored documents that
-    /// are read: at most those that the request needs.
+    /// are read: at most those that the request needs. The log is told each bucket that the request opens, and
+    /// `openings` counts them.
     ///
-    /// `Failed`: a disk's count of faults rose, and whatever a crash leaves on the disks holds the machine as it was, or
-    /// as it is.
-    pub fn answer<K: Disk, F>(
+    /// `Failed`: a disk's count of faults rose, and whatever a crash leaves on the disks holds the machine as it was,
+    /// or as it is.
+    pub fn answer<K: Disk, F, G>(
         &mut self,
         alloc: Global,
         wire: Wire,
         disk_a: &mut K,
         disk_b: &mut K,
+        log: &mut Box<dyn BucketLog>,
         fetches: &mut Steps<F>,
+        openings: &mut Steps<G>,
     ) -> Result<Answered, Failed>
         requires durable { IsDurable self.old (K.contents disk_a.old) (K.contents disk_b.old) }
         ensures step { (starved : Bool) × (self.new.machine ≡ state_after self.old.machine (request_of wire) starved)
-            × IfOk result (λ done. IsSentAs done.reply (answer_of self.old.machine (request_of wire) starved)) }
+            × IfOk result (λ done. IsSentAs done.reply (answer_of self.old.machine (request_of wire) starved))
+            × Opens starved (opened_by self.old.machine (request_of wire))
+            (log_state (told log.old) openings.old) (log_state (told log.new) openings.new) }
         ensures durable { OnOk result (IsDurable self.new (K.contents disk_a.new) (K.contents disk_b.new)) }
         ensures crash_now { OnOk result (CrashHolds (K.contents disk_a.new) (K.contents disk_b.new) (λ t. t ≡ self.new.machine)) }
         ensures crash { OnErr result (CrashHolds (K.contents disk_a.new) (K.contents disk_b.new) (λ t. (t ≡ self.old.machine) ⊎ (t ≡ self.new.machine))) }
@@ -107,23 +116,24 @@ impl DurableMachine {
         ensures later_a { K.disk_faults disk_a.old ≤ K.disk_faults disk_a.new }
         ensures later_b { K.disk_faults disk_b.old ≤ K.disk_faults disk_b.new }
         ensures fetched { fetches.new ≤ fetches.old + needed_fetches self.old.machine (request_of wire) }
+        ensures few { openings.new ≤ openings.old + most_opened_by self.old.machine (request_of wire) }
     {
         let asked = match ask(alloc, wire) {
             Ok(asked) => asked,
-            Err(_) => return Ok(told(Reply::Memory)),
+            Err(_) => return Ok(answered_with(Reply::Memory)),
         };
         let entry = match entry_of(alloc, self.journal.count(), asked.payload) {
             Ok(entry) => entry,
-            Err(_) => return Ok(told(Reply::Memory)),
+            Err(_) => return Ok(answered_with(Reply::Memory)),
         };
         let before = self.machine.changes();
-        let reply = perform(alloc, &mut self.machine, asked.call, fetches);
+        let reply = perform(alloc, &mut self.machine, asked.call, log, fetches, openings);
         let entry = match entry {
             Some(entry) => entry,
-            None => return Ok(told(reply)),
+            None => return Ok(answered_with(reply)),
         };
         if self.machine.changes() == before {
-            return Ok(told(reply));
+            return Ok(answered_with(reply));
         }
         let passed = self.keep(alloc, disk_a, disk_b, entry)?;
         Ok(Answered { reply, passed })
@@ -229,7 +239,7 @@ impl DurableMachine {
 }
 
 // A reply after which no checkpoint was due.
-fn told(reply: Reply) -> Answered
+fn answered_with(reply: Reply) -> Answered
     ensures reply { result.reply ≡ reply }
     ensures passed { result.passed ≡ false }
 {

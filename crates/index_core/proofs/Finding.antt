@@ -29,7 +29,8 @@ use Rattle.doc_store.specs.Store.{Row, Store, id_of, row_at}
 use Rattle.doc_store.specs.Sound.{Increase, IsSound}
 use Rattle.index_core.specs.Index.{Index, document_under}
 use Rattle.index_core.specs.Matching.{Matching, with_costs, match_of, matching, passes, query_in, rows_in, rules_in, uses_in, costs_in, rows_matching as rows_of_matches}
-use Rattle.index_core.specs.Found.{Found, FoundHit, hit_of, asked_of, most_hits, window_end, window_size, paths_asked, counts_of}
+use Rattle.index_core.specs.Found.{Found, FoundHit, hit_of, asked_of, most_hits, window_end, window_size, counts_of}
+use Rattle.search_settings.specs.Asked.{paths_asked}
 use Rattle.doc_rows.specs.Rows.{rows_of}
 use Rattle.index_core.specs.declared.ranking.Ranking.{Ranking}
 use Rattle.index_core.specs.Ranking.{IsRankingOf}
@@ -221,7 +222,7 @@ pub record IsAsked (index : Index) (call : SearchView) (passing : RowsView → B
 abbrev costs_where : (RowsView → Bool) → GraphView → List Rule → RowsView → Option (List CostKey)
 costs_where passing graph rules rows = cond (passing rows) (tuple rows graph rules) None
 
-costs-same : (index : Index) (call : SearchView) (passing : RowsView → Bool) (graph : GraphView) (rules : List Rule) → IsAsked index call passing graph rules → (document : Data)
+pub costs-same : (index : Index) (call : SearchView) (passing : RowsView → Bool) (graph : GraphView) (rules : List Rule) → IsAsked index call passing graph rules → (document : Data)
     → costs_where passing graph rules (rows_in index document) ≡ costs_in index call document
 costs-same index call passing graph rules h document =
     let rows = rows_in index document in
@@ -229,7 +230,7 @@ costs-same index call passing graph rules h document =
     ∙ ap (λ t. cond (holds index.store.paths rows call.filter) t None) (ap (tuple rows graph) h.ruled ∙ h.query rows)
 
 -- the matches among the documents are those of the index
-matches-same : (index : Index) (call : SearchView) (passing : RowsView → Bool) (graph : GraphView) (rules : List Rule) → IsAsked index call passing graph rules → (rows : List Row)
+pub matches-same : (index : Index) (call : SearchView) (passing : RowsView → Bool) (graph : GraphView) (rules : List Rule) → IsAsked index call passing graph rules → (rows : List Row)
     → matches_among passing graph rules (documents_of index.store.paths (uses_in index) rows) ≡ map as_match (filter_map (match_of index call) rows)
 matches-same index call passing graph rules is [] = refl
 matches-same index call passing graph rules is (r ∷ rows) =

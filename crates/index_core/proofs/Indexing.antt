@@ -1,26 +1,23 @@
 -- The row index of an index through its changes.
-use Rattle.std.proofs.Common.{◌≡◌, ℕ, suc, ◌+◌, ◌<◌, ◌≤◌, Bool, true, false, List, [], ◌∷◌, ◌++◌, length, Option, Some, None, Result, Ok, Err, refl, sym, ap, subst, ◌∙◌, arith}
-use Rattle.std.specs.Prelude.{OnOk, OnErr, IfSome, bytes_eq, not}
+use Rattle.std.proofs.Common.{◌≡◌, ℕ, suc, ◌≤◌, Bool, true, false, List, [], ◌∷◌, ◌++◌, length, Some, None, Result, Ok, Err, refl, sym, ap, subst, ◌∙◌, arith}
+use Rattle.std.specs.Prelude.{OnOk, OnErr, bytes_eq, not}
 use Rattle.std.specs.List.{filter}
 use Rattle.std.proofs.lemmas.Bool.{cond_both, cond-true, cond-false}
 use Rattle.doc_rows.specs.declared.path_use.PathUse.{PathUse}
 use Rattle.doc_index.specs.Documents.{documents_of}
 use Rattle.doc_index.specs.Left.{without_named, without_all}
 use Rattle.doc_index.specs.Named.{is_named}
-use Rattle.doc_search.specs.Ranked.{RankedBelow}
 use Rattle.doc_store.specs.declared.rows.StoreRow.{StoreRow}
 use Rattle.doc_store.specs.Store.{Row, Store, id_of, all_stored}
 use Rattle.doc_store.specs.StoreView.{AdmissionView, IsAdmitted}
 use Rattle.doc_store.specs.Sound.{Increase, AreApart, StandOnce, CoverRows, IsSound}
 use Rattle.doc_store.proofs.SoundLemmas.{sound-all_stored}
 use Rattle.index_settings.specs.View.{SettingsView}
-use Rattle.index_settings.specs.Paths.{first_place, covers}
 use Rattle.row_index.specs.Changes.{IsTight}
 use Rattle.row_index.specs.Standing.{RowIndexView, StandsFor}
-use Rattle.index_core.specs.Fetches.{use_alike}
+use Rattle.search_settings.specs.Uses.{use_alike, uses_from}
 use Rattle.index_core.specs.Indexed.{indexed_of, IsIndexed}
-use Rattle.index_core.specs.Matching.{uses_from}
-use Rattle.index_core.proofs.Settling.{uses-are}
+use Rattle.search_settings.proofs.UseLemmas.{uses-are}
 use Rattle.index_core.proofs.Stable.{all-stay}
 
 -- ---- documents that come
@@ -128,26 +125,3 @@ alike-indexed new old s rows alike h = record {
   tight = h.tight;
   sound = h.sound;
 }
-
--- ---- ranks
-
-first-below : (n : ℕ) (path : List ℕ) (entries : List (List ℕ)) → IfSome (first_place n path entries) (λ rank. rank < n + length entries)
-first-below n path [] = tt
-first-below n path (entry ∷ entries) = cond_both (covers path entry) (Some n) (first_place (n + 1) path entries) (λ o. IfSome o (λ rank. rank < n + suc (length entries)))
-    (λ _. omega arith) (λ _. weaker (first_place (n + 1) path entries) (first-below (n + 1) path entries))
-  where
-    weaker : (o : Option ℕ) → IfSome o (λ rank. rank < n + 1 + length entries) → IfSome o (λ rank. rank < n + suc (length entries))
-    weaker None h = tt
-    weaker (Some rank) h = omega (arith, h)
-
-some-below : (a b : ℕ) (o : Option ℕ) → a ≤ b → IfSome o (λ rank. rank < a) → IfSome o (λ rank. rank < b)
-some-below a b None le h = tt
-some-below a b (Some rank) le h = omega (arith, h)
-
-pub ranked-below : (st : SettingsView) (number : ℕ) (paths : List (List ℕ)) → number + length paths ≤ 1000 → length st.searchable_attributes ≤ 65535 → RankedBelow 65535 (uses_from st number paths)
-ranked-below st number [] few many = tt
-ranked-below st number (path ∷ paths) few many = (
-  cond_both _ (Some number) (first_place 0 path st.searchable_attributes) (λ o. IfSome o (λ rank. rank < 65535)) (λ _. omega (arith, few))
-      (λ _. some-below (0 + length st.searchable_attributes) 65535 (first_place 0 path st.searchable_attributes) (omega (arith, many)) (first-below 0 path st.searchable_attributes)),
-  ranked-below st (number + 1) paths (omega (arith, few)) many,
-)

@@ -27,8 +27,9 @@ use Rattle.index_core.specs.Index.{Index, documents}
 use Rattle.index_core.specs.PlanView.{PlanView, Work, replace, update, remove, clear, patch, reset}
 use Rattle.index_core.specs.Plans.{key_for, rows_for, plan_of, documents_planned, patch_planned, planned, after_work, settings_after, unless_spent, applied}
 use Rattle.doc_index.specs.Named.{is_named}
-use Rattle.index_core.specs.Rules.{entries_named}
-use Rattle.index_core.specs.Fetches.{use_alike, needed_under}
+use Rattle.search_settings.specs.Rules.{entries_named}
+use Rattle.search_settings.specs.Uses.{use_alike}
+use Rattle.index_core.specs.Fetches.{needed_under}
 use Rattle.search_base.specs.CostOrder.{before}
 use Rattle.search_base.specs.Hits.{Match}
 use Rattle.list_search.specs.Matches.{ids_of, hits_of}

@@ -1,10 +1,10 @@
 pub mod Behind
 pub mod HitLemmas
 pub mod Finding
+pub mod Opening
+pub mod Tracing
 pub mod InOrder
 pub mod NoWord
-pub mod SynonymLemmas
-pub mod EachOnce
 pub mod Stable
 pub mod Indexing
 pub mod Updating

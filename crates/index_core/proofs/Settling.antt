@@ -1,11 +1,7 @@
 -- Settings that use paths alike.
-use Rattle.std.proofs.Common.{◌≡◌, ℕ, suc, ◌+◌, Bool, true, false, List, [], ◌∷◌, ◌++◌, ◌≤◌, length, drop, Option, None, Some, refl, sym, ap, ap₂, subst, ◌∙◌, append-nil}
-use Rattle.std.specs.Prelude.{◌&&◌, codes}
-use Rattle.std.specs.Bool.{beq}
+use Rattle.std.proofs.Common.{◌≡◌, ℕ, ◌+◌, true, List, [], ◌∷◌, Option, None, refl, sym, ap, ◌∙◌}
+use Rattle.std.specs.Prelude.{codes}
 use Rattle.std.specs.List.{filter_map, flat_map}
-use Rattle.std.specs.Cmp.Lexicographic.{pointwise}
-use Rattle.std.proofs.lemmas.List.{drop_all}
-use Rattle.std.proofs.lemmas.Bool.{true≢false, eq-eqb, eqb-true}
 use Rattle.serde_json.specs.Data.{Data}
 use Rattle.serde_json.specs.Find.{get}
 use Rattle.token_words.specs.Tokens.{tokens}
@@ -13,64 +9,10 @@ use Rattle.index_settings.specs.View.{SynonymView, SettingsView}
 use Rattle.index_settings.specs.Values.{texts_in, synonyms_in}
 use Rattle.index_settings.specs.Table.{defaults}
 use Rattle.index_settings.specs.Patch.{chosen, patched}
-use Rattle.doc_rows.specs.declared.path_use.PathUse.{PathUse}
-use Rattle.index_core.specs.Fetches.{same_rank, same_use, use_alike, LeavesUses}
-use Rattle.index_core.specs.QueryWords.{only_word, words_of, rows_under, each_once, QueryWordsView, AreWordsOf, LeavesWords}
-use Rattle.index_core.specs.Matching.{use_of, uses_from}
-
--- ---- the test of uses tells whether they are the same
-
-both : (a b : Bool) → a && b ≡ true → (a ≡ true) × (b ≡ true)
-both true b h = (refl, h)
-both false b h = absurd (true≢false (sym h))
-
-rank-itself : (rank : Option ℕ) → same_rank rank rank ≡ true
-rank-itself None = refl
-rank-itself (Some n) = eq-eqb n n refl
-
-rank-is : (a b : Option ℕ) → same_rank a b ≡ true → a ≡ b
-rank-is None None h = refl
-rank-is None (Some n) h = absurd (true≢false (sym h))
-rank-is (Some m) None h = absurd (true≢false (sym h))
-rank-is (Some m) (Some n) h = ap Some (eqb-true m n h)
-
-bool-itself : (b : Bool) → beq b b ≡ true
-bool-itself true = refl
-bool-itself false = refl
-
-bool-is : (a b : Bool) → beq a b ≡ true → a ≡ b
-bool-is true true h = refl
-bool-is false false h = refl
-bool-is true false h = absurd (true≢false (sym h))
-bool-is false true h = absurd (true≢false (sym h))
-
-uses-themselves : (uses : List PathUse) → pointwise same_use uses uses ≡ true
-uses-themselves [] = refl
-uses-themselves (x ∷ uses) = ap₂ (λ a b. a && b && pointwise same_use uses uses) (rank-itself x.rank) (bool-itself x.faceted) ∙ uses-themselves uses
-
-pub alike-uses : (xs ys : List PathUse) → xs ≡ ys → pointwise same_use xs ys ≡ true
-alike-uses xs ys e = subst (λ v. pointwise same_use xs v ≡ true) e (uses-themselves xs)
-
-pub uses-are : (xs ys : List PathUse) → pointwise same_use xs ys ≡ true → xs ≡ ys
-uses-are [] [] h = refl
-uses-are [] (y ∷ ys) h = absurd (true≢false (sym h))
-uses-are (x ∷ xs) [] h = absurd (true≢false (sym h))
-uses-are (x ∷ xs) (y ∷ ys) h =
-    let first = both (same_use x y) (pointwise same_use xs ys) h in
-    let parts = both (same_rank x.rank y.rank) (beq x.faceted y.faceted) first.0 in
-    ap₂ (λ rank faceted. record { rank = rank; faceted = faceted } ∷ xs) (rank-is x.rank y.rank parts.0) (bool-is x.faceted y.faceted parts.1) ∙ ap (λ v. y ∷ v) (uses-are xs ys first.1)
-
--- each path has a use
-pub uses-length : (st : SettingsView) (number : ℕ) (paths : List (List ℕ)) → length (uses_from st number paths) ≡ length paths
-uses-length st number [] = refl
-uses-length st number (path ∷ paths) = ap suc (uses-length st (number + 1) paths)
-
--- all uses are there
-pub uses-counted : (st : SettingsView) (paths : List (List ℕ)) (number : ℕ) (uses : List PathUse) → length paths ≤ number → uses ++ uses_from st number (drop number paths) ≡ uses_from st 0 paths
-    → length uses ≡ length paths
-uses-counted st paths number uses past told =
-    let none : drop number paths ≡ [] = drop_all number paths past in
-    ap length (sym (append-nil uses) ∙ ap (λ (v : List (List ℕ)). uses ++ uses_from st number v) (sym none) ∙ told) ∙ uses-length st 0 paths
+use Rattle.search_settings.proofs.UseLemmas.{alike-uses}
+use Rattle.search_settings.specs.Uses.{use_alike, use_of, uses_from}
+use Rattle.index_core.specs.Fetches.{LeavesUses, LeavesWords}
+use Rattle.search_settings.specs.QueryWords.{only_word, words_of, rows_under, each_once, QueryWordsView, AreWordsOf}
 
 -- ---- a patch that leaves the uses of paths, and the words for queries
 

@@ -8,7 +8,8 @@ use Rattle.doc_values.specs.Leaves.{found_at, said_of}
 use Rattle.doc_rows.specs.declared.path_use.PathUse.{PathUse}
 use Rattle.doc_rows.specs.Rows.{no_rows, and_rows, path_rows, rows_from}
 use Rattle.index_settings.specs.View.{SettingsView}
-use Rattle.index_core.specs.Matching.{use_of, uses_from, rows_with}
+use Rattle.search_settings.specs.Uses.{use_of, uses_from}
+use Rattle.index_core.specs.Matching.{rows_with}
 use Rattle.doc_values.proofs.Leaves.{members_say}
 use Rattle.doc_store.proofs.NameLemmas.{same_bytes, bytes_eq-turned}
 use Rattle.doc_store.specs.Paths.{has_path}

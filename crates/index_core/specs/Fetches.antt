@@ -1,33 +1,17 @@
 -- How many stored documents a change or a search has to read.
-use Rattle.std.specs.Prelude.{ℕ, ◌≡◌, ◌==◌, ◌&&◌, Bool, true, false, List, length, codes, Option, None, Some, Result, Ok, Err, if◌then◌else◌}
-use Rattle.std.specs.Bool.{beq}
-use Rattle.std.specs.Cmp.Lexicographic.{pointwise}
+use Rattle.std.specs.Prelude.{ℕ, ◌≡◌, List, length, codes, None, Result, Ok, Err, if◌then◌else◌}
 use Rattle.serde_json.specs.Data.{Data}
 use Rattle.serde_json.specs.Find.{get}
-use Rattle.doc_rows.specs.declared.path_use.PathUse.{PathUse}
 use Rattle.doc_store.specs.Store.{externals}
 use Rattle.doc_index.specs.Named.{named}
 use Rattle.index_settings.specs.View.{SettingsView}
 use Rattle.index_settings.specs.Table.{defaults}
 use Rattle.index_settings.specs.Patch.{patched}
-use Rattle.index_core.specs.declared.refusal.SearchRefusal.{SearchRefusal}
+use Rattle.search_settings.specs.declared.refusal.SearchRefusal.{SearchRefusal}
 use Rattle.index_core.specs.Found.{Found}
 use Rattle.index_core.specs.Index.{Index}
-use Rattle.index_core.specs.Matching.{uses_from}
+use Rattle.search_settings.specs.Uses.{use_alike}
 use Rattle.index_core.specs.PlanView.{Work, replace, update, remove, clear, patch, reset}
-
-abbrev pub same_rank : Option ℕ → Option ℕ → Bool
-same_rank None None = true
-same_rank None (Some n) = false
-same_rank (Some m) None = false
-same_rank (Some m) (Some n) = m == n
-
-abbrev pub same_use : PathUse → PathUse → Bool
-same_use a b = same_rank a.rank b.rank && beq a.faceted b.faceted
-
--- both settings use each of these paths alike
-abbrev pub use_alike : SettingsView → SettingsView → List (List ℕ) → Bool
-use_alike s t paths = pointwise same_use (uses_from s 0 paths) (uses_from t 0 paths)
 
 -- a patch names none of the members that say how paths are used
 pub record LeavesUses (members : Data) : Type 0 where
@@ -35,6 +19,11 @@ pub record LeavesUses (members : Data) : Type 0 where
   pub filterable : get (codes "filterableAttributes") members ≡ None
   pub sortable : get (codes "sortableAttributes") members ≡ None
   pub rules : get (codes "rankingRules") members ≡ None
+
+-- a patch names none of the members that give words
+pub record LeavesWords (members : Data) : Type 0 where
+  pub stop_words : get (codes "stopWords") members ≡ None
+  pub synonyms : get (codes "synonyms") members ≡ None
 
 -- all documents, where these settings use some path of the index otherwise than the index does
 abbrev pub needed_under : SettingsView → Index → ℕ

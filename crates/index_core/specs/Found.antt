@@ -1,6 +1,6 @@
 -- What a search finds: the asked slice of the documents that match, by cost and then by internal id, and the counts of
 -- attributes over all of them.
-use Rattle.std.specs.Prelude.{ℕ, ◌+◌, ◌-◌, min, List, [], ◌∷◌, length, map, flat_map, codes, bytes_eq, Option, None, Some, Result, Ok, if◌then◌else◌}
+use Rattle.std.specs.Prelude.{ℕ, ◌+◌, ◌-◌, min, List, length, map, Option, None, Some, Result, Ok, if◌then◌else◌}
 use Rattle.std.specs.Option.{option_map}
 use Rattle.serde_json.specs.Data.{Data}
 use Rattle.search_base.specs.declared.cost_key.CostKey.{CostKey}
@@ -9,16 +9,13 @@ use Rattle.search_base.specs.Hits.{hits_of}
 use Rattle.search_base.specs.Trying.{◌>>◌}
 use Rattle.search_call.specs.SearchView.{SearchView}
 use Rattle.search_call.specs.Windows.{offset_of, limit_of}
-use Rattle.facet_counts.specs.declared.rows.FacetPath.{FacetPath}
 use Rattle.facet_counts.specs.FacetView.{FacetView}
 use Rattle.facet_counts.specs.Counts.{counted}
-use Rattle.facet_counts.specs.Order.{in_order}
-use Rattle.index_settings.specs.View.{SettingsView}
-use Rattle.index_core.specs.declared.refusal.SearchRefusal.{SearchRefusal}
+use Rattle.search_settings.specs.declared.refusal.SearchRefusal.{SearchRefusal}
 use Rattle.index_core.specs.Index.{Index}
 use Rattle.index_core.specs.Matching.{Matching, matching, rows_matching}
-use Rattle.index_core.specs.Rules.{path_named}
-use Rattle.index_core.specs.SearchFaults.{search_fault}
+use Rattle.search_settings.specs.Asked.{facet_paths}
+use Rattle.search_settings.specs.SearchFaults.{search_fault}
 
 -- a document that is found, and the costs by which it stands where it stands, where they are asked for
 pub record FoundHit : Type 0 where
@@ -54,25 +51,6 @@ asked_of most call matches =
     hits_of before (λ m. m.costs) (λ m. m.row.id) matches (offset_of call.window) (window_size most call)
 
 -- ---- counts
-
--- `*` stands for each attribute by which the settings let a search filter
-abbrev pub names_for : SettingsView → List ℕ → List (List ℕ)
-names_for settings name = if bytes_eq name (codes "*") then settings.filterable_attributes else name ∷ []
-
--- the attributes that are counted, in the order of their bytes, each once
-abbrev pub facet_names : SettingsView → List (List ℕ) → List (List ℕ)
-facet_names settings names = in_order (flat_map (names_for settings) names)
-
-abbrev pub facet_path : List (List ℕ) → List ℕ → FacetPath
-facet_path paths name = record { attribute = name; path = path_named paths name }
-
--- the attributes that are counted, each with its path in the registry
-abbrev pub facet_paths : SettingsView → List (List ℕ) → List (List ℕ) → List FacetPath
-facet_paths settings paths names = map (facet_path paths) (facet_names settings names)
-
-abbrev pub paths_asked : SettingsView → List (List ℕ) → Option (List (List ℕ)) → List FacetPath
-paths_asked settings paths None = []
-paths_asked settings paths (Some names) = facet_paths settings paths names
 
 -- the counts of the attributes that these names name, over all documents that match
 abbrev pub counts_of : Index → SearchView → List (List ℕ) → List FacetView

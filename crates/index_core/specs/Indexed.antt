@@ -7,7 +7,7 @@ use Rattle.index_settings.specs.View.{SettingsView}
 use Rattle.row_index.specs.Changes.{IsTight}
 use Rattle.row_index.specs.Documents.{IndexedDocument}
 use Rattle.row_index.specs.Standing.{RowIndexView, StandsFor}
-use Rattle.index_core.specs.Matching.{uses_from}
+use Rattle.search_settings.specs.Uses.{uses_from}
 
 -- the documents of a store with what a search sees of them, under these settings
 abbrev pub indexed_of : SettingsView → Store → List IndexedDocument

@@ -4,12 +4,10 @@ pub mod Index
 pub mod Refusals
 pub mod PlanView
 pub mod Plans
-pub mod QueryWords
-pub mod Rules
 pub mod Matching
-pub mod SearchFaults
 pub mod Found
 pub mod Fetches
+pub mod Opened
 pub mod Laws
 pub mod Indexed
 pub mod Whole

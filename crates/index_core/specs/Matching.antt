@@ -1,5 +1,5 @@
 -- The documents of an index that match a search, each with the costs by which it is ranked.
-use Rattle.std.specs.Prelude.{ℕ, ◌+◌, Bool, List, [], ◌∷◌, map, Option, None, if◌then◌else◌}
+use Rattle.std.specs.Prelude.{ℕ, Bool, List, map, Option, None, if◌then◌else◌}
 use Rattle.std.specs.Option.{option_map}
 use Rattle.std.specs.List.{filter_map}
 use Rattle.serde_json.specs.Data.{Data}
@@ -9,26 +9,14 @@ use Rattle.search_base.specs.Query.{Query, tuple_under}
 use Rattle.search_base.specs.RowsView.{RowsView}
 use Rattle.search_call.specs.SearchView.{SearchView}
 use Rattle.row_filter.specs.Holds.{holds}
-use Rattle.query_graph.specs.Items.{items_of}
-use Rattle.query_graph.specs.ItemReadings.{query_for}
 use Rattle.doc_rows.specs.declared.path_use.PathUse.{PathUse}
 use Rattle.doc_rows.specs.Rows.{rows_of}
 use Rattle.doc_store.specs.Store.{Row}
 use Rattle.index_settings.specs.View.{SettingsView}
-use Rattle.index_settings.specs.Paths.{rank_of, is_faceted}
 use Rattle.index_core.specs.Index.{Index}
-use Rattle.index_core.specs.QueryWords.{stop_words_of, synonym_rows}
-use Rattle.index_core.specs.Rules.{rules_with}
-
--- how the settings use the path of this number in the registry: its rank where it is searched, and whether its values
--- count
-abbrev pub use_of : SettingsView → List ℕ → ℕ → PathUse
-use_of settings path number = record { rank = rank_of settings path number; faceted = is_faceted settings path }
-
--- how the settings use each path, of which the first has this number in the registry
-abbrev pub uses_from : SettingsView → ℕ → List (List ℕ) → List PathUse
-uses_from settings number [] = []
-uses_from settings number (path ∷ paths) = use_of settings path number ∷ uses_from settings (number + 1) paths
+use Rattle.search_settings.specs.QueryWords.{query_with}
+use Rattle.search_settings.specs.Uses.{uses_from}
+use Rattle.search_settings.specs.Rules.{rules_with}
 
 -- how each path of the index is used, in the order of the registry
 abbrev pub uses_in : Index → List PathUse
@@ -45,10 +33,6 @@ rows_in index document = rows_of document index.store.paths (uses_in index)
 -- the rules by which a search ranks documents of the index
 abbrev pub rules_in : Index → SearchView → List Rule
 rules_in index call = rules_with index.settings index.store.paths call.sort
-
--- what a search asks for, under settings that say which words are left out and which stand for others
-abbrev pub query_with : SettingsView → SearchView → Query
-query_with settings call = query_for call.strategy (synonym_rows settings) (items_of call.q (stop_words_of settings))
 
 abbrev pub query_in : Index → SearchView → Query
 query_in index call = query_with index.settings call

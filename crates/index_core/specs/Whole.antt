@@ -5,7 +5,7 @@ use Rattle.index_settings.specs.View.{SettingsView}
 use Rattle.row_index.specs.Standing.{RowIndexView}
 use Rattle.index_core.specs.Indexed.{IsIndexed}
 use Rattle.index_core.specs.Keyed.{IsKeyed}
-use Rattle.index_core.specs.QueryWords.{QueryWordsView, AreWordsOf}
+use Rattle.search_settings.specs.QueryWords.{QueryWordsView, AreWordsOf}
 
 -- the documents stand under the key, the row index and words are those of the store and the settings, and no document
 -- is staged

@@ -8,12 +8,12 @@ ghost use Rattle.index_core.specs.Indexed.{IsIndexed};
 ghost use Rattle.index_core.specs.Refusals.{store_refusal};
 
 use crate::refusal::{CoreFault, of_store};
-use crate::uses::uses_of;
 use doc_index::{Stored, remove_documents, store_documents};
 use doc_store::{DocStore, StoreRow};
 use index_settings::Settings;
 use row_index::RowIndex;
 use search_base::{NoMemory, Word};
+use search_settings::uses_of;
 use std::alloc::Global;
 
 /// Stores documents one after the other, and indexes them. The stored ones of their external ids were read. All memory

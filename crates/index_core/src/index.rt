@@ -1,4 +1,4 @@
-ghost use Rattle.std.specs.Prelude.{◌≡◌, ◌+◌, ◌≤◌, List, true, length, map, take, drop, IfOk, OnOk, OnErr, IsTrue, ◌↔◌, if◌then◌else◌};
+ghost use Rattle.std.specs.Prelude.{◌≡◌, ◌+◌, ◌*◌, ◌≤◌, List, true, false, min, length, map, take, drop, IfOk, OnOk, OnErr, IsTrue, ◌↔◌, if◌then◌else◌};
 ghost use Rattle.std.specs.List.{filter_map};
 ghost use Rattle.std.specs.Option.{option_copied, option_map, is_some};
 ghost use Rattle.search_base.specs.Gives.{Gives, Checks};
@@ -15,28 +15,27 @@ ghost use Rattle.index_core.specs.Refusals.{store_refusal};
 ghost use Rattle.index_core.specs.PlanView.{work_view, IsGood};
 ghost use Rattle.index_core.specs.Plans.{planned, applied, after_work, settings_after, IsPlanFor};
 ghost use Rattle.index_core.specs.Fetches.{needed, hits_needed};
-ghost use Rattle.index_core.specs.Found.{found};
+ghost use Rattle.index_core.specs.Found.{found, most_hits, window_end as end_of_window};
+ghost use Rattle.index_core.specs.Matching.{matching, rules_in};
+ghost use Rattle.index_core.specs.Opened.{opened, opened_in, most_opened, log_state, Opens, is_starved};
 ghost use Rattle.index_core.specs.Ranking.{IsRankingOf};
 ghost use Rattle.index_core.specs.Shown.{result_shown, hit_shown, hit_at, Finds};
 
 use crate::call::{Hit, Listing, SearchResult};
 use crate::change::{joined, remove_named, store_rows};
 use crate::external_ids::ids_of;
+use crate::findings::{Findings, if_asked};
 use crate::image::{copy_of_settings, image_documents, stored_rows};
 use crate::key::{copy_of, text_of};
 use crate::new_settings::{index_of_store, patch_settings, reset_settings};
 use crate::plan::{
     Plan, Work, keeping_key, no_work, planned_patch, planned_replace, planned_update,
 };
-use crate::query_words::QueryWords;
 use crate::ranking::{Ranking, costs_of};
 use crate::read::read;
-use crate::refusal::{CoreFault, SearchFault};
-use crate::rules::rules_of;
-use crate::search::{Findings, asked_paths, check_search, if_asked, window_end, window_start};
+use crate::refusal::CoreFault;
 use crate::update::update_rows;
-use crate::uses::uses_of;
-use bucket_sort::{BucketLog, SilentLog};
+use bucket_sort::BucketLog;
 use doc_index::{clear_documents, read_named};
 use doc_search::search_documents;
 use doc_store::DocStore;
@@ -46,12 +45,12 @@ use index_settings::Settings;
 use row_index::RowIndex;
 use search_base::{DocId, NoMemory, Steps, Word};
 use search_call::SearchCall;
+use search_settings::{
+    QueryWords, SearchFault, asked_paths, check_search, rules_of, uses_of, window_end, window_start,
+};
 use std::alloc::Global;
 use std::marker::Model;
 use std::mem;
-
-// The mark of the buckets that a search opens, which nothing counts here.
-struct Opening;
 
 /// One index, seen as its primary key, its store and its settings. What it keeps so that a search reads no document and
 /// cuts no words of the settings is not seen. Nothing is staged in it between two calls.
@@ -249,27 +248,40 @@ impl IndexCore {
 
     /// What a search finds: its hits, each a stored document, with its costs where these are asked for, the number of
     /// matches, and the counts that it asks for, over all matches. The hits are the asked slice of the documents that
-    /// match, in the order of their costs and then of their internal ids. The settings say which costs count and in which
-    /// order, which paths are searched, which words of a query are left out or stand for others, and how many matches and
-    /// values are counted or handed out.
+    /// match, in the order of their costs and then of their internal ids. The settings say which costs count and in
+    /// which order, which paths are searched, which words of a query are left out or stand for others, and how many
+    /// matches and values are counted or handed out.
     ///
     /// Refused is a search that sorts where the ranking rules do not (`NoSortRule`) or by an attribute that may not be
     /// sorted by (`NotSortable`), then one that filters (`NotFilterable`), and then one that counts (`NotFacet`) by an
     /// attribute that may not be filtered by; the first such attribute is named. Reads no other document than the hits,
     /// and each of them once at most; where it is refused, none.
-    pub fn search<F>(
+    ///
+    /// Each bucket that is opened on the way to the hits is told to the log and is one step: exactly those of the
+    /// definition, in their order, or for want of memory some of them, from the first on. A log that finds no memory
+    /// ends the search so. At each level at most as many are opened as documents match, up to the end of the window.
+    ///
+    /// The `requires` asks nothing of the caller: it keeps a body from putting a log of its own in the place of the one
+    /// that is handed in, so that callers know theirs to be the same.
+    pub fn search<F, G>(
         &self,
         alloc: Global,
         call: &SearchCall,
+        log: &mut Box<dyn BucketLog>,
         fetches: &mut Steps<F>,
+        openings: &mut Steps<G>,
     ) -> Result<SearchResult, SearchFault>
+        requires { Unit {0} }
         ensures answer { Gives result_shown result (found self.now call.now) }
         ensures fetches { IfOk result (λ found. fetches.new ≡ fetches.old + length found.hits.items) }
         ensures at_most { fetches.new ≤ fetches.old + hits_needed (found self.now call.now) }
+        ensures opens { Opens (is_starved result) (opened self.now call.now)
+            (log_state (told log.old) openings.old) (log_state (told log.new) openings.new) }
+        ensures few { openings.new ≤ openings.old + most_opened self.now call.now }
     {
         check_search(alloc, &self.settings, call)?;
         let ranking = self.ranking(alloc, call)?;
-        let Findings { ids, total, facets } = self.find(alloc, call, &ranking)?;
+        let Findings { ids, total, facets } = self.find(alloc, call, &ranking, log, openings)?;
         let hits = self.hits(alloc, call, &ranking, ids.as_slice(), fetches)?;
         Ok(SearchResult {
             hits,
@@ -291,23 +303,28 @@ impl IndexCore {
     }
 
     // Finds the hits of a search, and counts matches and values. No document is read.
-    fn find(
+    fn find<G>(
         &self,
         alloc: Global,
         call: &SearchCall,
         ranking: &Ranking,
+        log: &mut Box<dyn BucketLog>,
+        openings: &mut Steps<G>,
     ) -> Result<Findings, NoMemory>
         requires { IsRankingOf ranking.now self.now call.now }
-        ensures { IfOk result (λ found. Finds self.now call.now (map (λ id. id.0) found.ids.items) found.total
+        ensures found { IfOk result (λ found. Finds self.now call.now (map (λ id. id.0) found.ids.items) found.total
             (option_map (λ facets. facets.items) found.facets)) }
+        ensures opens { OnOk result (Opens false (opened_in self.now call.now)
+            (log_state (told log.old) openings.old) (log_state (told log.new) openings.new)) }
+        ensures starved { OnErr result (Opens true (opened_in self.now call.now)
+            (log_state (told log.old) openings.old) (log_state (told log.new) openings.new)) }
+        ensures few { openings.new ≤ openings.old + length (rules_in self.now call.now)
+            * min (end_of_window (most_hits self.now) call.now) (length (matching self.now call.now)) }
     {
         let asked = asked_paths(alloc, &self.settings, self.store.paths(), call)?;
         let most = self.settings.max_total_hits();
         let start = window_start(call.window);
         let limit = window_end(most, call.window).saturating_sub(start);
-        let log = Box::new(alloc, SilentLog)?;
-        let mut log: Box<dyn BucketLog> = log;
-        let mut openings = Steps::<Opening>::new();
         let found = search_documents(
             alloc,
             &self.store,
@@ -320,8 +337,8 @@ impl IndexCore {
             limit,
             asked,
             self.settings.max_values_per_facet(),
-            &mut log,
-            &mut openings,
+            log,
+            openings,
         )?;
         Ok(Findings {
             ids: found.hits,
@@ -415,8 +432,7 @@ impl IndexCore {
         })
     }
 
-    /// The index as the rows of an image, under a uid. Each document is read back and printed again, so that its text
-    /// is copied.
+    /// The index as the rows of an image, under a uid. The documents share their texts with the index.
     pub fn to_image(&self, alloc: Global, uid: Word) -> Result<ImageIndex, NoMemory>
         ensures uid { IfOk result (λ image. image.uid ≡ uid) }
         ensures index { IfOk result (λ image. index_of (index_view image) ≡ self.now) }

@@ -3,17 +3,17 @@ ghost use Rattle.serde_json.specs.View.{view as data_of};
 ghost use Rattle.doc_store.specs.Sound.{IsSound};
 ghost use Rattle.index_settings.specs.Patch.{patched};
 ghost use Rattle.index_settings.specs.Table.{defaults, patch_fault};
-ghost use Rattle.index_core.specs.Fetches.{use_alike as are_alike, LeavesUses};
-ghost use Rattle.index_core.specs.QueryWords.{AreWordsOf, LeavesWords};
+ghost use Rattle.search_settings.specs.Uses.{use_alike as are_alike};
+ghost use Rattle.index_core.specs.Fetches.{LeavesUses, LeavesWords};
+ghost use Rattle.search_settings.specs.QueryWords.{AreWordsOf};
 ghost use Rattle.index_core.specs.Indexed.{IsIndexed};
 
-use crate::query_words::QueryWords;
-use crate::uses::{use_alike, uses_of};
 use doc_index::index_of_all;
 use doc_store::DocStore;
 use index_settings::{Settings, patch_checked};
 use row_index::RowIndex;
 use search_base::{NoMemory, Steps, Word};
+use search_settings::{QueryWords, use_alike, uses_of};
 use serde_json::Value;
 use std::alloc::Global;
 

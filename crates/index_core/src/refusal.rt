@@ -3,7 +3,7 @@ ghost use Rattle.index_core.specs.Refusals.{store_fault};
 
 use doc_store::{StoreFault, StoreRefusal};
 use index_settings::SettingsRefusal;
-use search_base::{Fault, Word};
+use search_base::Fault;
 
 /// Why an index refuses a change. Documents of a change are numbered from 1.
 #[derive(Debug, Drop)]
@@ -28,22 +28,6 @@ pub enum CoreRefusal {
 
 /// Why an index gives no answer: a refusal, or want of memory.
 pub type CoreFault = Fault<CoreRefusal>;
-
-/// Why an index refuses a search.
-#[derive(Debug, Drop)]
-pub enum SearchRefusal {
-    /// The search sorts, and the ranking rules have no rule `sort`.
-    NoSortRule,
-    /// The settings do not let a search sort by this attribute. Those before it may be sorted by.
-    NotSortable { attribute: Word },
-    /// The settings do not let a search filter by this attribute, the first such in the filter's order.
-    NotFilterable { attribute: Word },
-    /// The settings do not let a search count the values of this attribute, the first such.
-    NotFacet { attribute: Word },
-}
-
-/// Why an index gives no answer to a search: a refusal, or want of memory.
-pub type SearchFault = Fault<SearchRefusal>;
 
 /// What a store's fault is to an index.
 pub(crate) fn of_store(fault: StoreFault) -> CoreFault

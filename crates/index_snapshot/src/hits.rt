@@ -65,6 +65,8 @@ pub fn search<I: IndexedRows, G>(
         (λ rows. holds paths.now rows (view filter.now)) query.now rules.now (I.documents snapshot.now) offset limit)) }
     ensures err_told { OnErr result (GainsPrefix (told log.old) (told log.new) (opened
         (λ rows. holds paths.now rows (view filter.now)) query.now rules.now (I.documents snapshot.now) offset limit)) }
+    ensures err_steps { OnErr result (RisesAtMost openings.old openings.new (length (opened
+        (λ rows. holds paths.now rows (view filter.now)) query.now rules.now (I.documents snapshot.now) offset limit))) }
     ensures few { RisesAtMost openings.old openings.new (length rules.now * min (offset + limit) (length (matches_among
         (λ rows. holds paths.now rows (view filter.now)) query.now rules.now (I.documents snapshot.now)))) }
     ensures none_asked { limit ≡ 0 → openings.new ≡ openings.old }

@@ -20,7 +20,7 @@ use Rattle.bucket_sort.specs.Hits.{costs, hits_of as hits_by}
 use Rattle.rule_buckets.specs.Entries.{entry_of, entry_at, is_match}
 use Rattle.rule_buckets.specs.Rules.{RulesView}
 use Rattle.bucket_sort.specs.declared.log.Opening.{Opening}
-use Rattle.bucket_sort.specs.Told.{GainsPrefix, and_then}
+use Rattle.bucket_sort.specs.Told.{GainsPrefix, RisesAtMost, and_then}
 use Rattle.list_search.specs.Matches.{match_at, matches_among, ids_of, hits_of}
 
 -- ---- a slice of things of any kind is the slice of what stands for them
@@ -84,7 +84,7 @@ module _ (rows : ℕ → RowsView) (query : GraphView) (rules : List Rule) where
   abbrev pub ranked : ℕ → Match
   ranked d = match_at d (costs before (λ level e. entry_at (rows e) query rules level) (length rules) 0 d)
 
-  entries-listed : (d : ℕ) → costs before (λ level e. entry_at (rows e) query rules level) (length rules) 0 d ≡ map (entry_of (rows d) query) rules
+  pub entries-listed : (d : ℕ) → costs before (λ level e. entry_at (rows e) query rules level) (length rules) 0 d ≡ map (entry_of (rows d) query) rules
   entries-listed d = at-levels (length rules) 0 ∙ costs-listed (entry_of (rows d) query) [] rules d
     where
       at-levels : (n level : ℕ) → costs before (λ level e. entry_at (rows e) query rules level) n level d
@@ -95,7 +95,7 @@ module _ (rows : ℕ → RowsView) (query : GraphView) (rules : List Rule) where
           ∙ ap (λ ys. entry_of (rows d) query (get_or rules level Words) ∷ ys) (at-levels n (suc level))
 
   -- the matches are the documents that match, each with its entries
-  matches-ranked : (ids : List ℕ) → matches_among rows query rules ids ≡ map ranked (filter (λ d. is_match (rows d) query) ids)
+  pub matches-ranked : (ids : List ℕ) → matches_among rows query rules ids ≡ map ranked (filter (λ d. is_match (rows d) query) ids)
   matches-ranked [] = refl
   matches-ranked (d ∷ ids) = by (cost_of (rows d).places query.levels) refl (matches-ranked ids)
     where
@@ -155,6 +155,9 @@ told-nothing (Some rows) = ap Some (append-nil rows)
 
 pub gains-nothing : (told : Option (List Opening)) (all : List Opening) → GainsPrefix told told all
 gains-nothing told all = record { gained = []; others = all; parts = refl; told = sym (told-nothing told) }
+
+pub rises-nothing : (n most : ℕ) → RisesAtMost n n most
+rises-nothing n most = record { low = omega arith; high = omega arith }
 
 pub on-err : {T E P : Type 0} (r : Result T E) → P → OnErr r P
 on-err (Ok x) p = tt

@@ -41,6 +41,8 @@ pub fn find<S: RuleSource, G>(
         ≡ openings.old + length (opened (S.rows source.now) query.now rules.now universe.now.ids offset limit)) }
     ensures err_told { OnErr result (GainsPrefix (told log.old) (told log.new)
         (opened (S.rows source.now) query.now rules.now universe.now.ids offset limit)) }
+    ensures err_steps { OnErr result (RisesAtMost openings.old openings.new
+        (length (opened (S.rows source.now) query.now rules.now universe.now.ids offset limit))) }
     ensures few { RisesAtMost openings.old openings.new (length rules.now
         * min (offset + limit) (length (matches_among (S.rows source.now) query.now rules.now universe.now.ids))) }
     ensures none_asked { limit ≡ 0 → openings.new ≡ openings.old }

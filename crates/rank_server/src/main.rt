@@ -7,6 +7,7 @@ ghost use Rattle.std.specs.Prelude.{◌≡◌};
 ghost use Rattle.std.specs.Process.{exit_status};
 ghost use Rattle.search_server.specs.Statuses.{number_of};
 
+use bucket_sort::{BucketLog, SilentLog};
 use link_doors::TcpDoor;
 use outside_io::{FileDisk, StdLink};
 use search_base::Steps;
@@ -15,8 +16,10 @@ use std::env;
 use std::io::{self, ErrorKind};
 use std::process::ExitCode;
 
-// What is counted while the server runs: stored documents that are read.
+// What is counted while the server runs: stored documents that are read, and buckets that are opened.
 struct StoredDocument;
+
+struct OpenedBucket;
 
 // The words after the program's own name.
 fn words(rt: &HostRuntime) -> io::Result<Vec<String>> {
@@ -46,7 +49,11 @@ fn run(rt: &HostRuntime) -> io::Result<Status> {
     let mut door = TcpDoor::new(rt);
     let mut disk_a = disk(rt, "search-a.dat")?;
     let mut disk_b = disk(rt, "search-b.dat")?;
+    // Searches tell nobody what they open.
+    let log = Box::new(rt.alloc(), SilentLog)?;
+    let log: Box<dyn BucketLog> = log;
     let mut fetches: Steps<StoredDocument> = Steps::new();
+    let mut openings: Steps<OpenedBucket> = Steps::new();
     Ok(run_search_server(
         rt.alloc(),
         &words,
@@ -54,7 +61,9 @@ fn run(rt: &HostRuntime) -> io::Result<Status> {
         &mut door,
         &mut disk_a,
         &mut disk_b,
+        log,
         &mut fetches,
+        &mut openings,
     ))
 }
 

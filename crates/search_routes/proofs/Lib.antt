@@ -3,6 +3,7 @@ pub mod MapLemmas
 pub mod Steps
 pub mod LawLemmas
 pub mod NeedLemmas
+pub mod OpenLemmas
 pub mod FitLemmas
 pub mod ImageLemmas
 pub mod RedoLemmas

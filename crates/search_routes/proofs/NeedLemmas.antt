@@ -14,10 +14,10 @@ use Rattle.index_core.specs.PlanView.{PlanView}
 use Rattle.index_core.specs.PlanView as work
 use Rattle.index_core.specs.Plans.{planned}
 use Rattle.index_core.specs.declared.refusal.CoreRefusal.{CoreRefusal}
-use Rattle.index_core.specs.Fetches.{needed, needed_under, same_rank, same_use, use_alike}
+use Rattle.index_core.specs.Fetches.{needed, needed_under}
+use Rattle.search_settings.specs.Uses.{same_rank, same_use, use_alike, uses_from}
 use Rattle.doc_values.specs.Changes.{KindData, patch, reset}
 use Rattle.index_settings.specs.Paths.{rank_of, is_faceted}
-use Rattle.index_core.specs.Matching.{uses_from}
 use Rattle.search_base.specs.Trying.{or_refuse, refused_as}
 use Rattle.request_refusals.specs.declared.refusal.Refusal.TheVariants.{NoIndex}
 use Rattle.search_routes.specs.State.{Indexes}

@@ -6,17 +6,22 @@ use Rattle.std.specs.Map.{set_value, keys_of}
 use Rattle.std.specs.BTreeMap.{is_at}
 use Rattle.std.specs.List.Sorted.{IsStrictlySortedBy}
 use Rattle.std.proofs.lemmas.Map.Steps.{set_value_same}
-use Rattle.doc_values.specs.Changes.{KindData}
+use Rattle.doc_values.specs.Changes.{KindData, change_view}
 use Rattle.http_wire.specs.Stream.{Request}
 use Rattle.http_wire.specs.Reply.{Answer}
+use Rattle.http_wire.specs.Sent.{IsSentAs}
+use Rattle.request_calls.specs.Refusals.{refused}
 use Rattle.http_wire.specs.declared.reply.Reply.{Reply}
 use Rattle.index_core.specs.Index.{Index, empty_index}
 use Rattle.request_refusals.specs.declared.refusal.Refusal.{Refusal}
+use Rattle.bucket_sort.specs.declared.log.Opening.{Opening}
+use Rattle.index_core.specs.Opened.{Opens, is_starved}
+use Rattle.index_core.proofs.Opening.{opens-none, opens-some}
 use Rattle.search_base.specs.declared.fault.Fault.{Fault}
 use Rattle.search_base.specs.declared.fault.Fault.TheVariants as fault
 use Rattle.request_calls.specs.declared.call.Call.{Call}
 use Rattle.request_calls.specs.declared.call.Call.TheVariants as call
-use Rattle.request_calls.specs.Asked.{ReadData, read, search}
+use Rattle.request_calls.specs.Asked.{CallData, ReadData, read, read_view, search, write}
 use Rattle.request_calls.specs.Calls.{call_of, IsCall}
 use Rattle.search_base.specs.Gives.{Fails, Checks}
 use Rattle.request_refusals.specs.declared.refusal.Refusal.TheVariants.{IndexExists}
@@ -25,16 +30,16 @@ use Rattle.index_core.specs.PlanView.{PlanView}
 use Rattle.index_core.specs.Plans.{planned, applied}
 use Rattle.index_core.specs.declared.call.Hit.{Hit as HeldFound}
 use Rattle.index_core.specs.Shown.{hit_shown}
-use Rattle.search_routes.specs.Done.{reply_hit}
+use Rattle.search_routes.specs.Done.{reply_hit, Grows, Steps, Sends, Answers, Answered, Makes, Noted, Performs, held_need, held_most}
 use Rattle.index_core.specs.Found.{Found, found}
-use Rattle.index_core.specs.declared.refusal.SearchRefusal.{SearchRefusal}
+use Rattle.search_settings.specs.declared.refusal.SearchRefusal.{SearchRefusal}
 use Rattle.search_call.specs.SearchView.{SearchView}
 use Rattle.request_replies.specs.Shown.{view_of}
 use Rattle.request_replies.specs.Replies.{accepted}
 use Rattle.search_routes.specs.State.{State, Indexes}
-use Rattle.search_routes.specs.Machine.{Step, id_member_for, core_refusal, with_index, index_after, indexes_after, index_at, index_named, type_of, limits, created, hit_view, hits_answer, search_refusal, changed, filled, emptied, answer_to, outcome, told, is_full, unless_refused, step}
+use Rattle.search_routes.specs.Machine.{Step, id_member_for, core_refusal, with_index, index_after, indexes_after, index_at, index_named, type_of, limits, created, hit_view, hits_answer, search_refusal, changed, filled, emptied, answer_to, outcome, told, is_full, unless_refused, performed, step}
 use Rattle.search_routes.specs.Needs.{needed_fetches}
-use Rattle.search_routes.specs.Done.{Grows, Steps, Sends, Answers, Makes, Performs, held_need}
+use Rattle.search_routes.specs.Openings.{asked_opened, call_opened, opened_by, most_opened_by}
 use Rattle.search_routes.proofs.MapLemmas.{set_value-insert}
 
 -- a bind keeps a refusal
@@ -157,25 +162,46 @@ pub steps_read : (s : State) (c : ReadData) (r : Result Reply (Fault Refusal)) �
 steps_read s c (Ok reply) (a, is, sent) = (told s a, rw is refl, sent, refl)
 steps_read s c (Err f) fails = (fails_bind f (answer_to s.indexes c) _ fails, refl)
 
--- a step that was made or refused, and the reply to that
-pub makes : (old : State) (defined : Result Step Refusal) (done : Result Reply (Fault Refusal)) (reply : Reply) (new : State)
-    → Steps old defined done new → Answers done reply → Makes (unless_refused old defined) old reply new
-makes old defined (Ok given) reply new (t, is, sent, state) same = (false, rw (is, same) sent, rw is state)
-makes old defined (Err fault.NoMemory) reply new (free, state) same = (true, rw same (record { status = refl; body = refl; each = λ closes. refl }), state)
-makes old defined (Err (fault.Refused r)) reply new (is, state) (true, sent) = (true, sent, state)
-makes old defined (Err (fault.Refused r)) reply new (is, state) (false, sent) = (false, rw is sent, rw is state)
+-- A step that was made or refused, and the reply to that. For the reply memory may be wanting after all.
+pub makes : (all : List Opening) (old new : Noted) (defined : Result Step Refusal) (done : Result Reply (Fault Refusal)) (reply : Reply)
+    → Steps old.state defined done new.state → Answers done reply → Opens (is_starved done) all old.log new.log → Makes (unless_refused old.state defined) all old reply new
+makes all old new defined (Ok given) reply (t, is, sent, state) same opens = (false, rw (is, same) sent, rw is state, opens)
+makes all old new defined (Err fault.NoMemory) reply (free, state) same opens =
+    (true, rw same (record { status = refl; body = refl; each = λ closes. refl }), state, opens)
+makes all old new defined (Err (fault.Refused r)) reply (is, state) (true, sent) opens = (true, sent, state, opens-some false all old.log new.log opens)
+makes all old new defined (Err (fault.Refused r)) reply (is, state) (false, sent) opens = (false, rw is sent, rw is state, opens)
+
+-- what was done for a call was done for what asks for it
+asked_made : (old : Noted) (asked : Result CallData Refusal) (what : CallData) (reply : Reply) (new : Noted) → asked ≡ Ok what
+    → Makes (performed old.state what) (call_opened old.state what) old reply new
+    → Makes (unless_refused old.state (asked >>= outcome old.state)) (asked_opened old.state asked) old reply new
+asked_made old asked what reply new is made =
+    subst (λ (r : Result CallData Refusal). Makes (unless_refused old.state (r >>= outcome old.state)) (asked_opened old.state r) old reply new) (sym is) made
+
+-- and what is refused has its own reply
+refused_made : (old : Noted) (asked : Result CallData Refusal) (why : Refusal) (given reply : Reply) (new : Noted) → asked ≡ Err why → IsSentAs given (refused why) → reply ≡ given → new ≡ old
+    → Makes (unless_refused old.state (asked >>= outcome old.state)) (asked_opened old.state asked) old reply new
+refused_made old asked why given reply new is sent same stays =
+    subst (λ (r : Result CallData Refusal). Makes (unless_refused old.state (r >>= outcome old.state)) (asked_opened old.state r) old reply new) (sym is)
+    (false, rw same sent, ap (λ n. n.state) stays, subst (λ (n : Noted). Opens false [] old.log n.log) (sym stays) (opens-none false old.log))
 
 -- a request's call was performed
-pub step_made : (s : State) (q : Request) (call : Call) (reply : Reply) (new : State)
-    → IsCall call (call_of q) → Performs s call reply new → Makes (step s q) s reply new
-unfolding step
-step_made s q (call.Refused given) reply new (r, is, sent) (same, state) = (false, rw (is, same) sent, rw is state)
-step_made s q (call.Write change) reply new is (starved, sent, state) = (starved, rw is sent, rw is state)
-step_made s q (call.Read c) reply new is (starved, sent, state) = (starved, rw is sent, rw is state)
+pub step_made : (old : Noted) (q : Request) (call : Call) (reply : Reply) (new : Noted) → IsCall call (call_of q) → Performs old call reply new → Answered old q reply new
+unfolding step opened_by
+step_made old q (call.Refused given) reply new (why, is, sent) (same, stays) = refused_made old (call_of q) why given reply new is sent same stays
+step_made old q (call.Write change) reply new is made = asked_made old (call_of q) (write (change_view change)) reply new is made
+step_made old q (call.Read c) reply new is made = asked_made old (call_of q) (read (read_view c)) reply new is made
 
--- and what it needs is what the request needs
+-- what it needs is what the request needs
 pub need_made : (s : State) (q : Request) (call : Call) → IsCall call (call_of q) → held_need s call ≡ needed_fetches s q
 unfolding needed_fetches
 need_made s q (call.Refused given) (r, is, sent) = rw is refl
 need_made s q (call.Write change) is = rw is refl
 need_made s q (call.Read c) is = rw is refl
+
+-- and it opens at most as many buckets
+pub most_made : (s : State) (q : Request) (call : Call) → IsCall call (call_of q) → held_most s call ≡ most_opened_by s q
+unfolding most_opened_by
+most_made s q (call.Refused given) (r, is, sent) = rw is refl
+most_made s q (call.Write change) is = rw is refl
+most_made s q (call.Read c) is = rw is refl

@@ -2,6 +2,7 @@ pub mod State
 pub mod Machine
 pub mod Good
 pub mod Needs
+pub mod Openings
 pub mod Chosen
 pub mod Done
 pub mod Images

@@ -16,8 +16,8 @@ use Rattle.index_core.specs.Plans.{planned, applied}
 use Rattle.index_core.specs.Found.{Found, FoundHit, found}
 use Rattle.index_core.specs.declared.refusal.CoreRefusal.{CoreRefusal}
 use Rattle.index_core.specs.declared.refusal.CoreRefusal.TheVariants as core
-use Rattle.index_core.specs.declared.refusal.SearchRefusal.{SearchRefusal}
-use Rattle.index_core.specs.declared.refusal.SearchRefusal.TheVariants as asked
+use Rattle.search_settings.specs.declared.refusal.SearchRefusal.{SearchRefusal}
+use Rattle.search_settings.specs.declared.refusal.SearchRefusal.TheVariants as asked
 use Rattle.request_refusals.specs.declared.refusal.Refusal.{Refusal}
 use Rattle.request_refusals.specs.declared.refusal.Refusal.TheVariants.{NoIndex, IndexExists, NoDocument, KeyDiffers, NoCandidate, SeveralCandidates, MissingId, BadId, ChangesSpent, IndexesSpent, IdsSpent, PathsSpent, NoSortRule, NotSortable, NotFilterable, NotFacet}
 use Rattle.search_base.specs.Trying.{◌>>=◌, ◌>>◌, first_of, refuse_if, or_refuse, refused_as}

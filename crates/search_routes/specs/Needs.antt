@@ -18,8 +18,8 @@ use Rattle.search_routes.specs.Machine.{index_at, slice}
 
 -- ---- changes
 
--- The documents that are added, updated or removed and were there before; and all, where other settings search other
--- paths. A change that is refused by its key or its ids needs none.
+-- The documents that are added, updated or removed and were there before; and all, where other settings use some path
+-- otherwise. A change that is refused by its key or its ids needs none.
 abbrev pub plan_need : Result PlanView CoreRefusal → Index → ℕ
 plan_need (Ok plan) i = needed plan.work i
 plan_need (Err why) i = 0

@@ -1,5 +1,6 @@
 ghost use Rattle.std.specs.Prelude.{◌≡◌, ◌+◌, ◌<◌, ◌≤◌, IfOk, OnOk, OnErr};
 ghost use Rattle.doc_values.specs.Changes.{kind_view, change_view};
+ghost use Rattle.index_core.specs.Opened.{log_state, Opens as OpensBuckets, is_starved};
 ghost use Rattle.index_image.specs.Image.{state_at};
 ghost use Rattle.index_image.specs.Rows.{image_view};
 ghost use Rattle.index_image.specs.State.{IsState};
@@ -9,6 +10,7 @@ ghost use Rattle.search_routes.specs.Done.{Sends, Steps as MakesStep};
 ghost use Rattle.search_routes.specs.Images.{Opens, Spells, image_need, need_of, state_of};
 ghost use Rattle.search_routes.specs.Machine.{answer_to, changed, empty_state, most_changes};
 ghost use Rattle.search_routes.specs.Needs.{change_need, read_need};
+ghost use Rattle.search_routes.specs.Openings.{read_opened, read_most};
 ghost use Rattle.search_routes.specs.Redo.{Redoes, redo_need, redone};
 
 use crate::changes::change_indexes;
@@ -16,6 +18,7 @@ use crate::images::{indexes_of, rows_of};
 use crate::indexes::Indexes;
 use crate::reads::read_indexes;
 use crate::redoing::{first_byte, recorded_change};
+use bucket_sort::BucketLog;
 use change_payloads::ImageFault;
 use doc_values::Change;
 use http_wire::Reply;
@@ -147,16 +150,21 @@ impl Machine {
         }
     }
 
-    /// Answers a call that changes nothing.
-    pub(crate) fn read<F>(
+    /// Answers a call that changes nothing. Each bucket that it opens is told to the log.
+    pub(crate) fn read<F, G>(
         &self,
         alloc: Global,
         call: ReadCall,
+        log: &mut Box<dyn BucketLog>,
         fetches: &mut Steps<F>,
+        openings: &mut Steps<G>,
     ) -> Result<Reply, Fault<Refusal>>
         ensures answer { Sends (answer_to self.now.indexes (read_view call)) result }
         ensures fetched { fetches.new ≤ fetches.old + read_need self.now.indexes (read_view call) }
+        ensures opens { OpensBuckets (is_starved result) (read_opened self.now.indexes (read_view call))
+            (log_state (told log.old) openings.old) (log_state (told log.new) openings.new) }
+        ensures few { openings.new ≤ openings.old + read_most self.now.indexes (read_view call) }
     {
-        read_indexes(alloc, &self.indexes, call, fetches)
+        read_indexes(alloc, &self.indexes, call, log, fetches, openings)
     }
 }

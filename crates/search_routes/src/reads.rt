@@ -1,17 +1,20 @@
 // The calls that change nothing, one function a route.
 ghost use Rattle.std.specs.Prelude.{◌≡◌, ◌+◌, ◌≤◌, IfOk, map, Ok};
 ghost use Rattle.std.specs.Option.{option_copied, option_map};
+ghost use Rattle.index_core.specs.Opened.{log_state, Opens, is_starved};
 ghost use Rattle.index_core.specs.Shown.{result_shown};
 ghost use Rattle.request_calls.specs.Asked.{read_view};
 ghost use Rattle.request_calls.specs.Asked as asked;
 ghost use Rattle.search_routes.specs.Done.{Sends, reply_hit};
 ghost use Rattle.search_routes.specs.Machine.{answer_to, hits_answer, search_refusal as refusal_of_search};
 ghost use Rattle.search_routes.specs.Needs.{read_need};
+ghost use Rattle.search_routes.specs.Openings.{read_opened, read_most};
 
 use crate::indexes::{Indexes, index_named, index_values};
+use bucket_sort::BucketLog;
 use facet_counts::FacetReply;
 use http_wire::Reply;
-use index_core::{Hit as FoundHit, SearchRefusal, SearchResult};
+use index_core::{Hit as FoundHit, SearchResult};
 use index_settings::Settings;
 use request_calls::ReadCall;
 use request_refusals::Refusal;
@@ -21,17 +24,24 @@ use request_replies::{
 };
 use search_base::{Fault, NoMemory, Steps, Word};
 use search_call::SearchCall;
+use search_settings::SearchRefusal;
 use std::alloc::Global;
 
-/// Answers a call from the indexes. `fetches` counts the documents that are read.
-pub(crate) fn read_indexes<F>(
+/// Answers a call from the indexes. `fetches` counts the documents that are read, and `openings` the buckets that are
+/// opened, each of which is told to the log.
+pub(crate) fn read_indexes<F, G>(
     alloc: Global,
     indexes: &Indexes,
     call: ReadCall,
+    log: &mut Box<dyn BucketLog>,
     fetches: &mut Steps<F>,
+    openings: &mut Steps<G>,
 ) -> Result<Reply, Fault<Refusal>>
     ensures answer { Sends (answer_to indexes.now.entries (read_view call)) result }
     ensures fetched { fetches.new ≤ fetches.old + read_need indexes.now.entries (read_view call) }
+    ensures opens { Opens (is_starved result) (read_opened indexes.now.entries (read_view call))
+        (log_state (told log.old) openings.old) (log_state (told log.new) openings.new) }
+    ensures few { openings.new ≤ openings.old + read_most indexes.now.entries (read_view call) }
 {
     match call {
         ReadCall::Health => Ok(health_reply(alloc)?),
@@ -47,7 +57,9 @@ pub(crate) fn read_indexes<F>(
             show_document(alloc, indexes, &uid, id, &fields, fetches)
         }
         ReadCall::Settings { uid } => show_settings(alloc, indexes, &uid),
-        ReadCall::Search { uid, call } => search(alloc, indexes, &uid, &call, fetches),
+        ReadCall::Search { uid, call } => {
+            search(alloc, indexes, &uid, &call, log, fetches, openings)
+        }
     }
 }
 
@@ -121,18 +133,23 @@ fn show_settings(alloc: Global, indexes: &Indexes, uid: &Word) -> Result<Reply, 
     Ok(settings_reply(alloc, index.settings())?)
 }
 
-fn search<F>(
+fn search<F, G>(
     alloc: Global,
     indexes: &Indexes,
     uid: &Word,
     call: &SearchCall,
+    log: &mut Box<dyn BucketLog>,
     fetches: &mut Steps<F>,
+    openings: &mut Steps<G>,
 ) -> Result<Reply, Fault<Refusal>>
     ensures answer { Sends (answer_to indexes.now.entries (asked.search uid.now call.now)) result }
     ensures fetched { fetches.new ≤ fetches.old + read_need indexes.now.entries (asked.search uid.now call.now) }
+    ensures opens { Opens (is_starved result) (read_opened indexes.now.entries (asked.search uid.now call.now))
+        (log_state (told log.old) openings.old) (log_state (told log.new) openings.new) }
+    ensures few { openings.new ≤ openings.old + read_most indexes.now.entries (asked.search uid.now call.now) }
 {
     let index = index_named(indexes, uid)?;
-    let found = match index.search(alloc, call, fetches) {
+    let found = match index.search(alloc, call, log, fetches, openings) {
         Ok(found) => found,
         Err(Fault::Refused(refusal)) => return Err(Fault::Refused(search_refusal(refusal))),
         Err(Fault::NoMemory) => return Err(Fault::NoMemory),

@@ -5,3 +5,4 @@ pub mod Runs
 pub mod Serving
 pub mod Visits
 pub mod FewWords
+pub mod Replying

@@ -21,6 +21,7 @@ pub record LeftBy (kept : List ℕ) (last final : LinkState) : Type 0 where
   pub told : final.told ≡ last.told
   pub state : final.state ≡ last.state
   pub fetches : final.fetches ≡ last.fetches
+  pub log : final.log ≡ last.log
   pub read_faults : final.read_faults ≡ last.read_faults
   pub write_faults : final.write_faults ≡ last.write_faults
   pub disk_a : final.disk_a ≡ last.disk_a

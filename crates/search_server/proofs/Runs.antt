@@ -6,7 +6,9 @@ use Rattle.http_wire.specs.Stream.{Request, Stream, Follows, Takes, IsAwake, aft
 use Rattle.search_routes.specs.State.{State}
 use Rattle.search_routes.specs.Chosen.{state_after}
 use Rattle.search_routes.specs.Needs.{needed_fetches}
-use Rattle.search_server.specs.Run.{Event, requests_of, replies, reply_to, after, needs}
+use Rattle.search_routes.specs.Openings.{opened_by, most_opened_by}
+use Rattle.index_core.specs.Opened.{LogState, Opens}
+use Rattle.search_server.specs.Run.{Event, requests_of, replies, reply_to, after, needs, Logs, most_over}
 
 -- one more request
 pub follows_more : (s : Stream) (qs : List Request) (t : Stream) (q : Request) (rest : List ℕ)
@@ -35,6 +37,19 @@ pub needs_more : (s : State) (events : List Event) (e : Event) → needs s (even
 needs_more s [] e = omega arith
 needs_more s (f ∷ events) e =
     let more = needs_more (state_after s f.request f.starved) events e in
+    omega (arith, more)
+
+-- the log of one more event
+pub logs_more : (s : State) (events : List Event) (e : Event) (old here new : LogState)
+    → Logs s events old here → Opens e.starved (opened_by (after s events) e.request) here new → Logs s (events ++ e ∷ []) old new
+logs_more s [] e old here new logs opens = (new, subst (λ v. Opens e.starved (opened_by s e.request) v new) logs opens, refl)
+logs_more s (f ∷ events) e old here new (between, first, logs) opens =
+    (between, first, logs_more (state_after s f.request f.starved) events e between here new logs opens)
+
+pub most_more : (s : State) (events : List Event) (e : Event) → most_over s (events ++ e ∷ []) ≡ most_over s events + most_opened_by (after s events) e.request
+most_more s [] e = omega arith
+most_more s (f ∷ events) e =
+    let more = most_more (state_after s f.request f.starved) events e in
     omega (arith, more)
 
 pub requests_more : (events : List Event) (e : Event) → requests_of (events ++ e ∷ []) ≡ requests_of events ++ e.request ∷ []

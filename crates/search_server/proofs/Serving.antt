@@ -10,8 +10,10 @@ use Rattle.http_wire.specs.declared.HeadKind.{HeadKind}
 use Rattle.search_routes.specs.State.{State}
 use Rattle.search_routes.specs.Chosen.{state_after}
 use Rattle.search_routes.specs.Needs.{needed_fetches}
+use Rattle.search_routes.specs.Openings.{opened_by, most_opened_by}
+use Rattle.index_core.specs.Opened.{LogState, Opens}
 use Rattle.search_server.specs.LinkState.{LinkState}
-use Rattle.search_server.specs.Run.{Event, requests_of, replies, reply_to, after, end_replies}
+use Rattle.search_server.specs.Run.{Event, requests_of, replies, reply_to, after, end_replies, Logs}
 use Rattle.search_server.specs.Turns.{Replied, ReplyCut, NotRecorded, NoneTaken, Quiet, TurnIs, end_by}
 use Rattle.search_server.specs.declared.status.LinkEnd.{LinkEnd}
 use Rattle.search_server.specs.declared.turn.Turn.{Turn}
@@ -24,7 +26,7 @@ use Rattle.search_server.specs.Passed.{PassedIfDue}
 use Rattle.search_server.specs.Statuses.{DiskRose, IsCaused, IsGoing}
 use Rattle.search_server.proofs.Progress.{Progress, LeftBy}
 use Rattle.search_server.specs.Served.{join, Went, Served, Answers, FirstAnswers, CutAnswers, GivenAnswers, IsUnfinished, Unrecorded}
-use Rattle.search_server.proofs.Runs.{follows_more, replies_more, after_more, needs_more, requests_more, known_rest, given_of}
+use Rattle.search_server.proofs.Runs.{follows_more, replies_more, after_more, needs_more, logs_more, most_more, requests_more, known_rest, given_of}
 use Rattle.http_wire.proofs.Writes.{append_known-append}
 
 -- pieces and one more
@@ -39,13 +41,13 @@ append_none None = refl
 append_none (Some xs) = ap (λ (v : List ℕ). Some v) (append-nil xs)
 
 went_nowhere : (s : LinkState) → Went s s 0 []
-went_nowhere s = record { state = refl; fetched = omega arith; count = refl }
+went_nowhere s = record { state = refl; fetched = omega arith; logged = refl; opened = omega arith; count = refl }
 
 pub starts : (bytes : List ℕ) (start here : LinkState) → here.pending ≡ Some bytes → here.told ≡ start.told → here.state ≡ start.state
-    → here.fetches ≡ start.fetches → Progress bytes start here 0 false
-starts bytes start here pending told state fetches = record {
+    → here.fetches ≡ start.fetches → here.log ≡ start.log → Progress bytes start here 0 false
+starts bytes start here pending told state fetches log = record {
   events = [];
-  went = record { state = state; fetched = omega (arith, fetches); count = refl };
+  went = record { state = state; fetched = omega (arith, fetches); logged = log; opened = omega (arith, ap (λ (v : LogState). v.opened) log); count = refl };
   rest = bytes;
   pending_is = pending;
   follows = refl;
@@ -96,22 +98,30 @@ next_reply s0 s n events e at count =
 -- the machine went through one event more
 went_more : (start here new : LinkState) (n : ℕ) (events : List Event) (e : Event) → Went start here n events
     → new.state ≡ state_after here.state e.request e.starved → new.fetches ≤ here.fetches + needed_fetches here.state e.request
+    → Opens e.starved (opened_by here.state e.request) here.log new.log → new.log.opened ≤ here.log.opened + most_opened_by here.state e.request
     → Went start new (n + 1) (events ++ e ∷ [])
-went_more start here new n events e went state fetched =
+went_more start here new n events e went state fetched opens few =
     let all = needs_more start.state events e in
     let need : needed_fetches here.state e.request ≡ needed_fetches (after start.state events) e.request = ap (λ v. needed_fetches v e.request) went.state in
+    let most = most_more start.state events e in
+    let most_here : most_opened_by here.state e.request ≡ most_opened_by (after start.state events) e.request = ap (λ v. most_opened_by v e.request) went.state in
     record {
       state = state ∙ ap (λ v. state_after v e.request e.starved) went.state ∙ sym (after_more start.state events e);
       fetched = omega (arith, all, need, went.fetched, fetched);
+      logged = logs_more start.state events e start.log here.log new.log went.logged
+          (subst (λ v. Opens e.starved (opened_by v e.request) here.log new.log) went.state opens);
+      opened = omega (arith, most, most_here, went.opened, few);
       count = omega (arith, went.count, length-append events (e ∷ []));
     }
 
 -- it went no further
 went_so : (start here new : LinkState) (n : ℕ) (events : List Event) → Went start here n events → new.state ≡ here.state → new.fetches ≡ here.fetches
-    → Went start new n events
-went_so start here new n events went state fetches = record {
+    → new.log ≡ here.log → Went start new n events
+went_so start here new n events went state fetches log = record {
   state = state ∙ went.state;
   fetched = omega (arith, fetches, went.fetched);
+  logged = subst (λ v. Logs start.state events start.log v) (sym log) went.logged;
+  opened = omega (arith, ap (λ (v : LogState). v.opened) log, went.opened);
   count = went.count;
 }
 
@@ -122,7 +132,7 @@ goes_on bytes start old new n closes p less r =
     let F : Bool → Type 0 = λ v. Follows (fresh bytes) (requests_of (p.events ++ r.event ∷ [])) (record { left = most_requests - (n + 1); closed = v; bytes = l.rest }) in
     record {
       events = p.events ++ r.event ∷ [];
-      went = went_more start old new n p.events r.event p.went r.state r.fetched;
+      went = went_more start old new n p.events r.event p.went r.state r.fetched r.opens r.few;
       rest = l.rest;
       pending_is = l.pending_is;
       follows = subst F r.closes_is l.follows;
@@ -145,10 +155,10 @@ with_nothing told0 pieces end none =
 -- the link ended with nothing more to write
 ended : (bytes : List ℕ) (start here final : LinkState) (n : ℕ) (closes : Bool) (end : End) (p : Progress bytes start here n closes)
     → Ends (record { left = most_requests - n; closed = closes; bytes = p.rest }) end → end_replies end ≡ []
-    → final.told ≡ here.told → final.state ≡ here.state → final.fetches ≡ here.fetches → Answers bytes start final n end
-ended bytes start here final n closes end p ends none told state fetches = record {
+    → final.told ≡ here.told → final.state ≡ here.state → final.fetches ≡ here.fetches → final.log ≡ here.log → Answers bytes start final n end
+ended bytes start here final n closes end p ends none told state fetches log = record {
   events = p.events;
-  went = went_so start here final n p.events p.went state fetches;
+  went = went_so start here final n p.events p.went state fetches log;
   requests = (record { left = most_requests - n; closed = closes; bytes = p.rest }, p.follows, ends);
   told = told ∙ p.told_is ∙ with_nothing start.told (replies most_requests start.state p.events) end none;
 }
@@ -162,14 +172,14 @@ pub ends_spent : (bytes : List ℕ) (start here final : LinkState) (n : ℕ) (ke
 ends_spent bytes start here final n kept p e l =
     let none : most_requests - n ≡ 0 = omega arith in
     let A : ℕ → Type 0 = λ v. Answers bytes start final v spent in
-    subst A e (ended bytes start here final n false spent p (refl, none) refl l.told l.state l.fetches)
+    subst A e (ended bytes start here final n false spent p (refl, none) refl l.told l.state l.fetches l.log)
 
 bad_answers : (bytes : List ℕ) (start old new final : LinkState) (n : ℕ) (kind : HeadKind) (number : ℕ) (kept : List ℕ) → Progress bytes start old n false
     → n < most_requests → NoneTaken old new → IfSome old.pending (λ xs. IsBad xs kind number)
     → new.told ≡ append_known old.told (wire (refusal_answer kind) true) → LeftBy kept new final → Answers bytes start final n (bad kind number)
 bad_answers bytes start old new final n kind number kept p less q wrong told l = record {
   events = p.events;
-  went = went_so start old final n p.events p.went (l.state ∙ q.state) (l.fetches ∙ q.fetches);
+  went = went_so start old final n p.events p.went (l.state ∙ q.state) (l.fetches ∙ q.fetches) (l.log ∙ q.log);
   requests = (
     record { left = most_requests - n; closed = false; bytes = p.rest },
     p.follows,
@@ -184,7 +194,7 @@ refusal_cut : (bytes : List ℕ) (start old new final : LinkState) (n : ℕ) (ki
     → WrotePart old.told new.told (wire (refusal_answer kind) true) → LeftBy kept new final → CutAnswers bytes start final n
 refusal_cut bytes start old new final n kind number kept p less q wrong (size, short, told) l = record {
   events = p.events;
-  went = went_so start old final n p.events p.went (l.state ∙ q.state) (l.fetches ∙ q.fetches);
+  went = went_so start old final n p.events p.went (l.state ∙ q.state) (l.fetches ∙ q.fetches) (l.log ∙ q.log);
   stream = record { left = most_requests - n; closed = false; bytes = p.rest };
   follows = p.follows;
   front = replies most_requests start.state p.events;
@@ -198,11 +208,11 @@ reply_cut : (bytes : List ℕ) (start old new final : LinkState) (n : ℕ) (kept
     → ReplyCut (most_requests - n) old new → LeftBy kept new final → CutAnswers bytes start final (n + 1)
 reply_cut bytes start old new final n kept p less r l =
     let longer' : Longer bytes p.events r.event new.pending n = longer bytes start old n r.event new.pending p less r.takes.0 r.takes.1 r.takes.2 in
-    let went : Went start new (n + 1) (p.events ++ r.event ∷ []) = went_more start old new n p.events r.event p.went r.state r.fetched in
+    let went : Went start new (n + 1) (p.events ++ r.event ∷ []) = went_more start old new n p.events r.event p.went r.state r.fetched r.opens r.few in
     let (size, short, told) = r.told in
     record {
       events = p.events ++ r.event ∷ [];
-      went = went_so start new final (n + 1) (p.events ++ r.event ∷ []) went l.state l.fetches;
+      went = went_so start new final (n + 1) (p.events ++ r.event ∷ []) went l.state l.fetches l.log;
       stream = record { left = most_requests - (n + 1); closed = r.event.request.closes; bytes = longer'.rest };
       follows = longer'.follows;
       front = replies most_requests start.state p.events;
@@ -216,11 +226,11 @@ unrecorded : (bytes : List ℕ) (start old new final : LinkState) (n : ℕ) (kep
     → NotRecorded old new → LeftBy kept new final → Unrecorded bytes start final (n + 1)
 unrecorded bytes start old new final n kept p less r l =
     let longer' : Longer bytes p.events r.event new.pending n = longer bytes start old n r.event new.pending p less r.takes.0 r.takes.1 r.takes.2 in
-    let went : Went start new (n + 1) (p.events ++ r.event ∷ []) = went_more start old new n p.events r.event p.went r.state r.fetched in
+    let went : Went start new (n + 1) (p.events ++ r.event ∷ []) = went_more start old new n p.events r.event p.went r.state r.fetched r.opens r.few in
     record {
       front = p.events;
       last = r.event;
-      went = went_so start new final (n + 1) (p.events ++ r.event ∷ []) went l.state l.fetches;
+      went = went_so start new final (n + 1) (p.events ++ r.event ∷ []) went l.state l.fetches l.log;
       stream = record { left = most_requests - (n + 1); closed = r.event.request.closes; bytes = longer'.rest };
       follows = longer'.follows;
       told = l.told ∙ r.told ∙ p.told_is;
@@ -249,7 +259,7 @@ given_answers bytes start old new final n kept p less q opens l =
       unfinished = unfinished;
       answers = record {
         events = p.events;
-        went = went_so start old final n p.events p.went (l.state ∙ q.none.state) (l.fetches ∙ q.none.fetches);
+        went = went_so start old final n p.events p.went (l.state ∙ q.none.state) (l.fetches ∙ q.none.fetches) (l.log ∙ q.none.log);
         requests = (record { left = most_requests - n; closed = false; bytes = kept }, follows, ends);
         told = l.told ∙ q.told ∙ p.told_is ∙ with_nothing start.told (replies most_requests start.state p.events) end none;
       };
@@ -270,18 +280,18 @@ pub served_by : (bytes : List ℕ) (start old new final : LinkState) (n passed :
 served_by bytes start old new final n passed kept turn.Next end p less is ends l = absurd (cc)
 served_by bytes start old new final n passed kept turn.Closed end p less is ends l =
     let on = goes_on bytes start old new n true p less is in
-    as_end link.Done (n + 1) passed end (Promised bytes start final) ends (closed, inr refl, ended bytes start new final (n + 1) true closed on refl refl l.told l.state l.fetches)
+    as_end link.Done (n + 1) passed end (Promised bytes start final) ends (closed, inr refl, ended bytes start new final (n + 1) true closed on refl refl l.told l.state l.fetches l.log)
 served_by bytes start old new final n passed kept turn.End end p less (q, blank) ends l =
     as_end link.Done n passed end (Promised bytes start final) ends (
       between,
       inl refl,
       ended bytes start old final n false between p ((refl, awake n less), known_is old.pending p.rest IsBlank p.pending_is blank) refl
-          (l.told ∙ q.told) (l.state ∙ q.none.state) (l.fetches ∙ q.none.fetches),
+          (l.told ∙ q.told) (l.state ∙ q.none.state) (l.fetches ∙ q.none.fetches) (l.log ∙ q.none.log),
     )
 served_by bytes start old new final n passed kept (turn.CutShort size) end p less (q, some, part) ends l =
     let here : IsPart p.rest × (size ≡ length p.rest) = known_is old.pending p.rest (λ xs. IsPart xs × (size ≡ length xs)) p.pending_is part in
     as_end (link.CutShort size) n passed end (Promised bytes start final) ends
-    (ended bytes start old final n false (rest size) p ((refl, awake n less), here.0, here.1) refl (l.told ∙ q.told) (l.state ∙ q.none.state) (l.fetches ∙ q.none.fetches))
+    (ended bytes start old final n false (rest size) p ((refl, awake n less), here.0, here.1) refl (l.told ∙ q.told) (l.state ∙ q.none.state) (l.fetches ∙ q.none.fetches) (l.log ∙ q.none.log))
 served_by bytes start old new final n passed kept (turn.Bad kind number) end p less (q, wrong, told) ends l =
     as_end (link.BadHead kind number) n passed end (Promised bytes start final) ends (bad_answers bytes start old new final n kind number kept p less q wrong told l)
 served_by bytes start old new final n passed kept turn.ReadFault end p less (q, opens, rose) ends l =
@@ -295,7 +305,7 @@ served_by bytes start old new final n passed kept turn.DiskFault end p less (r, 
 served_by bytes start old new final n passed kept turn.NoMemory end p less q ends l =
     as_end link.NoMemory n passed end (Promised bytes start final) ends (record {
       events = p.events;
-      went = went_so start old final n p.events p.went (l.state ∙ q.none.state) (l.fetches ∙ q.none.fetches);
+      went = went_so start old final n p.events p.went (l.state ∙ q.none.state) (l.fetches ∙ q.none.fetches) (l.log ∙ q.none.log);
       stream = record { left = most_requests - n; closed = false; bytes = p.rest };
       follows = p.follows;
       told = l.told ∙ q.told ∙ p.told_is;

@@ -9,6 +9,7 @@ use Rattle.search_routes.specs.State.{State}
 use Rattle.search_routes.specs.Machine.{empty_state}
 use Rattle.search_routes.specs.Chosen.{answer_of, state_after}
 use Rattle.search_routes.specs.Needs.{needed_fetches}
+use Rattle.search_routes.specs.Openings.{most_opened_by}
 use Rattle.search_server.specs.declared.status.Status.{Status}
 use Rattle.search_server.specs.declared.status.Status.TheVariants.{Done, BadWords, ReadFault, WriteFault, DoorFault, DiskFault, Damaged, CutShort, BadHead, RequestsSpent, NoMemory}
 
@@ -22,14 +23,21 @@ abbrev pub demo_needs : State → List DemoStep → ℕ
 demo_needs s [] = 0
 demo_needs s (d ∷ ds) = needed_fetches s d.request + demo_needs (state_after s d.request false) ds
 
+-- how many buckets they open at most
+abbrev pub demo_openings : State → List DemoStep → ℕ
+demo_openings s [] = 0
+demo_openings s (d ∷ ds) = most_opened_by s d.request + demo_openings (state_after s d.request false) ds
+
 -- what the demo of so many documents prints
 abbrev pub demo_text : ℕ → ℕ → List ℕ
 demo_text count seed = summary count (replied empty_state (steps count seed))
 
--- what was written to the pipe, where it tells that; how many stored documents were read; how often writing failed
+-- what was written to the pipe, where it tells that; how many stored documents were read, and buckets opened; how often
+-- writing failed
 pub record PipeState : Type 0 where
   pub told : Option (List ℕ)
   pub fetches : ℕ
+  pub openings : ℕ
   pub write_faults : ℕ
 
 -- what is written, by the status
@@ -50,3 +58,4 @@ Printed text old new RequestsSpent = ⊥
 pub record ShowsDemo (count seed : ℕ) (old new : PipeState) (status : Status) : Type 0 where
   pub printed : Printed (demo_text count seed) old new status
   pub fetched : new.fetches ≤ old.fetches + demo_needs empty_state (steps count seed)
+  pub opened : new.openings ≤ old.openings + demo_openings empty_state (steps count seed)

@@ -1,6 +1,8 @@
 -- Opening the machine that two disks hold, and what follows.
 use Rattle.std.specs.Prelude.{◌≡◌, ◌⊎◌, ℕ, ◌+◌, ◌≤◌, List, Option, Some, Ok, Err}
 use Rattle.outside_io.specs.Disks.{Contents, fresh}
+use Rattle.bucket_sort.specs.declared.log.Opening.{Opening as OpenedBucket}
+use Rattle.index_core.specs.Opened.{log_state}
 use Rattle.search_routes.specs.State.{State}
 use Rattle.durable_machine.specs.Held.{held, opening_need}
 use Rattle.durable_machine.specs.Durable.{CrashHolds}
@@ -9,32 +11,47 @@ use Rattle.search_server.specs.Statuses.{DiskRose}
 use Rattle.search_server.specs.declared.status.Status.{Status}
 use Rattle.search_server.specs.declared.status.Status.TheVariants.{Done, BadWords, ReadFault, WriteFault, DoorFault, DiskFault, Damaged, CutShort, BadHead, RequestsSpent, NoMemory}
 
--- what a machine is opened from, and what is left of it: how many stored documents were read, and the two disks
+-- what a machine is opened from, and what is left of it: how many stored documents were read and buckets opened, and
+-- the two disks
 pub record Unopened : Type 0 where
   pub fetches : ℕ
+  pub openings : ℕ
   pub disk_a : DiskState
   pub disk_b : DiskState
 
-abbrev pub unopened_state : {K : Type 0} → (K → Option Contents) → (K → ℕ) → ℕ → K → K → Unopened
-unopened_state contents faults fetches disk_a disk_b = record {
+abbrev pub unopened_state : {K : Type 0} → (K → Option Contents) → (K → ℕ) → ℕ → ℕ → K → K → Unopened
+unopened_state contents faults fetches openings disk_a disk_b = record {
   fetches = fetches;
+  openings = openings;
   disk_a = disk_state contents faults disk_a;
   disk_b = disk_state contents faults disk_b;
 }
 
--- the same with a machine
-abbrev pub with_state : State → Unopened → Shared
-with_state state s = record { state = state; fetches = s.fetches; disk_a = s.disk_a; disk_b = s.disk_b }
+-- what a log tells of the buckets that were opened, where it tells it
+abbrev pub Heard : Type 0
+Heard = Option (List OpenedBucket)
+
+-- the same with a machine, and what the log tells
+abbrev pub with_state : State → Heard → Unopened → Shared
+with_state state heard s = record {
+  state = state;
+  fetches = s.fetches;
+  log = log_state heard s.openings;
+  disk_a = s.disk_a;
+  disk_b = s.disk_b;
+}
 
 -- P of the bytes of two disks where nothing is pending, where they tell them
 abbrev pub ForBytes : Unopened → (List ℕ → List ℕ → Type 0) → Type 0
 ForBytes s P = (xs ys : List ℕ) → s.disk_a.contents ≡ Some (fresh xs) → s.disk_b.contents ≡ Some (fresh ys) → P xs ys
 
--- The machine was opened: its state is the one that the disks held, and whatever a crash may now leave holds it.
-pub record Opened (old : Unopened) (found : Shared) : Type 0 where
+-- The machine was opened: its state is the one that the disks held, and whatever a crash may now leave holds it. No
+-- bucket was opened on the way.
+pub record Opened (heard : Heard) (old : Unopened) (found : Shared) : Type 0 where
   pub state : ForBytes old (λ xs ys. held xs ys ≡ Ok found.state)
   pub crash : CrashHolds found.disk_a.contents found.disk_b.contents (λ t. t ≡ found.state)
   pub fetched : ForBytes old (λ xs ys. found.fetches ≤ old.fetches + opening_need xs ys)
+  pub log : found.log ≡ log_state heard old.openings
 
 -- why no machine is opened
 abbrev pub IsUnopened : Unopened → Unopened → Status → Type 0
@@ -57,9 +74,12 @@ pub record NotOpened (old new : Unopened) (status : Status) : Type 0 where
   pub kept : ForBytes old (λ xs ys. (s : State) → held xs ys ≡ Ok s
       → CrashHolds new.disk_a.contents new.disk_b.contents (λ t. t ≡ s))
   pub fetched : ForBytes old (λ xs ys. new.fetches ≤ old.fetches + opening_need xs ys)
+  pub openings : new.openings ≡ old.openings
 
--- A machine was opened, and served from what was found to what was left; or none was, and all else is as it was.
-abbrev pub OpensAndServes : Unopened → Unopened → Status → Type 0 → (Shared → Shared → Type 0) → Type 0
-OpensAndServes old new status AsItWas Serving =
+-- A machine was opened, and served from what was found to what was left; or none was, and all else is as it was. The
+-- log is let go at the end: it told what serving says.
+abbrev pub OpensAndServes : Heard → Unopened → Unopened → Status → Type 0 → (Shared → Shared → Type 0) → Type 0
+OpensAndServes heard old new status AsItWas Serving =
     (NotOpened old new status × AsItWas)
-    ⊎ ((found : Shared) × Opened old found × (end : State) × Serving found (with_state end new))
+    ⊎ ((found : Shared) × Opened heard old found × (end : State) × (last : Heard)
+    × Serving found (with_state end last new))

@@ -1,10 +1,12 @@
 -- A run of the machine: requests one after the other, each of which may find no memory.
-use Rattle.std.specs.Prelude.{ℕ, ◌+◌, ◌-◌, ◌==◌, ◌||◌, Bool, true, List, [], ◌∷◌, ◌++◌, map}
+use Rattle.std.specs.Prelude.{◌≡◌, ℕ, ◌+◌, ◌-◌, ◌==◌, ◌||◌, Bool, true, List, [], ◌∷◌, ◌++◌, map}
 use Rattle.http_wire.specs.Stream.{Request, End, between, closed, spent, rest, bad, most_requests}
 use Rattle.http_wire.specs.Reply.{wire, refusal_answer}
 use Rattle.search_routes.specs.State.{State}
 use Rattle.search_routes.specs.Chosen.{answer_of, state_after}
+use Rattle.index_core.specs.Opened.{LogState, Opens}
 use Rattle.search_routes.specs.Needs.{needed_fetches}
+use Rattle.search_routes.specs.Openings.{opened_by, most_opened_by}
 
 -- a request, and whether it finds no memory
 pub record Event : Type 0 where
@@ -36,6 +38,17 @@ after s (e ∷ events) = after (state_after s e.request e.starved) events
 abbrev pub needs : State → List Event → ℕ
 needs s [] = 0
 needs s (e ∷ events) = needed_fetches s e.request + needs (state_after s e.request e.starved) events
+
+-- the log over a run: each request in turn opens its buckets
+abbrev pub Logs : State → List Event → LogState → LogState → Type 0
+Logs s [] old new = new ≡ old
+Logs s (e ∷ events) old new = (between : LogState) × Opens e.starved (opened_by s e.request) old between
+    × Logs (state_after s e.request e.starved) events between new
+
+-- how many buckets a run opens at most
+abbrev pub most_over : State → List Event → ℕ
+most_over s [] = 0
+most_over s (e ∷ events) = most_opened_by s e.request + most_over (state_after s e.request e.starved) events
 
 -- the reply to what ends a link, if there is one
 abbrev pub end_replies : End → List (List ℕ)

@@ -11,7 +11,7 @@ use Rattle.http_wire.specs.declared.HeadKind.{HeadKind}
 use Rattle.search_routes.specs.State.{State}
 use Rattle.durable_machine.specs.Durable.{CrashHolds}
 use Rattle.search_server.specs.LinkState.{LinkState}
-use Rattle.search_server.specs.Run.{Event, requests_of, replies, after, needs, written}
+use Rattle.search_server.specs.Run.{Event, requests_of, replies, after, needs, written, Logs, most_over}
 use Rattle.search_server.specs.Statuses.{IsCaused, IsGoing}
 use Rattle.search_server.specs.declared.status.LinkEnd.{LinkEnd}
 use Rattle.search_server.specs.declared.status.Status.{Status}
@@ -21,10 +21,13 @@ use Rattle.search_server.specs.declared.status.Status.TheVariants.{Done, BadWord
 abbrev pub join : List (List ℕ) → List ℕ
 join pieces = flat_map (λ piece. piece) pieces
 
--- The machine went through these events, which are so many, and no more documents were read than their requests need.
+-- The machine went through these events, which are so many; no more documents were read than their requests need; and
+-- the log was told the buckets that they open, of which there are so many at most.
 pub record Went (old new : LinkState) (n : ℕ) (events : List Event) : Type 0 where
   pub state : new.state ≡ after old.state events
   pub fetched : new.fetches ≤ old.fetches + needs old.state events
+  pub logged : Logs old.state events old.log new.log
+  pub opened : new.log.opened ≤ old.log.opened + most_over old.state events
   pub count : n ≡ length events
 
 -- The requests in the bytes end so, and all that the run writes for them is written.

@@ -7,7 +7,9 @@ use Rattle.http_wire.specs.Head.{IsBlank}
 use Rattle.http_wire.specs.Stops.{TakesFront}
 use Rattle.http_wire.specs.Reply.{wire, refusal_answer, WrotePart}
 use Rattle.search_routes.specs.Chosen.{state_after}
+use Rattle.index_core.specs.Opened.{Opens}
 use Rattle.search_routes.specs.Needs.{needed_fetches}
+use Rattle.search_routes.specs.Openings.{opened_by, most_opened_by}
 use Rattle.durable_machine.specs.Durable.{CrashHolds}
 use Rattle.search_server.specs.LinkState.{LinkState}
 use Rattle.search_server.specs.Run.{Event, reply_to}
@@ -25,6 +27,8 @@ pub record Replied (left : ℕ) (old new : LinkState) (closes : Bool) : Type 0 w
   pub told : new.told ≡ append_known old.told (reply_to left old.state event)
   pub state : new.state ≡ state_after old.state event.request event.starved
   pub fetched : new.fetches ≤ old.fetches + needed_fetches old.state event.request
+  pub opens : Opens event.starved (opened_by old.state event.request) old.log new.log
+  pub few : new.log.opened ≤ old.log.opened + most_opened_by old.state event.request
   pub closes_is : event.request.closes ≡ closes
 
 -- a request was taken, and a part of its reply was written
@@ -34,6 +38,8 @@ pub record ReplyCut (left : ℕ) (old new : LinkState) : Type 0 where
   pub told : WrotePart old.told new.told (reply_to left old.state event)
   pub state : new.state ≡ state_after old.state event.request event.starved
   pub fetched : new.fetches ≤ old.fetches + needed_fetches old.state event.request
+  pub opens : Opens event.starved (opened_by old.state event.request) old.log new.log
+  pub few : new.log.opened ≤ old.log.opened + most_opened_by old.state event.request
 
 -- a request was taken, and nothing was written, since a disk failed: a crash may leave the state before it or after it
 pub record NotRecorded (old new : LinkState) : Type 0 where
@@ -42,6 +48,8 @@ pub record NotRecorded (old new : LinkState) : Type 0 where
   pub told : new.told ≡ old.told
   pub state : new.state ≡ state_after old.state event.request event.starved
   pub fetched : new.fetches ≤ old.fetches + needed_fetches old.state event.request
+  pub opens : Opens event.starved (opened_by old.state event.request) old.log new.log
+  pub few : new.log.opened ≤ old.log.opened + most_opened_by old.state event.request
   pub crash : CrashHolds new.disk_a.contents new.disk_b.contents (λ t. (t ≡ old.state) ⊎ (t ≡ new.state))
 
 -- no request was taken
@@ -49,6 +57,7 @@ pub record NoneTaken (old new : LinkState) : Type 0 where
   pub pending : new.pending ≡ old.pending
   pub state : new.state ≡ old.state
   pub fetches : new.fetches ≡ old.fetches
+  pub log : new.log ≡ old.log
 
 -- and nothing was written
 pub record Quiet (old new : LinkState) : Type 0 where

@@ -8,10 +8,11 @@
 //! served by these promises from what the one before left and given back once, and that a line for each is written to
 //! the pipe, save for one at which a disk failed (`specs/Links.antt`). Both clauses say how the machine was opened,
 //! or why it was not (`specs/Opening.antt`); the clause `demo`, that what is printed are the totals and ids that a
-//! machine answers to the demo's requests (`specs/Demo.antt`). Contracts see `LinkEnd`, `Status` and `Command` as
-//! they are. Stands on `durable_machine` for the machine on its disks, `change_journal` for why it was not opened,
-//! `search_routes` for the machine of the demo, `http_wire` for the bytes, `outside_io` and `link_doors` for links,
-//! disks and doors, and `demo_input` for the demo.
+//! machine answers to the demo's requests (`specs/Demo.antt`). A log is told, request by request, each bucket that a
+//! search opens (`Logs` in `specs/Run.antt`). Contracts see `LinkEnd`, `Status` and `Command` as they are. Stands on
+//! `durable_machine` for the machine on its disks, `change_journal` for why it was not opened, `search_routes` for the
+//! machine of the demo, `bucket_sort` and `index_core` for logs and what they are told, `http_wire` for the bytes,
+//! `outside_io` and `link_doors` for links, disks and doors, and `demo_input` for the demo.
 #![tactic(auto)]
 
 mod demo;

@@ -2,17 +2,19 @@
 ghost use Rattle.std.specs.Prelude.{◌≡◌, ◌↔◌, ◌≤◌, ℕ, Some, None, false, IfErr, IfOk};
 ghost use Rattle.change_journal.specs.Fits.{IsSettled};
 ghost use Rattle.durable_machine.specs.Durable.{IsDurable};
+ghost use Rattle.index_core.specs.Opened.{log_state};
 ghost use Rattle.search_server.specs.LinkState.{link_state, shared_state};
 ghost use Rattle.search_server.specs.Served.{Serves};
 ghost use Rattle.search_server.specs.Links.{ServesDoor, door_state};
 ghost use Rattle.search_server.specs.Demo.{ShowsDemo};
-ghost use Rattle.search_server.specs.Opening.{NotOpened, Opened, OpensAndServes, unopened_state};
+ghost use Rattle.search_server.specs.Opening.{Heard, NotOpened, Opened, OpensAndServes, unopened_state};
 ghost use Rattle.search_server.specs.Words.{command_of};
 
 use crate::demo::show_demo;
 use crate::links::serve_links;
 use crate::words::{Command, command_of};
 use crate::{Status, serve_link};
+use bucket_sort::BucketLog;
 use change_journal::JournalFault;
 use durable_machine::DurableMachine;
 use link_doors::Door;
@@ -29,13 +31,14 @@ fn open_machine<K: Disk, F>(
 ) -> Result<DurableMachine, Status>
     requires settled_a { IsSettled (K.contents disk_a.old) }
     requires settled_b { IsSettled (K.contents disk_b.old) }
-    ensures opened { IfOk result (λ machine. Opened
-        (unopened_state K.contents K.disk_faults fetches.old disk_a.old disk_b.old)
-        (shared_state K.contents K.disk_faults machine.machine fetches.new disk_a.new disk_b.new)) }
+    ensures opened { IfOk result (λ machine. (heard : Heard) (openings : ℕ) → Opened heard
+        (unopened_state K.contents K.disk_faults fetches.old openings disk_a.old disk_b.old)
+        (shared_state K.contents K.disk_faults machine.machine fetches.new (log_state heard openings)
+        disk_a.new disk_b.new)) }
     ensures durable { IfOk result (λ machine. IsDurable machine (K.contents disk_a.new) (K.contents disk_b.new)) }
-    ensures not_opened { IfErr result (λ status. NotOpened
-        (unopened_state K.contents K.disk_faults fetches.old disk_a.old disk_b.old)
-        (unopened_state K.contents K.disk_faults fetches.new disk_a.new disk_b.new)
+    ensures not_opened { IfErr result (λ status. (openings : ℕ) → NotOpened
+        (unopened_state K.contents K.disk_faults fetches.old openings disk_a.old disk_b.old)
+        (unopened_state K.contents K.disk_faults fetches.new openings disk_a.new disk_b.new)
         status) }
     ensures later_a { K.disk_faults disk_a.old ≤ K.disk_faults disk_a.new }
     ensures later_b { K.disk_faults disk_b.old ≤ K.disk_faults disk_b.new }
@@ -60,37 +63,43 @@ fn open_machine<K: Disk, F>(
 /// is damaged; or `NoMemory`; and whatever a crash may leave still holds what the disks held. `demo COUNT SEED` prints
 /// what a machine that holds nothing answers to the demo, as `show_demo` says. `BadWords` comes exactly for all other
 /// words, and then nothing is touched; `pipe` leaves the door as it was, and `demo` the door and the disks. `fetches`
-/// counts the stored documents that are read.
+/// counts the stored documents that are read, and `openings` the buckets that searches open. The log is told these, and
+/// is let go at the end.
 ///
 /// `ReadFault`, `CutShort`, `BadHead` and `RequestsSpent` come with `pipe` alone, `DoorFault` with `serve` alone,
 /// `DiskFault` and `Damaged` with these two.
-pub fn run_search_server<P: Link, D: Door, K: Disk, F>(
+pub fn run_search_server<P: Link, D: Door, K: Disk, F, G>(
     alloc: Global,
     words: &[String],
     pipe: &mut P,
     door: &mut D,
     disk_a: &mut K,
     disk_b: &mut K,
+    log: Box<dyn BucketLog>,
     fetches: &mut Steps<F>,
+    openings: &mut Steps<G>,
 ) -> Status
     requires none_out { D.is_out door.old ≡ false }
     requires settled_a { IsSettled (K.contents disk_a.old) }
     requires settled_b { IsSettled (K.contents disk_b.old) }
     ensures bad_words { (result ≡ Status.BadWords) ↔ (command_of words.now ≡ None) }
     ensures untouched { command_of words.now ≡ None → (pipe.new ≡ pipe.old) × (door.new ≡ door.old)
-        × (disk_a.new ≡ disk_a.old) × (disk_b.new ≡ disk_b.old) × (fetches.new ≡ fetches.old) }
-    ensures pipe { command_of words.now ≡ Some Command.Pipe → (door.new ≡ door.old) × OpensAndServes
-        (unopened_state K.contents K.disk_faults fetches.old disk_a.old disk_b.old)
-        (unopened_state K.contents K.disk_faults fetches.new disk_a.new disk_b.new)
+        × (disk_a.new ≡ disk_a.old) × (disk_b.new ≡ disk_b.old) × (fetches.new ≡ fetches.old)
+        × (openings.new ≡ openings.old) }
+    ensures pipe { command_of words.now ≡ Some Command.Pipe → (door.new ≡ door.old)
+        × OpensAndServes ((BucketLog-box log).told log.value)
+        (unopened_state K.contents K.disk_faults fetches.old openings.old disk_a.old disk_b.old)
+        (unopened_state K.contents K.disk_faults fetches.new openings.new disk_a.new disk_b.new)
         result (pipe.new ≡ pipe.old)
         (λ found left. (requests passed : ℕ) × Serves
         (link_state P.left P.told P.read_faults P.write_faults pipe.old found)
         (link_state P.left P.told P.read_faults P.write_faults pipe.new left)
         (record { status = result; requests = requests; passed = passed })) }
     ensures serve { (port connections : ℕ) → command_of words.now ≡ Some (Command.Serve port connections)
-        → (P.left pipe.new ≡ P.left pipe.old) × (P.read_faults pipe.new ≡ P.read_faults pipe.old) × OpensAndServes
-        (unopened_state K.contents K.disk_faults fetches.old disk_a.old disk_b.old)
-        (unopened_state K.contents K.disk_faults fetches.new disk_a.new disk_b.new)
+        → (P.left pipe.new ≡ P.left pipe.old) × (P.read_faults pipe.new ≡ P.read_faults pipe.old)
+        × OpensAndServes ((BucketLog-box log).told log.value)
+        (unopened_state K.contents K.disk_faults fetches.old openings.old disk_a.old disk_b.old)
+        (unopened_state K.contents K.disk_faults fetches.new openings.new disk_a.new disk_b.new)
         result ((pipe.new ≡ pipe.old) × (door.new ≡ door.old))
         (λ found left. ServesDoor (link_state D.Link.left D.Link.told D.Link.read_faults D.Link.write_faults) connections
         (door_state D.coming D.returned D.door_faults P.told P.write_faults door.old pipe.old found)
@@ -103,11 +112,13 @@ pub fn run_search_server<P: Link, D: Door, K: Disk, F>(
         (record {
           told = P.told pipe.old;
           fetches = fetches.old;
+          openings = openings.old;
           write_faults = P.write_faults pipe.old;
         })
         (record {
           told = P.told pipe.new;
           fetches = fetches.new;
+          openings = openings.new;
           write_faults = P.write_faults pipe.new;
         })
         result }
@@ -117,6 +128,7 @@ pub fn run_search_server<P: Link, D: Door, K: Disk, F>(
     ensures later_a { K.disk_faults disk_a.old ≤ K.disk_faults disk_a.new }
     ensures later_b { K.disk_faults disk_b.old ≤ K.disk_faults disk_b.new }
 {
+    let mut log = log;
     match command_of(words) {
         None => Status::BadWords,
         Some(Command::Pipe) => match open_machine(alloc, disk_a, disk_b, fetches) {
@@ -127,8 +139,11 @@ pub fn run_search_server<P: Link, D: Door, K: Disk, F>(
                 pipe,
                 disk_a,
                 disk_b,
+                &mut log,
                 fetches,
-            ).status,
+                openings,
+            )
+            .status,
         },
         Some(Command::Serve { port, connections }) => {
             match open_machine(alloc, disk_a, disk_b, fetches) {
@@ -143,11 +158,15 @@ pub fn run_search_server<P: Link, D: Door, K: Disk, F>(
                         door,
                         disk_a,
                         disk_b,
+                        &mut log,
                         fetches,
+                        openings,
                     ),
                 },
             }
         }
-        Some(Command::Demo { count, seed }) => show_demo(alloc, count, seed, pipe, fetches),
+        Some(Command::Demo { count, seed }) => {
+            show_demo(alloc, count, seed, pipe, &mut log, fetches, openings)
+        }
     }
 }

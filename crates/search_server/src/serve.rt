@@ -1,6 +1,7 @@
 // The loop over one link.
 ghost use Rattle.std.specs.Prelude.{◌≤◌};
 ghost use Rattle.durable_machine.specs.Durable.{IsDurable};
+ghost use Rattle.index_core.specs.Opened.{log_state};
 ghost use Rattle.search_server.specs.LinkState.{link_state, shared_state};
 ghost use Rattle.search_server.specs.Passed.{PassedIfDue};
 ghost use Rattle.search_server.specs.Served.{Serves};
@@ -8,6 +9,7 @@ ghost use Rattle.search_server.specs.Statuses.{IsGoing};
 
 use crate::turn::serve_one;
 use crate::{LinkEnd, Status};
+use bucket_sort::BucketLog;
 use durable_machine::DurableMachine;
 use http_wire::Kept;
 use outside_io::{Disk, Link};
@@ -26,25 +28,31 @@ const MOST_REQUESTS: u64 = 1_000_000;
 /// nothing, for `DiskFault`; the replies to the first requests for `NoMemory`. It also says what a
 /// crash may now leave on the disks: where no disk failed, the state after all requests, and for
 /// `DiskFault` that state or the one before the last request. `fetches` counts the stored documents
-/// that are read: at most those that these requests need, one after the other.
+/// that are read: at most those that these requests need, one after the other. The log is told, request by request,
+/// exactly the buckets that searches open, or some of them where one found no memory, and `openings` counts them; a
+/// search that the log refuses is answered as one without memory.
 ///
 /// Where no disk failed, the machine and the disks are fit to go on (`durable`), and a checkpoint that is due was
 /// passed over for want of memory, or was due before with the machine as it is (`due`). After `DiskFault` the disks
 /// are to be opened again.
-pub fn serve_link<P: Link, K: Disk, F>(
+pub fn serve_link<P: Link, K: Disk, F, G>(
     alloc: Global,
     machine: &mut DurableMachine,
     link: &mut P,
     disk_a: &mut K,
     disk_b: &mut K,
+    log: &mut Box<dyn BucketLog>,
     fetches: &mut Steps<F>,
+    openings: &mut Steps<G>,
 ) -> LinkEnd
     requires durable { IsDurable machine.old (K.contents disk_a.old) (K.contents disk_b.old) }
     ensures promise { Serves
         (link_state P.left P.told P.read_faults P.write_faults link.old
-        (shared_state K.contents K.disk_faults machine.old.machine fetches.old disk_a.old disk_b.old))
+        (shared_state K.contents K.disk_faults machine.old.machine fetches.old
+        (log_state ((BucketLog-box log.old).told log.old.value) openings.old) disk_a.old disk_b.old))
         (link_state P.left P.told P.read_faults P.write_faults link.new
-        (shared_state K.contents K.disk_faults machine.new.machine fetches.new disk_a.new disk_b.new))
+        (shared_state K.contents K.disk_faults machine.new.machine fetches.new
+        (log_state ((BucketLog-box log.new).told log.new.value) openings.new) disk_a.new disk_b.new))
         result }
     ensures durable { IsGoing result.status → IsDurable machine.new (K.contents disk_a.new) (K.contents disk_b.new) }
     ensures due { IsGoing result.status → PassedIfDue machine.old machine.new result.passed }
@@ -73,7 +81,9 @@ pub fn serve_link<P: Link, K: Disk, F>(
             &mut kept,
             left,
             &mut passed,
+            log,
             fetches,
+            openings,
         );
         if let Some(end) = turn.end(served, passed) {
             return end;

@@ -2,11 +2,13 @@
 ghost use Rattle.std.specs.Prelude.{◌≡◌, ◌⊎◌, ◌==◌, ◌||◌, ◌<◌, ◌≤◌, true, IfSome};
 ghost use Rattle.std.specs.Io.KnownBytes.{prepend_known};
 ghost use Rattle.durable_machine.specs.Durable.{IsDurable};
+ghost use Rattle.index_core.specs.Opened.{log_state};
 ghost use Rattle.search_server.specs.LinkState.{link_state, shared_state};
 ghost use Rattle.search_server.specs.Passed.{PassedIfDue};
 ghost use Rattle.search_server.specs.Turns.{TurnIs, end_by};
 
 use crate::{LinkEnd, Status};
+use bucket_sort::BucketLog;
 use durable_machine::{Answered, DurableMachine};
 use http_wire::{HeadKind, Kept, WireEnd, read_request, write_refusal, write_reply};
 use outside_io::{Disk, Failed, Link};
@@ -80,8 +82,9 @@ fn count(passed: &mut u64, is_passed: bool)
 }
 
 /// Reads one request and writes its reply, where `left` requests may still come. The reply is begun only once the
-/// request is recorded. `passed` counts the checkpoints that are due and were passed over.
-pub fn serve_one<P: Link, K: Disk, F>(
+/// request is recorded. `passed` counts the checkpoints that are due and were passed over. The log is told each bucket
+/// that the request opens.
+pub fn serve_one<P: Link, K: Disk, F, G>(
     alloc: Global,
     machine: &mut DurableMachine,
     link: &mut P,
@@ -90,14 +93,18 @@ pub fn serve_one<P: Link, K: Disk, F>(
     kept: &mut Kept,
     left: u64,
     passed: &mut u64,
+    log: &mut Box<dyn BucketLog>,
     fetches: &mut Steps<F>,
+    openings: &mut Steps<G>,
 ) -> Turn
     requires durable { IsDurable machine.old (K.contents disk_a.old) (K.contents disk_b.old) }
     ensures turn { TurnIs left
         (link_state (λ l. prepend_known kept.old (P.left l)) P.told P.read_faults P.write_faults link.old
-        (shared_state K.contents K.disk_faults machine.old.machine fetches.old disk_a.old disk_b.old))
+        (shared_state K.contents K.disk_faults machine.old.machine fetches.old
+        (log_state ((BucketLog-box log.old).told log.old.value) openings.old) disk_a.old disk_b.old))
         (link_state (λ l. prepend_known kept.new (P.left l)) P.told P.read_faults P.write_faults link.new
-        (shared_state K.contents K.disk_faults machine.new.machine fetches.new disk_a.new disk_b.new))
+        (shared_state K.contents K.disk_faults machine.new.machine fetches.new
+        (log_state ((BucketLog-box log.new).told log.new.value) openings.new) disk_a.new disk_b.new))
         kept.new result }
     ensures durable { (result ≡ Turn.DiskFault) ⊎ IsDurable machine.new (K.contents disk_a.new) (K.contents disk_b.new) }
     ensures due { (result ≡ Turn.DiskFault) ⊎ PassedIfDue machine.old machine.new passed.new }
@@ -118,7 +125,7 @@ pub fn serve_one<P: Link, K: Disk, F>(
         Err(WireEnd::NoMemory) => Turn::NoMemory,
         Ok(wire) => {
             let closes = wire.closes;
-            match machine.answer(alloc, wire, disk_a, disk_b, fetches) {
+            match machine.answer(alloc, wire, disk_a, disk_b, log, fetches, openings) {
                 Err(Failed) => Turn::DiskFault,
                 Ok(
                     Answered {

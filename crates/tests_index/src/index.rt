@@ -3,18 +3,22 @@ ghost use Rattle.doc_values.specs.Changes.{kind_view};
 ghost use Rattle.index_core.specs.Keyed.{HasKey};
 
 use crate::checks::{add, check, check_text, word};
+use bucket_sort::{BucketLog, Opening, RecordLog, SilentLog};
 use doc_values::{ChangeKind, DocumentText, documents_of};
 use filter_tree::Filter;
-use index_core::{CoreFault, CoreRefusal, IndexCore, SearchRefusal};
+use index_core::{CoreFault, CoreRefusal, IndexCore};
 use index_settings::SettingsRefusal;
 use search_base::{CostKey, Fault, SortKey, Steps, Strategy, Word};
 use search_call::{Criterion, SearchCall, Window};
+use search_settings::SearchRefusal;
 use serde_json::Value;
 use std::alloc::Global;
 use std::process::Abort;
 
-// The mark of the steps that these tests count.
+// The marks of the steps that these tests count.
 struct Fetch;
+
+struct Opened;
 
 const FILMS: &str = r#"[{"id":1,"title":"The Dark Knight","year":2008,"genres":["Action","Drama"]},
 {"id":2,"title":"Dark Knight Rises","year":2012,"genres":["Action"]},
@@ -128,8 +132,16 @@ fn call(rt: &impl Abort, alloc: Global, q: &str, offset: u64, limit: u64) -> Sea
 
 // The ids of the hits, each with a blank behind it, and with its costs where these are asked for; and then the total.
 fn told(rt: &impl Abort, alloc: Global, index: &IndexCore, call: &SearchCall) -> String {
-    let mut fetches = Steps::<Fetch>::new();
-    let result = index.search(alloc, call, &mut fetches).expect(rt, "memory");
+    let log = Box::new(alloc, SilentLog).expect(rt, "memory");
+    let mut log: Box<dyn BucketLog> = log;
+    let result = index.search(
+        alloc,
+        call,
+        &mut log,
+        &mut Steps::<Fetch>::new(),
+        &mut Steps::<Opened>::new(),
+    );
+    let result = result.expect(rt, "memory");
     let mut told = String::new(alloc);
     for hit in &result.hits {
         tell_id(rt, alloc, &hit.document, &mut told);
@@ -352,9 +364,21 @@ fn windows_of_the_films(rt: HostRuntime) {
     }
 }
 
-fn may_not_be_sorted_by(alloc: Global, index: &IndexCore, call: &SearchCall) -> bool {
-    let mut fetches = Steps::<Fetch>::new();
-    let refused = index.search(alloc, call, &mut fetches);
+fn may_not_be_sorted_by(
+    rt: &impl Abort,
+    alloc: Global,
+    index: &IndexCore,
+    call: &SearchCall,
+) -> bool {
+    let log = Box::new(alloc, SilentLog).expect(rt, "memory");
+    let mut log: Box<dyn BucketLog> = log;
+    let refused = index.search(
+        alloc,
+        call,
+        &mut log,
+        &mut Steps::<Fetch>::new(),
+        &mut Steps::<Opened>::new(),
+    );
     matches!(
         refused,
         Err(Fault::Refused(SearchRefusal::NotSortable { .. }))
@@ -367,7 +391,7 @@ fn pages_and_criteria(rt: HostRuntime) {
     let alloc = rt.alloc();
     let mut index = filled(&rt, alloc, FILMS);
     let mut call = sorted_call(&rt, alloc, "year:desc");
-    let refused = may_not_be_sorted_by(alloc, &index, &call);
+    let refused = may_not_be_sorted_by(&rt, alloc, &index, &call);
     check(&rt, refused, "not sortable");
     check_patched(
         &rt,
@@ -500,5 +524,60 @@ fn list_of_the_films(rt: HostRuntime) {
     let index = filled(&rt, rt.alloc(), FILMS);
     for (offset, limit, count) in &LISTINGS {
         check_listing(&rt, rt.alloc(), &index, *offset, *limit, *count);
+    }
+}
+
+fn tell_opening(rt: &impl Abort, opening: &Opening, told: &mut String) {
+    write!(told, "({},", opening.level).expect(rt, "memory");
+    if let CostKey::Number(number) = opening.key {
+        write!(told, "{number}").expect(rt, "memory");
+    }
+    write!(told, ",{}) ", opening.size).expect(rt, "memory");
+}
+
+// What a log is told of the buckets that a search opens: of each its level, its key and its size.
+fn check_openings(
+    rt: &impl Abort,
+    alloc: Global,
+    index: &IndexCore,
+    q: &str,
+    limit: u64,
+    wanted: &str,
+) {
+    let log = Box::new(alloc, RecordLog::new(alloc)).expect(rt, "memory");
+    let mut log: Box<dyn BucketLog> = log;
+    let mut openings = Steps::<Opened>::new();
+    let call = call(rt, alloc, q, 0, limit);
+    let found = index.search(
+        alloc,
+        &call,
+        &mut log,
+        &mut Steps::<Fetch>::new(),
+        &mut openings,
+    );
+    check(rt, found.is_ok(), wanted);
+    let mut told = String::new(alloc);
+    for opening in log.heard().unwrap_or(&[]) {
+        tell_opening(rt, opening, &mut told);
+    }
+    check_text(rt, told.as_str(), wanted, q);
+}
+
+const OPENINGS: [(&str, u64, &str); 3] = [
+    (
+        "dark",
+        20,
+        "(1,0,4) (2,0,4) (3,2,4) (4,0,2) (5,1,1) (5,2,1) (4,1,1) (4,3,1) ",
+    ),
+    ("dark", 1, "(1,0,4) (2,0,4) (3,2,4) (4,0,2) (5,1,1) "),
+    ("dark", 0, ""),
+];
+
+#[test]
+fn a_log_is_told_what_a_search_opens(rt: HostRuntime) {
+    let alloc = rt.alloc();
+    let index = filled(&rt, alloc, FILMS);
+    for (q, limit, wanted) in &OPENINGS {
+        check_openings(&rt, alloc, &index, q, *limit, wanted);
     }
 }

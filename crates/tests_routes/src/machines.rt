@@ -1,4 +1,5 @@
 use crate::checks::{check, check_text, word};
+use bucket_sort::{BucketLog, SilentLog};
 use doc_values::DocumentText;
 use http_wire::{Reply, Wire};
 use index_image::{ImageDocument, ImageIndex, ImageRows, encode};
@@ -363,8 +364,11 @@ fn reply_to(
     body: &str,
 ) -> String {
     let wire = wire(rt, alloc, method, target, body);
+    let log = Box::new(alloc, SilentLog).expect(rt, "memory");
+    let mut log: Box<dyn BucketLog> = log;
     let mut fetches: Steps<()> = Steps::new();
-    let reply = answer(alloc, machine, wire, &mut fetches);
+    let mut openings: Steps<()> = Steps::new();
+    let reply = answer(alloc, machine, wire, &mut log, &mut fetches, &mut openings);
     reply_text(rt, alloc, &reply)
 }
 

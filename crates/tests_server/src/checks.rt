@@ -1,3 +1,4 @@
+use bucket_sort::SilentLog;
 use std::alloc::Global;
 use std::process::Abort;
 use std::str;
@@ -22,4 +23,9 @@ pub(crate) fn add(rt: &impl Abort, bytes: &mut Vec<u8>, more: &[u8]) {
 
 pub(crate) fn text_of<'a>(rt: &impl Abort, bytes: &'a [u8]) -> &'a str {
     str::from_utf8(bytes).expect(rt, "text")
+}
+
+// A log that tells nothing.
+pub(crate) fn silent(rt: &impl Abort, alloc: Global) -> Box<SilentLog> {
+    Box::new(alloc, SilentLog).expect(rt, "memory")
 }

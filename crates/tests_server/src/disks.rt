@@ -2,6 +2,8 @@ ghost use Rattle.std.specs.Prelude.{◌≡◌, Some, []};
 ghost use Rattle.change_journal.specs.Fits.{IsSettled};
 ghost use Rattle.outside_io.specs.MemoryDisk.{contents_of, new_disk};
 
+use crate::checks::silent;
+use bucket_sort::BucketLog;
 use durable_machine::DurableMachine;
 use outside_io::{Link, MemoryDisk};
 use search_base::Steps;
@@ -34,8 +36,19 @@ pub(crate) fn serve_on<P: Link>(
     requires settled_a { IsSettled (Some (contents_of disk_a.old)) }
     requires settled_b { IsSettled (Some (contents_of disk_b.old)) }
 {
+    let mut log: Box<dyn BucketLog> = silent(rt, alloc);
     let mut fetches: Steps<()> = Steps::new();
+    let mut openings: Steps<()> = Steps::new();
     let opened = DurableMachine::opened(alloc, disk_a, disk_b, &mut fetches);
     let mut machine = opened.expect(rt, "a machine");
-    serve_link(alloc, &mut machine, link, disk_a, disk_b, &mut fetches)
+    serve_link(
+        alloc,
+        &mut machine,
+        link,
+        disk_a,
+        disk_b,
+        &mut log,
+        &mut fetches,
+        &mut openings,
+    )
 }

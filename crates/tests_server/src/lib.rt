@@ -11,6 +11,8 @@ mod disks;
 #[cfg(test)]
 mod links;
 #[cfg(test)]
+mod logs;
+#[cfg(test)]
 mod modes;
 #[cfg(test)]
 mod starving;

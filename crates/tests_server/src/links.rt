@@ -30,11 +30,6 @@ const NO_ROUTE: &[u8] =
     b"HTTP/1.1 404 Not Found\r\ncontent-length: 72\r\ncontent-type: application/json\r\n\
     \r\n{\"code\":\"not_found\",\"message\":\"No such route.\",\"type\":\"invalid_request\"}";
 
-const NO_LENGTH: &[u8] =
-    b"HTTP/1.1 411 Length Required\r\ncontent-length: 80\r\ncontent-type: application/json\r\n\
-    connection: close\r\n\r\n{\"code\":\"length_required\",\"message\":\"Length required.\",\
-    \"type\":\"invalid_request\"}";
-
 // A link that gives these bytes, at most so many at a time, and fails at these calls.
 fn link(rt: &impl Abort, alloc: Global, input: &[u8], failing: &[u64], most: usize) -> MemoryLink
     requires { 0 < most }
@@ -125,17 +120,109 @@ fn a_read_or_a_write_that_fails_ends_the_link(rt: HostRuntime) {
     check_served(&rt, alloc, link, Status::WriteFault, 1, hundred);
 }
 
-const BAD_HEAD: &[u8] = b"GET /none HTTP/1.1\n\nPOST / HTTP/1.1\n\nGET /none HTTP/1.1\n\n";
+const ANOTHER: &[u8] = b"GET /none HTTP/1.1\n\n";
+
+// A head, why it is refused and with which number, and the status and the body of the reply.
+const BAD_HEADS: [(&[u8], HeadKind, u64, &str, &str); 5] = [
+    (
+        b"POST / HTTP/1.1\n\n",
+        HeadKind::NoLength,
+        17,
+        "411 Length Required",
+        r#"{"code":"length_required","message":"Length required.","type":"invalid_request"}"#,
+    ),
+    (
+        b"GET / HTTP/1.1\ncontent-length: 16777217\n\n",
+        HeadKind::BodyTooLarge,
+        16777217,
+        "413 Payload Too Large",
+        r#"{"code":"payload_too_large","message":"Body too large.","type":"invalid_request"}"#,
+    ),
+    (
+        b"GET / HTTP/1.1\ncontent-length: 1\ncontent-length: 1\n\na",
+        HeadKind::Malformed,
+        52,
+        "400 Bad Request",
+        r#"{"code":"bad_request","message":"Bad request.","type":"invalid_request"}"#,
+    ),
+    (
+        b"GET / HTTP/1.1\ntransfer-encoding: chunked\n\n",
+        HeadKind::Coded,
+        43,
+        "501 Not Implemented",
+        r#"{"code":"not_implemented","message":"Coded body.","type":"invalid_request"}"#,
+    ),
+    (
+        b"GET / HTTP/1.1\na: \x00\n\n",
+        HeadKind::Malformed,
+        21,
+        "400 Bad Request",
+        r#"{"code":"bad_request","message":"Bad request.","type":"invalid_request"}"#,
+    ),
+];
+
+// A head between two requests is refused by this reply, and the second request is not read.
+fn check_bad_head(
+    rt: &impl Abort,
+    alloc: Global,
+    head: &[u8],
+    end: Status,
+    status: &str,
+    body: &str,
+) {
+    let mut input = bytes(rt, alloc, ANOTHER);
+    add(rt, &mut input, head);
+    add(rt, &mut input, ANOTHER);
+    let refusal = format!(in alloc;
+        "HTTP/1.1 {status}\r\ncontent-length: {}\r\ncontent-type: application/json\r\n\
+        connection: close\r\n\r\n{body}",
+        body.len()
+    );
+    let mut wanted = bytes(rt, alloc, NO_ROUTE);
+    add(rt, &mut wanted, refusal.expect(rt, "memory").as_bytes());
+    let link = link(rt, alloc, &input, &[], 4096);
+    check_served(rt, alloc, link, end, 1, &wanted);
+}
 
 #[test]
 fn a_refused_head_ends_the_link(rt: HostRuntime) {
+    for (head, kind, number, status, body) in &BAD_HEADS {
+        let end = Status::BadHead {
+            kind: *kind,
+            number: *number,
+        };
+        check_bad_head(&rt, rt.alloc(), head, end, status, body);
+    }
+}
+
+fn check_long_head(rt: &impl Abort, alloc: Global, head: &[u8], kind: HeadKind, number: u64) {
+    let end = Status::BadHead { kind, number };
+    let status = "431 Request Header Fields Too Large";
+    let body = r#"{"code":"head_too_large","message":"Head too large.","type":"invalid_request"}"#;
+    check_bad_head(rt, alloc, head, end, status, body);
+}
+
+#[test]
+fn a_head_that_is_too_long_ends_the_link(rt: HostRuntime) {
     let alloc = rt.alloc();
-    let link = link(&rt, alloc, BAD_HEAD, &[], 4096);
-    let mut wanted = bytes(&rt, alloc, NO_ROUTE);
-    add(&rt, &mut wanted, NO_LENGTH);
-    let kind = HeadKind::NoLength;
-    let status = Status::BadHead { kind, number: 17 };
-    check_served(&rt, alloc, link, status, 1, &wanted);
+    for byte in [b'a', b'\n'] {
+        let head = vec![in alloc; byte; 16384].expect(&rt, "memory");
+        check_long_head(&rt, alloc, &head, HeadKind::HeadTooLong, 16384);
+    }
+    let mut head = bytes(&rt, alloc, b"GET / HTTP/1.1\n");
+    for _ in 0..65 {
+        add(&rt, &mut head, b"a: b\n");
+    }
+    add(&rt, &mut head, b"\n");
+    check_long_head(&rt, alloc, &head, HeadKind::TooManyHeaders, 67);
+}
+
+#[test]
+fn line_ends_alone_are_passed_over(rt: HostRuntime) {
+    let alloc = rt.alloc();
+    let input = vec![in alloc; b'\n'; 16383].expect(&rt, "memory");
+    let link = link(&rt, alloc, &input, &[], 4096);
+    check_served(&rt, alloc, link, Status::Done, 0, b"");
 }
 
 // A body, and why it has no documents.
@@ -178,6 +265,15 @@ fn refused_documents_leave_the_link_open(rt: HostRuntime) {
     for (body, message) in &REFUSED {
         check_refused(&rt, rt.alloc(), body, message);
     }
+}
+
+#[test]
+fn documents_that_nest_too_deep_leave_the_link_open(rt: HostRuntime) {
+    let alloc = rt.alloc();
+    let mut body = "[".repeat(alloc, 128).expect(&rt, "memory");
+    let closing = "]".repeat(alloc, 128).expect(&rt, "memory");
+    body.push_str(&closing).expect(&rt, "memory");
+    check_refused(&rt, alloc, &body, "The body is not JSON.");
 }
 
 // What a crash leaves of the disks is opened again.

@@ -1,7 +1,8 @@
 ghost use Rattle.std.specs.Prelude.{◌≡◌, false};
 
-use crate::checks::{bytes, check, check_text, text_of};
+use crate::checks::{bytes, check, check_text, silent, text_of};
 use crate::disks::empty_disk;
+use bucket_sort::BucketLog;
 use link_doors::{Door, MemoryDoor};
 use outside_io::MemoryLink;
 use search_base::Steps;
@@ -65,7 +66,9 @@ fn run_on(
 ) -> Status
     requires { door.old.is_out ≡ false }
 {
+    let log: Box<dyn BucketLog> = silent(rt, alloc);
     let mut fetches: Steps<()> = Steps::new();
+    let mut openings: Steps<()> = Steps::new();
     let mut disk_a = empty_disk(rt, alloc);
     let mut disk_b = empty_disk(rt, alloc);
     run_search_server(
@@ -75,7 +78,9 @@ fn run_on(
         door,
         &mut disk_a,
         &mut disk_b,
+        log,
         &mut fetches,
+        &mut openings,
     )
 }
 

@@ -2,8 +2,9 @@ ghost use Rattle.std.specs.Prelude.{Some};
 ghost use Rattle.change_journal.specs.Fits.{IsSettled};
 ghost use Rattle.outside_io.specs.MemoryDisk.{contents_of};
 
-use crate::checks::{add, bytes, check, check_text, text_of};
+use crate::checks::{add, bytes, check, check_text, silent, text_of};
 use crate::disks::{crashed, serve_on};
+use bucket_sort::BucketLog;
 use link_doors::MemoryDoor;
 use outside_io::{MemoryDisk, MemoryLink};
 use search_base::Steps;
@@ -107,8 +108,20 @@ fn run_on(
     let words = Vec::from_array(alloc, [word]).expect(rt, "memory");
     let door = MemoryDoor::new(alloc, Vec::new(alloc), Vec::new(alloc));
     let mut door = door.expect(rt, "memory");
+    let log: Box<dyn BucketLog> = silent(rt, alloc);
     let mut fetches: Steps<()> = Steps::new();
-    run_search_server(alloc, &words, pipe, &mut door, disk_a, disk_b, &mut fetches)
+    let mut openings: Steps<()> = Steps::new();
+    run_search_server(
+        alloc,
+        &words,
+        pipe,
+        &mut door,
+        disk_a,
+        disk_b,
+        log,
+        &mut fetches,
+        &mut openings,
+    )
 }
 
 fn run(

@@ -1,17 +1,17 @@
 use Rattle.std.proofs.Common.{◌+◌, length, ◌∙◌, sym, ap, ap₂, map, subst}
 use Rattle.filter_tree.specs.View.{view}
 use Rattle.row_filter.specs.Holds.{holds}
-use Rattle.bucket_sort.specs.Told.{and_then, GainsPrefix}
+use Rattle.bucket_sort.specs.Told.{and_then, GainsPrefix, RisesAtMost}
 use Rattle.index_snapshot.specs.Matches.{AreInOrder, opened}
 use Rattle.doc_index.specs.Documents.{documents_of}
 use Rattle.facet_counts.specs.Counts.{counted}
 use Rattle.index_snapshot.specs.Rows.{rows_at}
 use Rattle.index_snapshot.specs.Matches.{matches_among}
 use Rattle.list_search.specs.Matches.{ids_of}
-use Rattle.list_search.proofs.Slices.{gains-nothing, on-err}
+use Rattle.list_search.proofs.Slices.{gains-nothing, rises-nothing, on-err}
 use Rattle.doc_index.proofs.StoreLemmas.{apart-documents}
 use Rattle.doc_search.proofs.MatchLemmas.{in-order, rows-matched}
-use Rattle.doc_search.proofs.ToldLemmas.{gains-all}
+use Rattle.doc_search.proofs.ToldLemmas.{gains-all, rises-all}
 use Rattle.doc_search.proofs.search.search_documents.Goals as goal
 
 pub search-requires-clause-order : goal.search-requires-clause-order
@@ -60,4 +60,21 @@ returns-in_err-facets-clause-err_told g c =
     on-err c.from_residual-in_err-facets.result
     (gains-all _ _ _ (c.in_ok-found.ensures.told
     ∙ ap (and_then _) (ap₂ (λ paths documents. opened (λ rows. holds paths rows (view c.args.filter.now)) c.args.query.now c.args.rules.now documents c.args.offset c.args.limit)
+    c.paths.ensures (c.new-snapshot.ensures ∙ c.in_ok-searched.ensures))))
+
+pub returns-in_err-searched-clause-err_steps : goal.returns-in_err-searched-clause-err_steps
+returns-in_err-searched-clause-err_steps g c = on-err c.from_residual.result (rises-nothing _ _)
+
+pub returns-in_err-found-clause-err_steps : goal.returns-in_err-found-clause-err_steps
+returns-in_err-found-clause-err_steps g c =
+    on-err c.from_residual-in_err-found.result
+    (subst (λ all. RisesAtMost c.args.openings.now c.search.new.openings (length all))
+    (ap₂ (λ paths documents. opened (λ rows. holds paths rows (view c.args.filter.now)) c.args.query.now c.args.rules.now documents c.args.offset c.args.limit)
+    c.paths.ensures (c.new-snapshot.ensures ∙ c.in_ok-searched.ensures)) c.in_err-found.ensures.err_steps)
+
+pub returns-in_err-facets-clause-err_steps : goal.returns-in_err-facets-clause-err_steps
+returns-in_err-facets-clause-err_steps g c =
+    on-err c.from_residual-in_err-facets.result
+    (rises-all _ _ _ (c.in_ok-found.ensures.steps
+    ∙ ap (λ n. c.args.openings.now + n) (ap₂ (λ paths documents. length (opened (λ rows. holds paths rows (view c.args.filter.now)) c.args.query.now c.args.rules.now documents c.args.offset c.args.limit))
     c.paths.ensures (c.new-snapshot.ensures ∙ c.in_ok-searched.ensures))))

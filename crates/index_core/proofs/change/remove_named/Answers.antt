@@ -1,5 +1,5 @@
 use Rattle.std.proofs.Common.{ap, ◌∙◌}
-use Rattle.index_core.specs.Matching.{uses_from}
+use Rattle.search_settings.specs.Uses.{uses_from}
 use Rattle.index_core.proofs.Indexing.{left-indexed}
 use Rattle.index_core.proofs.change.remove_named.Goals as goal
 

@@ -3,7 +3,7 @@ use Rattle.doc_rows.specs.declared.path_use.PathUse.{PathUse}
 use Rattle.doc_index.specs.Documents.{documents_of}
 use Rattle.doc_store.specs.StoreView.{IsAdmitted}
 use Rattle.row_index.specs.Standing.{StandsFor}
-use Rattle.index_core.specs.Matching.{uses_from}
+use Rattle.search_settings.specs.Uses.{uses_from}
 use Rattle.index_core.proofs.Indexing.{Admits, admits, stored-indexed}
 use Rattle.index_core.proofs.change.store_rows.Goals as goal
 use Rattle.index_core.proofs.change.store_rows.Goals.{After-as_slice-4}

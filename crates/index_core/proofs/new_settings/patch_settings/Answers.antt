@@ -1,6 +1,6 @@
 use Rattle.std.proofs.Common.{◌≡◌, sym, subst, true}
 use Rattle.serde_json.specs.View.{view as data_of}
-use Rattle.index_core.specs.Fetches.{use_alike}
+use Rattle.search_settings.specs.Uses.{use_alike}
 use Rattle.index_core.proofs.Settling.{alike-patched}
 use Rattle.index_core.proofs.new_settings.patch_settings.Goals as goal
 

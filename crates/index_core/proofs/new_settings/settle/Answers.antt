@@ -1,5 +1,5 @@
 use Rattle.std.proofs.Common.{sym, ap, ◌∙◌, arith, length}
-use Rattle.index_core.specs.Fetches.{use_alike}
+use Rattle.search_settings.specs.Uses.{use_alike}
 use Rattle.index_core.proofs.Indexing.{alike-indexed}
 use Rattle.index_core.proofs.new_settings.settle.Goals as goal
 

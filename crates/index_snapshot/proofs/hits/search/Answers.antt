@@ -5,7 +5,7 @@ use Rattle.row_filter.specs.Holds.{holds}
 use Rattle.bucket_sort.specs.Told.{and_then, GainsPrefix, RisesAtMost}
 use Rattle.list_search.specs.Matches.{ids_of, hits_of}
 use Rattle.list_search.specs.Matches as lists
-use Rattle.list_search.proofs.Slices.{gains-nothing, on-err}
+use Rattle.list_search.proofs.Slices.{gains-nothing, rises-nothing, on-err}
 use Rattle.index_snapshot.specs.Rows.{rows_at}
 use Rattle.index_snapshot.specs.Matches.{passing}
 use Rattle.index_snapshot.proofs.MatchLemmas.{matches_over}
@@ -22,6 +22,18 @@ returns-in_err-found-clause-err_told g c =
     (subst (λ universe. GainsPrefix ((g.dyn-1.0.entry c.args.log.now.vtable).1.told c.args.log.now.value) ((g.dyn-1.0.entry c.find.new.log.vtable).1.told c.find.new.log.value)
     (lists.opened (rows_at documents) c.args.query.now c.args.rules.now universe c.args.offset c.args.limit))
     (c.in_ok-universe.ensures ∙ ap (λ rows. passing passes (g.I.IndexedRows.documents rows)) c.rows.ensures) c.in_err-found.ensures.err_told)
+
+pub returns-in_err-universe-clause-err_steps : goal.returns-in_err-universe-clause-err_steps
+returns-in_err-universe-clause-err_steps g c = on-err c.from_residual.result (rises-nothing _ _)
+
+pub returns-in_err-found-clause-err_steps : goal.returns-in_err-found-clause-err_steps
+returns-in_err-found-clause-err_steps g c =
+    let documents = g.I.IndexedRows.documents c.args.snapshot.now in
+    let passes = λ (rows : RowsView). holds c.args.paths.now rows (view c.args.filter.now) in
+    on-err c.from_residual-in_err-found.result
+    (subst (λ universe. RisesAtMost c.args.openings.now c.find.new.openings
+    (length (lists.opened (rows_at documents) c.args.query.now c.args.rules.now universe c.args.offset c.args.limit)))
+    (c.in_ok-universe.ensures ∙ ap (λ rows. passing passes (g.I.IndexedRows.documents rows)) c.rows.ensures) c.in_err-found.ensures.err_steps)
 
 pub returns-in_err-found-clause-few : goal.returns-in_err-found-clause-few
 returns-in_err-found-clause-few g c =

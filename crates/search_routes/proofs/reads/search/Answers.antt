@@ -1,10 +1,14 @@
-use Rattle.std.proofs.Common.{Ok, subst}
+use Rattle.std.proofs.Common.{true, false, Ok, subst}
 use Rattle.index_core.specs.Found.{found}
+use Rattle.index_core.specs.Opened.{Opens, log_state, is_starved, opened, most_opened}
+use Rattle.index_core.proofs.Opening.{opens-some, opens-either}
 use Rattle.index_core.specs.Shown.{result_shown}
 use Rattle.search_routes.specs.Done.{Sends}
-use Rattle.search_routes.specs.Machine.{hits_answer}
+use Rattle.search_routes.specs.Machine.{hits_answer, index_at}
+use Rattle.search_routes.specs.Openings.{there_opened}
 use Rattle.index_core.specs.Fetches.{hits_needed}
 use Rattle.search_routes.proofs.NeedLemmas.{named_most}
+use Rattle.search_routes.proofs.OpenLemmas.{opens-named}
 use Rattle.search_routes.proofs.Steps.{search_sent}
 use Rattle.search_routes.proofs.reads.search.Goals as goal
 
@@ -23,3 +27,41 @@ returns-clause-answer g c =
     let call = c.args.call.now in
     search_sent c.args.indexes.now.entries c.args.uid.now call c.in_ok-index.index.now (result_shown c.in-Ok.found) c.found_reply.result c.in_ok-index.ensures c.in-Ok.ensures.answer
     (subst (λ s. Sends (Ok (hits_answer call s (result_shown c.in-Ok.found))) c.found_reply.result) c.settings.ensures c.found_reply.ensures)
+
+pub returns-in-Err-Refused-clause-opens : goal.returns-in-Err-Refused-clause-opens
+returns-in-Err-Refused-clause-opens g c =
+    let call = c.args.call.now in
+    let opens : Opens false (opened c.in_ok-index.index.now call)
+    (log_state ((g.dyn-1.0.entry c.args.log.now.vtable).1.told c.args.log.now.value) c.args.openings.now)
+    (log_state ((g.dyn-1.0.entry c.search.new.log.vtable).1.told c.search.new.log.value) c.search.new.openings) = rw c.in-Err-Refused.field-0-is at c.in-Err-Refused.ensures.opens in
+    opens-named c.args.uid.now c.args.indexes.now.entries c.in_ok-index.index.now (λ i. opened i call) false
+    (log_state ((g.dyn-1.0.entry c.args.log.now.vtable).1.told c.args.log.now.value) c.args.openings.now)
+    (log_state ((g.dyn-1.0.entry c.search.new.log.vtable).1.told c.search.new.log.value) c.search.new.openings) c.in_ok-index.ensures opens
+
+pub returns-in-Err-NoMemory-clause-opens : goal.returns-in-Err-NoMemory-clause-opens
+returns-in-Err-NoMemory-clause-opens g c =
+    let call = c.args.call.now in
+    let all = opened c.in_ok-index.index.now call in
+    let old = (log_state ((g.dyn-1.0.entry c.args.log.now.vtable).1.told c.args.log.now.value) c.args.openings.now) in
+    let new = (log_state ((g.dyn-1.0.entry c.search.new.log.vtable).1.told c.search.new.log.value) c.search.new.openings) in
+    opens-named c.args.uid.now c.args.indexes.now.entries c.in_ok-index.index.now (λ i. opened i call) true old new c.in_ok-index.ensures
+    (opens-some (is_starved c.search.result) all old new c.search.ensures.opens)
+
+pub returns-clause-opens : goal.returns-clause-opens
+returns-clause-opens g c =
+    let call = c.args.call.now in
+    let all = there_opened (index_at c.args.uid.now c.args.indexes.now.entries) (λ i. opened i call) in
+    let old = (log_state ((g.dyn-1.0.entry c.args.log.now.vtable).1.told c.args.log.now.value) c.args.openings.now) in
+    let new = (log_state ((g.dyn-1.0.entry c.search.new.log.vtable).1.told c.search.new.log.value) c.search.new.openings) in
+    opens-either (is_starved c.found_reply.result) all old new
+    (opens-named c.args.uid.now c.args.indexes.now.entries c.in_ok-index.index.now (λ i. opened i call) false old new c.in_ok-index.ensures c.in-Ok.ensures.opens)
+
+pub returns-in-Err-NoMemory-clause-few : goal.returns-in-Err-NoMemory-clause-few
+returns-in-Err-NoMemory-clause-few g c =
+    let call = c.args.call.now in
+    named_most c.args.uid.now c.args.indexes.now.entries c.in_ok-index.index.now (λ i. most_opened i call) c.args.openings.now c.search.new.openings c.in_ok-index.ensures c.search.ensures.few
+
+pub returns-clause-few : goal.returns-clause-few
+returns-clause-few g c =
+    let call = c.args.call.now in
+    named_most c.args.uid.now c.args.indexes.now.entries c.in_ok-index.index.now (λ i. most_opened i call) c.args.openings.now c.search.new.openings c.in_ok-index.ensures c.search.ensures.few

@@ -1,5 +1,6 @@
 use Rattle.std.proofs.Common.{◌≡◌, ◌∷◌, [], ◌++◌, inl, inr, refl, ap, sym, subst, ◌∙◌, IfSome, arith}
 use Rattle.std.specs.Option.{option_map}
+use Rattle.index_core.specs.Opened.{log_state}
 use Rattle.search_server.specs.LinkState.{link_state, shared_state}
 use Rattle.search_server.specs.Links.{Visit, door_state}
 use Rattle.search_server.proofs.Visits.{OneMore, nothing_yet, goes_on, ends_fault, ends_done, ends_cut, ends_failed, failed_later, rose_later}
@@ -9,7 +10,7 @@ pub loop-served-init : goal.loop-served-init
 loop-served-init g c =
     let at = link_state g.D.Link.Link.left g.D.Link.Link.told g.D.Link.Link.read_faults g.D.Link.Link.write_faults in
     let start = door_state g.D.Door.coming g.D.Door.returned g.D.Door.door_faults g.P.Link.told g.P.Link.write_faults c.args.door.now c.args.pipe.now
-    (shared_state g.K.Disk.contents g.K.Disk.disk_faults c.args.machine.now.machine c.args.fetches.now c.args.disk_a.now c.args.disk_b.now) in
+    (shared_state g.K.Disk.contents g.K.Disk.disk_faults c.args.machine.now.machine c.args.fetches.now (log_state ((g.dyn-1.0.entry c.args.log.now.vtable).1.told c.args.log.now.value) c.args.openings.now) c.args.disk_a.now c.args.disk_b.now) in
     record {
       visits = nothing_yet at start start (record { shared = refl; coming = refl; returned = refl; told = refl });
       durable = c.requires.durable;
@@ -27,11 +28,11 @@ pub returns-in-Err-clause-promise : goal.returns-in-Err-clause-promise
 returns-in-Err-clause-promise g c =
     let at = link_state g.D.Link.Link.left g.D.Link.Link.told g.D.Link.Link.read_faults g.D.Link.Link.write_faults in
     let start = door_state g.D.Door.coming g.D.Door.returned g.D.Door.door_faults g.P.Link.told g.P.Link.write_faults c.args.door.now c.args.pipe.now
-    (shared_state g.K.Disk.contents g.K.Disk.disk_faults c.args.machine.now.machine c.args.fetches.now c.args.disk_a.now c.args.disk_b.now) in
+    (shared_state g.K.Disk.contents g.K.Disk.disk_faults c.args.machine.now.machine c.args.fetches.now (log_state ((g.dyn-1.0.entry c.args.log.now.vtable).1.told c.args.log.now.value) c.args.openings.now) c.args.disk_a.now c.args.disk_b.now) in
     let here = door_state g.D.Door.coming g.D.Door.returned g.D.Door.door_faults g.P.Link.told g.P.Link.write_faults c.loop-served.door c.loop-served.pipe
-    (shared_state g.K.Disk.contents g.K.Disk.disk_faults c.loop-served.machine.machine c.loop-served.fetches c.loop-served.disk_a c.loop-served.disk_b) in
+    (shared_state g.K.Disk.contents g.K.Disk.disk_faults c.loop-served.machine.machine c.loop-served.fetches (log_state ((g.dyn-1.0.entry c.loop-served.log.vtable).1.told c.loop-served.log.value) c.loop-served.openings) c.loop-served.disk_a c.loop-served.disk_b) in
     let end = door_state g.D.Door.coming g.D.Door.returned g.D.Door.door_faults g.P.Link.told g.P.Link.write_faults c.next.new.self c.loop-served.pipe
-    (shared_state g.K.Disk.contents g.K.Disk.disk_faults c.loop-served.machine.machine c.loop-served.fetches c.loop-served.disk_a c.loop-served.disk_b) in
+    (shared_state g.K.Disk.contents g.K.Disk.disk_faults c.loop-served.machine.machine c.loop-served.fetches (log_state ((g.dyn-1.0.entry c.loop-served.log.vtable).1.told c.loop-served.log.value) c.loop-served.openings) c.loop-served.disk_a c.loop-served.disk_b) in
     ends_fault at c.loop-served.served c.args.connections start here end c.loop-served.invariant.visits
     (record { shared = refl; coming = c.in-Err.ensures.failed; returned = c.in-Err.ensures.returned; told = refl })
     (omega (arith, c.loop-served-test.true, c.loop-served.auto.served-end))
@@ -41,11 +42,11 @@ pub returns-in-Ok-None-clause-promise : goal.returns-in-Ok-None-clause-promise
 returns-in-Ok-None-clause-promise g c =
     let at = link_state g.D.Link.Link.left g.D.Link.Link.told g.D.Link.Link.read_faults g.D.Link.Link.write_faults in
     let start = door_state g.D.Door.coming g.D.Door.returned g.D.Door.door_faults g.P.Link.told g.P.Link.write_faults c.args.door.now c.args.pipe.now
-    (shared_state g.K.Disk.contents g.K.Disk.disk_faults c.args.machine.now.machine c.args.fetches.now c.args.disk_a.now c.args.disk_b.now) in
+    (shared_state g.K.Disk.contents g.K.Disk.disk_faults c.args.machine.now.machine c.args.fetches.now (log_state ((g.dyn-1.0.entry c.args.log.now.vtable).1.told c.args.log.now.value) c.args.openings.now) c.args.disk_a.now c.args.disk_b.now) in
     let here = door_state g.D.Door.coming g.D.Door.returned g.D.Door.door_faults g.P.Link.told g.P.Link.write_faults c.loop-served.door c.loop-served.pipe
-    (shared_state g.K.Disk.contents g.K.Disk.disk_faults c.loop-served.machine.machine c.loop-served.fetches c.loop-served.disk_a c.loop-served.disk_b) in
+    (shared_state g.K.Disk.contents g.K.Disk.disk_faults c.loop-served.machine.machine c.loop-served.fetches (log_state ((g.dyn-1.0.entry c.loop-served.log.vtable).1.told c.loop-served.log.value) c.loop-served.openings) c.loop-served.disk_a c.loop-served.disk_b) in
     let end = door_state g.D.Door.coming g.D.Door.returned g.D.Door.door_faults g.P.Link.told g.P.Link.write_faults c.next.new.self c.loop-served.pipe
-    (shared_state g.K.Disk.contents g.K.Disk.disk_faults c.loop-served.machine.machine c.loop-served.fetches c.loop-served.disk_a c.loop-served.disk_b) in
+    (shared_state g.K.Disk.contents g.K.Disk.disk_faults c.loop-served.machine.machine c.loop-served.fetches (log_state ((g.dyn-1.0.entry c.loop-served.log.vtable).1.told c.loop-served.log.value) c.loop-served.openings) c.loop-served.disk_a c.loop-served.disk_b) in
     let none = rw c.in-Ok-None.field-0-is at c.in-Ok-None.ensures.given in
     ends_done at c.loop-served.served c.args.connections start here end c.loop-served.invariant.visits
     (record { shared = refl; coming = none.0; returned = c.in-Ok-None.ensures.returned; told = refl })
@@ -56,10 +57,10 @@ pub returns-in-DiskFault-clause-promise : goal.returns-in-DiskFault-clause-promi
 returns-in-DiskFault-clause-promise g c =
     let at = link_state g.D.Link.Link.left g.D.Link.Link.told g.D.Link.Link.read_faults g.D.Link.Link.write_faults in
     let start = door_state g.D.Door.coming g.D.Door.returned g.D.Door.door_faults g.P.Link.told g.P.Link.write_faults c.args.door.now c.args.pipe.now
-    (shared_state g.K.Disk.contents g.K.Disk.disk_faults c.args.machine.now.machine c.args.fetches.now c.args.disk_a.now c.args.disk_b.now) in
+    (shared_state g.K.Disk.contents g.K.Disk.disk_faults c.args.machine.now.machine c.args.fetches.now (log_state ((g.dyn-1.0.entry c.args.log.now.vtable).1.told c.args.log.now.value) c.args.openings.now) c.args.disk_a.now c.args.disk_b.now) in
     let here = door_state g.D.Door.coming g.D.Door.returned g.D.Door.door_faults g.P.Link.told g.P.Link.write_faults c.loop-served.door c.loop-served.pipe
-    (shared_state g.K.Disk.contents g.K.Disk.disk_faults c.loop-served.machine.machine c.loop-served.fetches c.loop-served.disk_a c.loop-served.disk_b) in
-    let behind = shared_state g.K.Disk.contents g.K.Disk.disk_faults c.serve_link-end.new.machine.machine c.serve_link-end.new.fetches c.serve_link-end.new.disk_a c.serve_link-end.new.disk_b in
+    (shared_state g.K.Disk.contents g.K.Disk.disk_faults c.loop-served.machine.machine c.loop-served.fetches (log_state ((g.dyn-1.0.entry c.loop-served.log.vtable).1.told c.loop-served.log.value) c.loop-served.openings) c.loop-served.disk_a c.loop-served.disk_b) in
+    let behind = shared_state g.K.Disk.contents g.K.Disk.disk_faults c.serve_link-end.new.machine.machine c.serve_link-end.new.fetches (log_state ((g.dyn-1.0.entry c.serve_link-end.new.log.vtable).1.told c.serve_link-end.new.log.value) c.serve_link-end.new.openings) c.serve_link-end.new.disk_a c.serve_link-end.new.disk_b in
     let end = door_state g.D.Door.coming g.D.Door.returned g.D.Door.door_faults g.P.Link.told g.P.Link.write_faults c.give_back.new.self c.loop-served.pipe behind in
     let visit : Visit g.row.D-Link.Denot = record { taken = c.in-Ok-Some.given; given = c.serve_link-end.new.link; behind = behind; end = c.serve_link-end.result } in
     let one : OneMore at here end visit = record {
@@ -77,10 +78,10 @@ pub returns-in-Err-write_line-clause-promise : goal.returns-in-Err-write_line-cl
 returns-in-Err-write_line-clause-promise g c =
     let at = link_state g.D.Link.Link.left g.D.Link.Link.told g.D.Link.Link.read_faults g.D.Link.Link.write_faults in
     let start = door_state g.D.Door.coming g.D.Door.returned g.D.Door.door_faults g.P.Link.told g.P.Link.write_faults c.args.door.now c.args.pipe.now
-    (shared_state g.K.Disk.contents g.K.Disk.disk_faults c.args.machine.now.machine c.args.fetches.now c.args.disk_a.now c.args.disk_b.now) in
+    (shared_state g.K.Disk.contents g.K.Disk.disk_faults c.args.machine.now.machine c.args.fetches.now (log_state ((g.dyn-1.0.entry c.args.log.now.vtable).1.told c.args.log.now.value) c.args.openings.now) c.args.disk_a.now c.args.disk_b.now) in
     let here = door_state g.D.Door.coming g.D.Door.returned g.D.Door.door_faults g.P.Link.told g.P.Link.write_faults c.loop-served.door c.loop-served.pipe
-    (shared_state g.K.Disk.contents g.K.Disk.disk_faults c.loop-served.machine.machine c.loop-served.fetches c.loop-served.disk_a c.loop-served.disk_b) in
-    let behind = shared_state g.K.Disk.contents g.K.Disk.disk_faults c.serve_link-end.new.machine.machine c.serve_link-end.new.fetches c.serve_link-end.new.disk_a c.serve_link-end.new.disk_b in
+    (shared_state g.K.Disk.contents g.K.Disk.disk_faults c.loop-served.machine.machine c.loop-served.fetches (log_state ((g.dyn-1.0.entry c.loop-served.log.vtable).1.told c.loop-served.log.value) c.loop-served.openings) c.loop-served.disk_a c.loop-served.disk_b) in
+    let behind = shared_state g.K.Disk.contents g.K.Disk.disk_faults c.serve_link-end.new.machine.machine c.serve_link-end.new.fetches (log_state ((g.dyn-1.0.entry c.serve_link-end.new.log.vtable).1.told c.serve_link-end.new.log.value) c.serve_link-end.new.openings) c.serve_link-end.new.disk_a c.serve_link-end.new.disk_b in
     let end = door_state g.D.Door.coming g.D.Door.returned g.D.Door.door_faults g.P.Link.told g.P.Link.write_faults c.give_back.new.self c.write_line.new.pipe behind in
     let visit : Visit g.row.D-Link.Denot = record { taken = c.in-Ok-Some.given; given = c.serve_link-end.new.link; behind = behind; end = c.serve_link-end.result } in
     let one : OneMore at here end visit = record {
@@ -98,10 +99,10 @@ pub loop-served-preserved : goal.loop-served-preserved
 loop-served-preserved g c =
     let at = link_state g.D.Link.Link.left g.D.Link.Link.told g.D.Link.Link.read_faults g.D.Link.Link.write_faults in
     let start = door_state g.D.Door.coming g.D.Door.returned g.D.Door.door_faults g.P.Link.told g.P.Link.write_faults c.args.door.now c.args.pipe.now
-    (shared_state g.K.Disk.contents g.K.Disk.disk_faults c.args.machine.now.machine c.args.fetches.now c.args.disk_a.now c.args.disk_b.now) in
+    (shared_state g.K.Disk.contents g.K.Disk.disk_faults c.args.machine.now.machine c.args.fetches.now (log_state ((g.dyn-1.0.entry c.args.log.now.vtable).1.told c.args.log.now.value) c.args.openings.now) c.args.disk_a.now c.args.disk_b.now) in
     let here = door_state g.D.Door.coming g.D.Door.returned g.D.Door.door_faults g.P.Link.told g.P.Link.write_faults c.loop-served.door c.loop-served.pipe
-    (shared_state g.K.Disk.contents g.K.Disk.disk_faults c.loop-served.machine.machine c.loop-served.fetches c.loop-served.disk_a c.loop-served.disk_b) in
-    let behind = shared_state g.K.Disk.contents g.K.Disk.disk_faults c.serve_link-end.new.machine.machine c.serve_link-end.new.fetches c.serve_link-end.new.disk_a c.serve_link-end.new.disk_b in
+    (shared_state g.K.Disk.contents g.K.Disk.disk_faults c.loop-served.machine.machine c.loop-served.fetches (log_state ((g.dyn-1.0.entry c.loop-served.log.vtable).1.told c.loop-served.log.value) c.loop-served.openings) c.loop-served.disk_a c.loop-served.disk_b) in
+    let behind = shared_state g.K.Disk.contents g.K.Disk.disk_faults c.serve_link-end.new.machine.machine c.serve_link-end.new.fetches (log_state ((g.dyn-1.0.entry c.serve_link-end.new.log.vtable).1.told c.serve_link-end.new.log.value) c.serve_link-end.new.openings) c.serve_link-end.new.disk_a c.serve_link-end.new.disk_b in
     let end = door_state g.D.Door.coming g.D.Door.returned g.D.Door.door_faults g.P.Link.told g.P.Link.write_faults c.give_back.new.self c.write_line.new.pipe behind in
     let visit : Visit g.row.D-Link.Denot = record { taken = c.in-Ok-Some.given; given = c.serve_link-end.new.link; behind = behind; end = c.serve_link-end.result } in
     let one : OneMore at here end visit = record {
@@ -127,9 +128,9 @@ pub returns-clause-promise : goal.returns-clause-promise
 returns-clause-promise g c =
     let at = link_state g.D.Link.Link.left g.D.Link.Link.told g.D.Link.Link.read_faults g.D.Link.Link.write_faults in
     let start = door_state g.D.Door.coming g.D.Door.returned g.D.Door.door_faults g.P.Link.told g.P.Link.write_faults c.args.door.now c.args.pipe.now
-    (shared_state g.K.Disk.contents g.K.Disk.disk_faults c.args.machine.now.machine c.args.fetches.now c.args.disk_a.now c.args.disk_b.now) in
+    (shared_state g.K.Disk.contents g.K.Disk.disk_faults c.args.machine.now.machine c.args.fetches.now (log_state ((g.dyn-1.0.entry c.args.log.now.vtable).1.told c.args.log.now.value) c.args.openings.now) c.args.disk_a.now c.args.disk_b.now) in
     let here = door_state g.D.Door.coming g.D.Door.returned g.D.Door.door_faults g.P.Link.told g.P.Link.write_faults c.loop-served.door c.loop-served.pipe
-    (shared_state g.K.Disk.contents g.K.Disk.disk_faults c.loop-served.machine.machine c.loop-served.fetches c.loop-served.disk_a c.loop-served.disk_b) in
+    (shared_state g.K.Disk.contents g.K.Disk.disk_faults c.loop-served.machine.machine c.loop-served.fetches (log_state ((g.dyn-1.0.entry c.loop-served.log.vtable).1.told c.loop-served.log.value) c.loop-served.openings) c.loop-served.disk_a c.loop-served.disk_b) in
     ends_done at c.loop-served.served c.args.connections start here here c.loop-served.invariant.visits
     (record { shared = refl; coming = refl; returned = refl; told = refl })
     (omega (arith, c.loop-served-test.false, c.loop-served.auto.served-end))

@@ -1,19 +1,40 @@
-use Rattle.std.proofs.Common.{◌≡◌, Some, inr, refl, subst, sym, ◌∙◌}
+use Rattle.std.proofs.Common.{◌≡◌, Some, None, inl, inr, refl, subst, sym, ◌∙◌}
+use Rattle.index_core.specs.Opened.{log_state}
 use Rattle.search_server.specs.LinkState.{link_state, shared_state}
 use Rattle.search_server.specs.Links.{ServesDoor, door_state}
+use Rattle.search_server.specs.Opening.{Unopened, IsUnopened, NotOpened}
+use Rattle.search_server.specs.declared.status.Status.{Status}
+use Rattle.search_server.specs.declared.status.Status.TheVariants.{BadWords}
 use Rattle.search_server.specs.declared.words.Command.TheVariants.{Serve}
 use Rattle.search_server.proofs.Visits.{shut, from_before}
 use Rattle.search_server.proofs.run.run_search_server.Goals as goal
 
+-- opening no machine never blames the words
+not_bad : (old new : Unopened) (status : Status) → NotOpened old new status → status ≡ BadWords → ⊥
+not_bad old new status not bad = subst (IsUnopened old new) bad not.why
+
+pub returns-in-Err-clause-bad_words : goal.returns-in-Err-clause-bad_words
+returns-in-Err-clause-bad_words g c = (
+  λ bad. absurd (not_bad _ _ _ (c.in-Err.ensures.not_opened c.args.openings.now) bad),
+  λ none.
+      let some : None ≡ Some c.in-Some-Pipe.field-0 = sym none ∙ sym c.command_of.ensures ∙ c.in-Some-Pipe.is in
+      absurd (cc (some)),
+)
+
+pub returns-in-Err-clause-pipe : goal.returns-in-Err-clause-pipe
+returns-in-Err-clause-pipe g c = λ is. (refl, inl (c.in-Err.ensures.not_opened c.args.openings.now, refl))
+
 pub returns-in-Some-Pipe-clause-pipe : goal.returns-in-Some-Pipe-clause-pipe
 returns-in-Some-Pipe-clause-pipe g c = λ is.
-    let found = shared_state g.K.Disk.contents g.K.Disk.disk_faults c.in-Ok.machine.machine c.open_machine.new.fetches c.open_machine.new.disk_a c.open_machine.new.disk_b in
+    let heard = ((g.dyn-1.0.entry c.args.log.vtable).1.told c.args.log.value) in
+    let found = shared_state g.K.Disk.contents g.K.Disk.disk_faults c.in-Ok.machine.machine c.open_machine.new.fetches (log_state heard c.args.openings.now) c.open_machine.new.disk_a c.open_machine.new.disk_b in
     let served = c.serve_link.ensures.promise in (
       refl,
       inr (
         found,
-        c.in-Ok.ensures.opened,
+        c.in-Ok.ensures.opened heard c.args.openings.now,
         c.serve_link.new.machine.machine,
+        (g.dyn-1.0.entry c.serve_link.new.log.vtable).1.told c.serve_link.new.log.value,
         (
           c.serve_link.result.requests,
           c.serve_link.result.passed,
@@ -22,15 +43,28 @@ returns-in-Some-Pipe-clause-pipe g c = λ is.
       ),
     )
 
+pub returns-in-Err-open_machine-clause-bad_words : goal.returns-in-Err-open_machine-clause-bad_words
+returns-in-Err-open_machine-clause-bad_words g c = (
+  λ bad. absurd (not_bad _ _ _ (c.in-Err-open_machine.ensures.not_opened c.args.openings.now) bad),
+  λ none.
+      let some : None ≡ Some c.in-Some-Serve.field-0 = sym none ∙ sym c.command_of.ensures ∙ c.in-Some-Serve.is in
+      absurd (cc (some)),
+)
+
+pub returns-in-Err-open_machine-clause-serve : goal.returns-in-Err-open_machine-clause-serve
+returns-in-Err-open_machine-clause-serve g c = λ port connections is. (refl, refl, inl (c.in-Err-open_machine.ensures.not_opened c.args.openings.now, (refl, refl)))
+
 pub returns-in-Err-open-clause-serve : goal.returns-in-Err-open-clause-serve
 returns-in-Err-open-clause-serve g c = λ port connections is.
-    let found = shared_state g.K.Disk.contents g.K.Disk.disk_faults c.in-Ok-open_machine.machine.machine c.open_machine-in-Some-Serve.new.fetches c.open_machine-in-Some-Serve.new.disk_a c.open_machine-in-Some-Serve.new.disk_b in (
+    let heard = ((g.dyn-1.0.entry c.args.log.vtable).1.told c.args.log.value) in
+    let found = shared_state g.K.Disk.contents g.K.Disk.disk_faults c.in-Ok-open_machine.machine.machine c.open_machine-in-Some-Serve.new.fetches (log_state heard c.args.openings.now) c.open_machine-in-Some-Serve.new.disk_a c.open_machine-in-Some-Serve.new.disk_b in (
       refl,
       refl,
       inr (
         found,
-        c.in-Ok-open_machine.ensures.opened,
+        c.in-Ok-open_machine.ensures.opened heard c.args.openings.now,
         found.state,
+        heard,
         shut _ connections _ _
             (record { shared = refl; coming = c.open.ensures.coming; returned = c.open.ensures.returned; told = refl })
             c.in-Err-open.ensures.cause.failed,
@@ -40,10 +74,12 @@ returns-in-Err-open-clause-serve g c = λ port connections is.
 pub returns-in-Some-Serve-clause-serve : goal.returns-in-Some-Serve-clause-serve
 returns-in-Some-Serve-clause-serve g c = λ port connections is.
     let at = link_state g.D.Link.Link.left g.D.Link.Link.told g.D.Link.Link.read_faults g.D.Link.Link.write_faults in
-    let found = shared_state g.K.Disk.contents g.K.Disk.disk_faults c.in-Ok-open_machine.machine.machine c.open_machine-in-Some-Serve.new.fetches c.open_machine-in-Some-Serve.new.disk_a c.open_machine-in-Some-Serve.new.disk_b in
+    let heard = ((g.dyn-1.0.entry c.args.log.vtable).1.told c.args.log.value) in
+    let found = shared_state g.K.Disk.contents g.K.Disk.disk_faults c.in-Ok-open_machine.machine.machine c.open_machine-in-Some-Serve.new.fetches (log_state heard c.args.openings.now) c.open_machine-in-Some-Serve.new.disk_a c.open_machine-in-Some-Serve.new.disk_b in
     let start = door_state g.D.Door.coming g.D.Door.returned g.D.Door.door_faults g.P.Link.told g.P.Link.write_faults c.args.door.now c.args.pipe.now found in
     let end = door_state g.D.Door.coming g.D.Door.returned g.D.Door.door_faults g.P.Link.told g.P.Link.write_faults c.serve_links.new.door c.serve_links.new.pipe
-    (shared_state g.K.Disk.contents g.K.Disk.disk_faults c.serve_links.new.machine.machine c.serve_links.new.fetches c.serve_links.new.disk_a c.serve_links.new.disk_b) in
+    (shared_state g.K.Disk.contents g.K.Disk.disk_faults c.serve_links.new.machine.machine c.serve_links.new.fetches
+    (log_state ((g.dyn-1.0.entry c.serve_links.new.log.vtable).1.told c.serve_links.new.log.value) c.serve_links.new.openings) c.serve_links.new.disk_a c.serve_links.new.disk_b) in
     let all : Some (Serve port connections) ≡ Some c.in-Some-Serve.field-0 = sym is ∙ sym c.command_of.ensures ∙ c.in-Some-Serve.is in
     let field = c.in-Some-Serve.field-0-is in
     let same : c.in-Some-Serve.connections ≡ connections = cc in (
@@ -51,8 +87,9 @@ returns-in-Some-Serve-clause-serve g c = λ port connections is.
       c.serve_links.ensures.read_faults,
       inr (
         found,
-        c.in-Ok-open_machine.ensures.opened,
+        c.in-Ok-open_machine.ensures.opened heard c.args.openings.now,
         c.serve_links.new.machine.machine,
+        (g.dyn-1.0.entry c.serve_links.new.log.vtable).1.told c.serve_links.new.log.value,
         subst (λ n. ServesDoor at n start end c.serve_links.result) same
             (from_before at c.in-Some-Serve.connections (g.D.Door.door_faults c.args.door.now) _ end c.serve_links.result c.open.ensures.cause.later
             (rw (c.open.ensures.coming, c.open.ensures.returned) at c.serve_links.ensures.promise)),

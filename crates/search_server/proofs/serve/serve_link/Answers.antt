@@ -2,6 +2,7 @@ use Rattle.std.proofs.Common.{◌≡◌, Some, None, [], false, refl, sym, subst
 use Rattle.std.specs.Io.KnownBytes.{prepend_known}
 use Rattle.durable_machine.specs.Durable.{IsDurable}
 use Rattle.durable_machine.proofs.Crash.{crash_now}
+use Rattle.index_core.specs.Opened.{log_state}
 use Rattle.search_server.specs.LinkState.{LinkState, link_state, shared_state}
 use Rattle.search_server.specs.Passed.{PassedIfDue}
 use Rattle.search_server.specs.Turns.{end_by}
@@ -12,7 +13,7 @@ use Rattle.search_server.proofs.serve.serve_link.Goals as goal
 pub returns-in_default-clause-promise : goal.returns-in_default-clause-promise
 returns-in_default-clause-promise g c =
     let start : LinkState = link_state g.P.Link.left g.P.Link.told g.P.Link.read_faults g.P.Link.write_faults c.args.link.now
-    (shared_state g.K.Disk.contents g.K.Disk.disk_faults c.args.machine.now.machine c.args.fetches.now c.args.disk_a.now c.args.disk_b.now) in
+    (shared_state g.K.Disk.contents g.K.Disk.disk_faults c.args.machine.now.machine c.args.fetches.now (log_state ((g.dyn-1.0.entry c.args.log.now.vtable).1.told c.args.log.now.value) c.args.openings.now) c.args.disk_a.now c.args.disk_b.now) in
     record {
       promise = λ bytes e. nothing_yet bytes start;
       cause = tt;
@@ -21,7 +22,7 @@ returns-in_default-clause-promise g c =
 
 pub loop-served-init : goal.loop-served-init
 loop-served-init g c = record {
-  progress = λ bytes e. starts bytes _ _ (ap (λ v. prepend_known v (g.P.Link.left c.args.link.now)) c.in-Ok.ensures ∙ ap (λ v. prepend_known [] v) e) refl refl refl;
+  progress = λ bytes e. starts bytes _ _ (ap (λ v. prepend_known v (g.P.Link.left c.args.link.now)) c.in-Ok.ensures ∙ ap (λ v. prepend_known [] v) e) refl refl refl refl;
   durable = c.requires.durable;
   due = λ due. inr (due, refl);
   read_later = omega arith;
@@ -33,11 +34,11 @@ loop-served-init g c = record {
 pub loop-served-preserved : goal.loop-served-preserved
 loop-served-preserved g c =
     let start : LinkState = link_state g.P.Link.left g.P.Link.told g.P.Link.read_faults g.P.Link.write_faults c.args.link.now
-    (shared_state g.K.Disk.contents g.K.Disk.disk_faults c.args.machine.now.machine c.args.fetches.now c.args.disk_a.now c.args.disk_b.now) in
+    (shared_state g.K.Disk.contents g.K.Disk.disk_faults c.args.machine.now.machine c.args.fetches.now (log_state ((g.dyn-1.0.entry c.args.log.now.vtable).1.told c.args.log.now.value) c.args.openings.now) c.args.disk_a.now c.args.disk_b.now) in
     let old : LinkState = link_state (λ link. prepend_known c.loop-served.kept (g.P.Link.left link)) g.P.Link.told g.P.Link.read_faults g.P.Link.write_faults c.loop-served.link
-    (shared_state g.K.Disk.contents g.K.Disk.disk_faults c.loop-served.machine.machine c.loop-served.fetches c.loop-served.disk_a c.loop-served.disk_b) in
+    (shared_state g.K.Disk.contents g.K.Disk.disk_faults c.loop-served.machine.machine c.loop-served.fetches (log_state ((g.dyn-1.0.entry c.loop-served.log.vtable).1.told c.loop-served.log.value) c.loop-served.openings) c.loop-served.disk_a c.loop-served.disk_b) in
     let new : LinkState = link_state (λ link. prepend_known c.serve_one-turn.new.kept (g.P.Link.left link)) g.P.Link.told g.P.Link.read_faults g.P.Link.write_faults c.serve_one-turn.new.link
-    (shared_state g.K.Disk.contents g.K.Disk.disk_faults c.serve_one-turn.new.machine.machine c.serve_one-turn.new.fetches c.serve_one-turn.new.disk_a c.serve_one-turn.new.disk_b) in
+    (shared_state g.K.Disk.contents g.K.Disk.disk_faults c.serve_one-turn.new.machine.machine c.serve_one-turn.new.fetches (log_state ((g.dyn-1.0.entry c.serve_one-turn.new.log.vtable).1.told c.serve_one-turn.new.log.value) c.serve_one-turn.new.openings) c.serve_one-turn.new.disk_a c.serve_one-turn.new.disk_b) in
     let n = c.loop-served.served in
     let goes : end_by n c.serve_one-turn.new.passed c.serve_one-turn.result ≡ None = sym c.end.ensures.turn ∙ c.in_default-end.is in
     record {
@@ -70,14 +71,14 @@ returns-in-Some-clause-due g c = λ going.
 pub returns-in-Some-clause-promise : goal.returns-in-Some-clause-promise
 returns-in-Some-clause-promise g c =
     let start : LinkState = link_state g.P.Link.left g.P.Link.told g.P.Link.read_faults g.P.Link.write_faults c.args.link.now
-    (shared_state g.K.Disk.contents g.K.Disk.disk_faults c.args.machine.now.machine c.args.fetches.now c.args.disk_a.now c.args.disk_b.now) in
+    (shared_state g.K.Disk.contents g.K.Disk.disk_faults c.args.machine.now.machine c.args.fetches.now (log_state ((g.dyn-1.0.entry c.args.log.now.vtable).1.told c.args.log.now.value) c.args.openings.now) c.args.disk_a.now c.args.disk_b.now) in
     let old : LinkState = link_state (λ link. prepend_known c.loop-served.kept (g.P.Link.left link)) g.P.Link.told g.P.Link.read_faults g.P.Link.write_faults c.loop-served.link
-    (shared_state g.K.Disk.contents g.K.Disk.disk_faults c.loop-served.machine.machine c.loop-served.fetches c.loop-served.disk_a c.loop-served.disk_b) in
+    (shared_state g.K.Disk.contents g.K.Disk.disk_faults c.loop-served.machine.machine c.loop-served.fetches (log_state ((g.dyn-1.0.entry c.loop-served.log.vtable).1.told c.loop-served.log.value) c.loop-served.openings) c.loop-served.disk_a c.loop-served.disk_b) in
     let new : LinkState = link_state (λ link. prepend_known c.serve_one-turn.new.kept (g.P.Link.left link)) g.P.Link.told g.P.Link.read_faults g.P.Link.write_faults c.serve_one-turn.new.link
-    (shared_state g.K.Disk.contents g.K.Disk.disk_faults c.serve_one-turn.new.machine.machine c.serve_one-turn.new.fetches c.serve_one-turn.new.disk_a c.serve_one-turn.new.disk_b) in
+    (shared_state g.K.Disk.contents g.K.Disk.disk_faults c.serve_one-turn.new.machine.machine c.serve_one-turn.new.fetches (log_state ((g.dyn-1.0.entry c.serve_one-turn.new.log.vtable).1.told c.serve_one-turn.new.log.value) c.serve_one-turn.new.openings) c.serve_one-turn.new.disk_a c.serve_one-turn.new.disk_b) in
     let final : LinkState = link_state g.P.Link.left g.P.Link.told g.P.Link.read_faults g.P.Link.write_faults c.serve_one-turn.new.link
-    (shared_state g.K.Disk.contents g.K.Disk.disk_faults c.serve_one-turn.new.machine.machine c.serve_one-turn.new.fetches c.serve_one-turn.new.disk_a c.serve_one-turn.new.disk_b) in
-    let left : LeftBy c.serve_one-turn.new.kept new final = record { pending = refl; told = refl; state = refl; fetches = refl; read_faults = refl; write_faults = refl; disk_a = refl; disk_b = refl } in
+    (shared_state g.K.Disk.contents g.K.Disk.disk_faults c.serve_one-turn.new.machine.machine c.serve_one-turn.new.fetches (log_state ((g.dyn-1.0.entry c.serve_one-turn.new.log.vtable).1.told c.serve_one-turn.new.log.value) c.serve_one-turn.new.openings) c.serve_one-turn.new.disk_a c.serve_one-turn.new.disk_b) in
+    let left : LeftBy c.serve_one-turn.new.kept new final = record { pending = refl; told = refl; state = refl; fetches = refl; log = refl; read_faults = refl; write_faults = refl; disk_a = refl; disk_b = refl } in
     let n = c.loop-served.served in
     let ends : end_by n c.serve_one-turn.new.passed c.serve_one-turn.result ≡ Some c.in-Some.end = sym c.end.ensures.turn ∙ c.in-Some.is in
     record {
@@ -98,12 +99,12 @@ returns-in-Some-clause-promise g c =
 pub returns-clause-promise : goal.returns-clause-promise
 returns-clause-promise g c =
     let start : LinkState = link_state g.P.Link.left g.P.Link.told g.P.Link.read_faults g.P.Link.write_faults c.args.link.now
-    (shared_state g.K.Disk.contents g.K.Disk.disk_faults c.args.machine.now.machine c.args.fetches.now c.args.disk_a.now c.args.disk_b.now) in
+    (shared_state g.K.Disk.contents g.K.Disk.disk_faults c.args.machine.now.machine c.args.fetches.now (log_state ((g.dyn-1.0.entry c.args.log.now.vtable).1.told c.args.log.now.value) c.args.openings.now) c.args.disk_a.now c.args.disk_b.now) in
     let old : LinkState = link_state (λ link. prepend_known c.loop-served.kept (g.P.Link.left link)) g.P.Link.told g.P.Link.read_faults g.P.Link.write_faults c.loop-served.link
-    (shared_state g.K.Disk.contents g.K.Disk.disk_faults c.loop-served.machine.machine c.loop-served.fetches c.loop-served.disk_a c.loop-served.disk_b) in
+    (shared_state g.K.Disk.contents g.K.Disk.disk_faults c.loop-served.machine.machine c.loop-served.fetches (log_state ((g.dyn-1.0.entry c.loop-served.log.vtable).1.told c.loop-served.log.value) c.loop-served.openings) c.loop-served.disk_a c.loop-served.disk_b) in
     let final : LinkState = link_state g.P.Link.left g.P.Link.told g.P.Link.read_faults g.P.Link.write_faults c.loop-served.link
-    (shared_state g.K.Disk.contents g.K.Disk.disk_faults c.loop-served.machine.machine c.loop-served.fetches c.loop-served.disk_a c.loop-served.disk_b) in
-    let left : LeftBy c.loop-served.kept old final = record { pending = refl; told = refl; state = refl; fetches = refl; read_faults = refl; write_faults = refl; disk_a = refl; disk_b = refl } in
+    (shared_state g.K.Disk.contents g.K.Disk.disk_faults c.loop-served.machine.machine c.loop-served.fetches (log_state ((g.dyn-1.0.entry c.loop-served.log.vtable).1.told c.loop-served.log.value) c.loop-served.openings) c.loop-served.disk_a c.loop-served.disk_b) in
+    let left : LeftBy c.loop-served.kept old final = record { pending = refl; told = refl; state = refl; fetches = refl; log = refl; read_faults = refl; write_faults = refl; disk_a = refl; disk_b = refl } in
     record {
       promise = λ bytes e. ends_spent bytes start old final c.loop-served.served c.loop-served.kept (c.loop-served.invariant.progress bytes e)
           (omega (arith, c.loop-served-test.false, c.loop-served.auto.served-end)) left;

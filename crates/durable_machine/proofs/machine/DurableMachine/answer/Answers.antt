@@ -1,6 +1,8 @@
-use Rattle.std.proofs.Common.{rules, sym, subst, ◌∙◌}
+use Rattle.std.proofs.Common.{rules, refl, sym, subst, ◌∙◌, true}
+use Rattle.http_wire.specs.Reply.{memory_answer}
 use Rattle.http_wire.specs.Sent.{IsSentAs}
 use Rattle.http_wire.specs.Wire.{request_of}
+use Rattle.index_core.proofs.Opening.{opens-nothing}
 use Rattle.search_routes.specs.Chosen.{answer_of}
 use Rattle.durable_machine.proofs.Crash.{crash_now}
 use Rattle.durable_machine.proofs.machine.DurableMachine.answer.Goals as goal
@@ -22,22 +24,30 @@ returns-then-changes-before-clause-crash_now g c =
 pub returns-clause-crash_now : goal.returns-clause-crash_now
 returns-clause-crash_now g c = crash_now c.keep.new.self (g.K.Disk.contents c.keep.new.disk_a) (g.K.Disk.contents c.keep.new.disk_b) c.in_ok-passed.ensures.durable
 
+pub returns-in-Err-entry_of-clause-step : goal.returns-in-Err-entry_of-clause-step
+returns-in-Err-entry_of-clause-step g c = (
+  true,
+  refl,
+  subst (λ r. IsSentAs r memory_answer) (sym c.answered_with-in-Err-entry_of.ensures.reply) (record { status = refl; body = refl; each = λ closes. refl }),
+  opens-nothing _ _,
+)
+
 pub returns-in-None-clause-step : goal.returns-in-None-clause-step
 returns-in-None-clause-step g c =
     let done = c.perform-reply.ensures.answered (request_of c.args.wire) c.in-Ok.ensures.call in
-    (done.0, done.2, subst (λ r. IsSentAs r (answer_of c.args.self.now.machine (request_of c.args.wire) done.0)) (sym c.told-in-None.ensures.reply) done.1)
+    (done.0, done.2, subst (λ r. IsSentAs r (answer_of c.args.self.now.machine (request_of c.args.wire) done.0)) (sym c.answered_with-in-None.ensures.reply) done.1, done.3)
 
 pub returns-then-changes-before-clause-step : goal.returns-then-changes-before-clause-step
 returns-then-changes-before-clause-step g c =
     let done = c.perform-reply.ensures.answered (request_of c.args.wire) c.in-Ok.ensures.call in
-    (done.0, done.2, subst (λ r. IsSentAs r (answer_of c.args.self.now.machine (request_of c.args.wire) done.0)) (sym c.told-then-changes-before.ensures.reply) done.1)
+    (done.0, done.2, subst (λ r. IsSentAs r (answer_of c.args.self.now.machine (request_of c.args.wire) done.0)) (sym c.answered_with-then-changes-before.ensures.reply) done.1, done.3)
 
 pub returns-in_err-passed-clause-step : goal.returns-in_err-passed-clause-step
 returns-in_err-passed-clause-step g c =
     let done = c.perform-reply.ensures.answered (request_of c.args.wire) c.in-Ok.ensures.call in
-    (done.0, c.keep.ensures.machine ∙ done.2, search rules)
+    (done.0, c.keep.ensures.machine ∙ done.2, search rules, done.3)
 
 pub returns-clause-step : goal.returns-clause-step
 returns-clause-step g c =
     let done = c.perform-reply.ensures.answered (request_of c.args.wire) c.in-Ok.ensures.call in
-    (done.0, c.keep.ensures.machine ∙ done.2, done.1)
+    (done.0, c.keep.ensures.machine ∙ done.2, done.1, done.3)

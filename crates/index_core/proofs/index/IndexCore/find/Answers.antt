@@ -1,4 +1,4 @@
-use Rattle.std.proofs.Common.{Bool, ◌≡◌, ◌+◌, ◌-◌, ◌≤◌, ◌^◌, ap, ap₂, sym, subst, ◌∙◌, length, map, arith}
+use Rattle.std.proofs.Common.{Bool, ◌≡◌, ◌+◌, ◌-◌, ◌*◌, ◌≤◌, ◌^◌, ap, ap₂, sym, subst, ◌∙◌, length, map, arith}
 use Rattle.std.specs.Prelude.{min}
 use Rattle.std.specs.Option.{option_map}
 use Rattle.search_base.specs.declared.document.DocId.{DocId}
@@ -11,39 +11,45 @@ use Rattle.facet_counts.specs.Counts.{counted}
 use Rattle.doc_index.specs.Documents.{documents_of}
 use Rattle.doc_search.specs.Matched.{rows_matching}
 use Rattle.doc_search.specs.Ranked.{RankedBelow}
-use Rattle.index_snapshot.specs.Matches.{matches_among}
+use Rattle.index_snapshot.specs.Matches.{matches_among, opened}
+use Rattle.bucket_sort.specs.Told.{and_then, GainsPrefix, RisesAtMost}
+use Rattle.list_search.proofs.Slices.{on-err}
+use Rattle.index_core.specs.Opened.{opened_in}
 use Rattle.list_search.specs.Matches.{ids_of, hits_of}
 use Rattle.row_index.specs.Standing.{StandsFor}
 use Rattle.index_core.specs.Index.{Index}
-use Rattle.index_core.specs.Found.{window_end, paths_asked}
-use Rattle.index_core.specs.Matching.{uses_in}
+use Rattle.index_core.specs.Found.{most_hits, window_end}
+use Rattle.search_settings.specs.Asked.{paths_asked}
+use Rattle.index_core.specs.Matching.{matching, rules_in, uses_in}
 use Rattle.index_core.specs.Ranking.{IsRankingOf}
 use Rattle.index_core.specs.Shown.{Finds}
 use Rattle.index_core.proofs.Finding.{finds, IsAsked}
+use Rattle.index_core.proofs.Opening.{opens-nothing}
+use Rattle.index_core.proofs.Tracing.{opens-same, opens-few}
 use Rattle.index_core.proofs.index.IndexCore.find.Goals as goal
 
 pub asked_paths-requires : goal.asked_paths-requires
-asked_paths-requires c =
+asked_paths-requires g c =
     let most = c.self.invariant.rows.sound.paths_within in
     omega (arith, ap length c.paths.ensures)
 
 pub search_documents-requires-clause-graph : goal.search_documents-requires-clause-graph
-search_documents-requires-clause-graph c = c.requires.graph
+search_documents-requires-clause-graph g c = c.requires.graph
 
 pub search_documents-requires-clause-sound : goal.search_documents-requires-clause-sound
-search_documents-requires-clause-sound c = c.self.invariant.rows.sound
+search_documents-requires-clause-sound g c = c.self.invariant.rows.sound
 
 pub search_documents-requires-clause-ranks : goal.search_documents-requires-clause-ranks
-search_documents-requires-clause-ranks c = subst (RankedBelow 65535) (sym c.as_slice.ensures.value) c.requires.below
+search_documents-requires-clause-ranks g c = subst (RankedBelow 65535) (sym c.as_slice.ensures.value) c.requires.below
 
 pub search_documents-requires-clause-stands : goal.search_documents-requires-clause-stands
-search_documents-requires-clause-stands c =
+search_documents-requires-clause-stands g c =
     let index : Index = record { key = c.self.inside.key; store = c.self.inside.store.content; settings = c.self.inside.settings } in
     let is : IsRankingOf c.args.ranking.now index c.args.call.now = subst (λ (i : Index). IsRankingOf c.args.ranking.now i c.args.call.now) (sym c.self.view_is) c.requires in
     subst (λ uses. StandsFor c.self.inside.rows (documents_of index.store.paths uses index.store.rows)) (sym (c.as_slice.ensures.value ∙ is.uses)) c.self.invariant.rows.stands
 
-pub returns : goal.returns
-returns c =
+pub returns-clause-found : goal.returns-clause-found
+returns-clause-found g c =
     let index : Index = record { key = c.self.inside.key; store = c.self.inside.store.content; settings = c.self.inside.settings } in
     let call = c.args.call.now in
     let seen = c.call.view_is in
@@ -77,3 +83,119 @@ returns c =
     ∙ ap (min (length (matches_among passing graph rules (documents_of paths (uses_in index) rows)))) c.max_total_hits-most.ensures.number)
     counts in
     subst (λ (i : Index). Finds i call (map (λ (id : DocId). id.0) c.in_ok-found.found.hits.items) c.min.result (option_map (λ facets. facets.items) c.if_asked.result)) c.self.view_is found
+
+pub returns-in_err-asked-clause-starved : goal.returns-in_err-asked-clause-starved
+returns-in_err-asked-clause-starved g c = on-err c.from_residual.result (opens-nothing _ _)
+
+pub returns-in_err-found-clause-starved : goal.returns-in_err-found-clause-starved
+returns-in_err-found-clause-starved g c =
+    let index : Index = record { key = c.self.inside.key; store = c.self.inside.store.content; settings = c.self.inside.settings } in
+    let call = c.args.call.now in
+    let seen = c.call.view_is in
+    let ranking = c.args.ranking.now in
+    let is : IsRankingOf ranking index call = subst (λ (i : Index). IsRankingOf ranking i call) (sym c.self.view_is) c.requires in
+    let passing : RowsView → Bool = λ rows. holds index.store.paths rows (tree_of c.call.inside.filter) in
+    let graph = ranking.query in
+    let rules = c.as_slice-2.result.now in
+    let paths = index.store.paths in
+    let rows = index.store.rows in
+    let uses = c.as_slice.ensures.value ∙ is.uses in
+    let asked : IsAsked index call passing graph rules = record {
+      filter = λ rows. ap (λ (v : SearchView). holds paths rows v.filter) seen;
+      query = is.costs;
+      ruled = c.as_slice-2.ensures.value ∙ is.rules;
+    } in
+    let most : c.max_total_hits-most.result ≤ 1000000 = omega (arith, c.max_total_hits-most.ensures.number, c.max_total_hits-most.ensures.limit) in
+    let le : c.window_end.result ≤ 2 ^ 64 - 1 = omega (arith, c.window_end.ensures, most) in
+    let same : opened passing graph rules (documents_of paths c.as_slice.result.now rows) c.window_start-start.result c.saturating_sub-limit.result ≡ opened_in c.args.self.now call =
+    ap₂ (λ us n. opened passing graph rules (documents_of paths us rows) c.window_start-start.result n) uses c.saturating_sub-limit.ensures
+    ∙ opens-same index call passing graph rules asked c.window_start-start.result c.window_end.result (2 ^ 64 - 1) c.self.invariant.rows.sound
+    (c.window_start-start.ensures ∙ ap (λ (v : SearchView). min (offset_of v.window) (2 ^ 64 - 1)) seen)
+    (c.window_end.ensures ∙ ap (min (offset_of c.call.inside.window + limit_of c.call.inside.window)) c.max_total_hits-most.ensures.number ∙ ap (window_end index.settings.max_total_hits) seen)
+    le
+    ∙ ap (λ (i : Index). opened_in i call) c.self.view_is in
+    on-err c.from_residual-in_err-found.result
+    (subst (GainsPrefix _ _) same c.in_err-found.ensures.err_told, subst (λ all. RisesAtMost c.args.openings.now c.search_documents.new.openings (length all)) same c.in_err-found.ensures.err_steps)
+
+pub returns-clause-opens : goal.returns-clause-opens
+returns-clause-opens g c =
+    let index : Index = record { key = c.self.inside.key; store = c.self.inside.store.content; settings = c.self.inside.settings } in
+    let call = c.args.call.now in
+    let seen = c.call.view_is in
+    let ranking = c.args.ranking.now in
+    let is : IsRankingOf ranking index call = subst (λ (i : Index). IsRankingOf ranking i call) (sym c.self.view_is) c.requires in
+    let passing : RowsView → Bool = λ rows. holds index.store.paths rows (tree_of c.call.inside.filter) in
+    let graph = ranking.query in
+    let rules = c.as_slice-2.result.now in
+    let paths = index.store.paths in
+    let rows = index.store.rows in
+    let uses = c.as_slice.ensures.value ∙ is.uses in
+    let asked : IsAsked index call passing graph rules = record {
+      filter = λ rows. ap (λ (v : SearchView). holds paths rows v.filter) seen;
+      query = is.costs;
+      ruled = c.as_slice-2.ensures.value ∙ is.rules;
+    } in
+    let most : c.max_total_hits-most.result ≤ 1000000 = omega (arith, c.max_total_hits-most.ensures.number, c.max_total_hits-most.ensures.limit) in
+    let le : c.window_end.result ≤ 2 ^ 64 - 1 = omega (arith, c.window_end.ensures, most) in
+    let same : opened passing graph rules (documents_of paths c.as_slice.result.now rows) c.window_start-start.result c.saturating_sub-limit.result ≡ opened_in c.args.self.now call =
+    ap₂ (λ us n. opened passing graph rules (documents_of paths us rows) c.window_start-start.result n) uses c.saturating_sub-limit.ensures
+    ∙ opens-same index call passing graph rules asked c.window_start-start.result c.window_end.result (2 ^ 64 - 1) c.self.invariant.rows.sound
+    (c.window_start-start.ensures ∙ ap (λ (v : SearchView). min (offset_of v.window) (2 ^ 64 - 1)) seen)
+    (c.window_end.ensures ∙ ap (min (offset_of c.call.inside.window + limit_of c.call.inside.window)) c.max_total_hits-most.ensures.number ∙ ap (window_end index.settings.max_total_hits) seen)
+    le
+    ∙ ap (λ (i : Index). opened_in i call) c.self.view_is in
+    (c.in_ok-found.ensures.told ∙ ap (and_then _) same, c.in_ok-found.ensures.steps ∙ ap (λ all. c.args.openings.now + length all) same)
+
+pub returns-in_err-found-clause-few : goal.returns-in_err-found-clause-few
+returns-in_err-found-clause-few g c =
+    let index : Index = record { key = c.self.inside.key; store = c.self.inside.store.content; settings = c.self.inside.settings } in
+    let call = c.args.call.now in
+    let seen = c.call.view_is in
+    let ranking = c.args.ranking.now in
+    let is : IsRankingOf ranking index call = subst (λ (i : Index). IsRankingOf ranking i call) (sym c.self.view_is) c.requires in
+    let passing : RowsView → Bool = λ rows. holds index.store.paths rows (tree_of c.call.inside.filter) in
+    let graph = ranking.query in
+    let rules = c.as_slice-2.result.now in
+    let paths = index.store.paths in
+    let rows = index.store.rows in
+    let uses = c.as_slice.ensures.value ∙ is.uses in
+    let asked : IsAsked index call passing graph rules = record {
+      filter = λ rows. ap (λ (v : SearchView). holds paths rows v.filter) seen;
+      query = is.costs;
+      ruled = c.as_slice-2.ensures.value ∙ is.rules;
+    } in
+    let ends : c.window_end.result ≡ window_end index.settings.max_total_hits call =
+    c.window_end.ensures ∙ ap (min (offset_of c.call.inside.window + limit_of c.call.inside.window)) c.max_total_hits-most.ensures.number ∙ ap (window_end index.settings.max_total_hits) seen in
+    let limit = c.saturating_sub-limit.ensures in
+    subst (λ (i : Index). c.search_documents.new.openings ≤ c.args.openings.now + length (rules_in i call) * min (window_end (most_hits i) call) (length (matching i call))) c.self.view_is
+    (opens-few index call passing graph rules asked c.window_start-start.result c.window_end.result c.args.openings.now c.search_documents.new.openings ends
+    (λ none. c.in_err-found.ensures.none_asked (limit ∙ none))
+    (subst (λ m. RisesAtMost c.args.openings.now c.search_documents.new.openings (length rules * m))
+    (ap₂ (λ us n. min (c.window_start-start.result + n) (length (matches_among passing graph rules (documents_of paths us rows)))) uses limit) c.in_err-found.ensures.few))
+
+pub returns-clause-few : goal.returns-clause-few
+returns-clause-few g c =
+    let index : Index = record { key = c.self.inside.key; store = c.self.inside.store.content; settings = c.self.inside.settings } in
+    let call = c.args.call.now in
+    let seen = c.call.view_is in
+    let ranking = c.args.ranking.now in
+    let is : IsRankingOf ranking index call = subst (λ (i : Index). IsRankingOf ranking i call) (sym c.self.view_is) c.requires in
+    let passing : RowsView → Bool = λ rows. holds index.store.paths rows (tree_of c.call.inside.filter) in
+    let graph = ranking.query in
+    let rules = c.as_slice-2.result.now in
+    let paths = index.store.paths in
+    let rows = index.store.rows in
+    let uses = c.as_slice.ensures.value ∙ is.uses in
+    let asked : IsAsked index call passing graph rules = record {
+      filter = λ rows. ap (λ (v : SearchView). holds paths rows v.filter) seen;
+      query = is.costs;
+      ruled = c.as_slice-2.ensures.value ∙ is.rules;
+    } in
+    let ends : c.window_end.result ≡ window_end index.settings.max_total_hits call =
+    c.window_end.ensures ∙ ap (min (offset_of c.call.inside.window + limit_of c.call.inside.window)) c.max_total_hits-most.ensures.number ∙ ap (window_end index.settings.max_total_hits) seen in
+    let limit = c.saturating_sub-limit.ensures in
+    subst (λ (i : Index). c.search_documents.new.openings ≤ c.args.openings.now + length (rules_in i call) * min (window_end (most_hits i) call) (length (matching i call))) c.self.view_is
+    (opens-few index call passing graph rules asked c.window_start-start.result c.window_end.result c.args.openings.now c.search_documents.new.openings ends
+    (λ none. c.in_ok-found.ensures.none_asked (limit ∙ none))
+    (subst (λ m. RisesAtMost c.args.openings.now c.search_documents.new.openings (length rules * m))
+    (ap₂ (λ us n. min (c.window_start-start.result + n) (length (matches_among passing graph rules (documents_of paths us rows)))) uses limit) c.in_ok-found.ensures.few))

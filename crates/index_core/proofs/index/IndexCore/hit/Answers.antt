@@ -8,7 +8,7 @@ use Rattle.index_core.specs.Index.{Index}
 use Rattle.index_core.specs.Ranking.{IsRankingOf}
 use Rattle.index_core.specs.Shown.{hit_at, costs_shown}
 use Rattle.index_core.proofs.Finding.{hit-some, costs-ranked, costs-hidden}
-use Rattle.index_core.proofs.Settling.{uses-length}
+use Rattle.search_settings.proofs.UseLemmas.{uses-length}
 use Rattle.index_core.proofs.index.IndexCore.hit.Goals as goal
 use Rattle.index_core.proofs.index.IndexCore.hit.Goals.{then-call+in_ok-costs, else-call}
 

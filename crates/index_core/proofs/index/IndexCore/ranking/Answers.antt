@@ -2,9 +2,10 @@ use Rattle.std.proofs.Common.{length, ap, subst, ◌∙◌, arith}
 use Rattle.search_call.specs.SearchView.{SearchView}
 use Rattle.index_core.specs.declared.ranking.Ranking.{Ranking}
 use Rattle.index_core.specs.Index.{Index}
-use Rattle.index_core.specs.Matching.{rules_in, uses_from}
+use Rattle.index_core.specs.Matching.{rules_in}
+use Rattle.search_settings.specs.Uses.{uses_from}
 use Rattle.index_core.specs.Ranking.{IsRankingOf}
-use Rattle.index_core.specs.Rules.{rules_with}
+use Rattle.search_settings.specs.Rules.{rules_with}
 use Rattle.index_core.proofs.index.IndexCore.ranking.Goals as goal
 
 pub uses_of-requires : goal.uses_of-requires

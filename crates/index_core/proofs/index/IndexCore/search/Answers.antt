@@ -5,14 +5,16 @@ use Rattle.search_base.specs.Trying.{◌>>◌}
 use Rattle.search_base.specs.declared.document.DocId.{DocId}
 use Rattle.index_core.specs.Index.{Index}
 use Rattle.index_core.specs.Found.{found_in}
-use Rattle.index_core.specs.SearchFaults.{search_fault}
+use Rattle.search_settings.specs.SearchFaults.{search_fault}
 use Rattle.index_core.specs.Shown.{hit_at, hit_shown}
+use Rattle.index_core.specs.Opened.{log_state}
+use Rattle.index_core.proofs.Tracing.{opens-fine}
 use Rattle.index_core.proofs.Finding.{filter-mapped, found-same, length-map}
 use Rattle.index_core.proofs.index.IndexCore.search.Goals as goal
 
 pub returns-clause-fetches : goal.returns-clause-fetches
 returns-clause-fetches g c =
-    let f = c.in_ok-ids.ensures in
+    let f = c.in_ok-ids.ensures.found in
     let now = c.args.self.now in
     let call = c.args.call.now in
     let ids = c.as_slice.result.now in
@@ -23,7 +25,7 @@ returns-clause-fetches g c =
 
 pub returns-clause-answer : goal.returns-clause-answer
 returns-clause-answer g c =
-    let f = c.in_ok-ids.ensures in
+    let f = c.in_ok-ids.ensures.found in
     let now = c.args.self.now in
     let call = c.args.call.now in
     let ids = c.as_slice.result.now in
@@ -31,3 +33,11 @@ returns-clause-answer g c =
     ap (λ o. o >> Ok (found_in now call)) none
     ∙ ap Ok (sym (found-same (found_in now call) (map hit_shown c.in_ok-hits.hits.items) c.in_ok-ids.field-0.total (option_map (λ facets. facets.items) c.in_ok-ids.field-0.facets)
     (c.in_ok-hits.ensures.hits ∙ filter-mapped (λ (id : DocId). id.0) (hit_at now call) ids ∙ ap (λ is. filter_map (hit_at now call) (map (λ (id : DocId). id.0) is)) c.as_slice.ensures.value ∙ f.hits) f.total f.facets))
+
+pub returns-in_err-hits-clause-opens : goal.returns-in_err-hits-clause-opens
+returns-in_err-hits-clause-opens g c =
+    let now = c.args.self.now in
+    let call = c.args.call.now in
+    let none = sym (ap (λ (i : Index). search_fault i.settings call) c.self.view_is) ∙ c.in_ok-check_search.ensures in
+    opens-fine now call _ (log_state ((g.dyn-1.0.entry c.args.log.now.vtable).1.told c.args.log.now.value) c.args.openings.now) (log_state ((g.dyn-1.0.entry c.find.new.log.vtable).1.told c.find.new.log.value) c.find.new.openings) none
+    c.in_ok-ids.ensures.opens

@@ -1,7 +1,0 @@
-use Rattle.std.proofs.Common.{◌≡◌, ◌++◌, take, map}
-use Rattle.index_core.specs.Rules.{criterion_entry}
-use Rattle.index_core.proofs.rules.add_criteria.Given as goal
-
--- the entries of the criteria so far
-abbrev pub invariant-loop-criterion : goal.invariant-loop-criterion
-invariant-loop-criterion l = l.rules.items ≡ l.initial.rules.items ++ map (criterion_entry l.paths) (take l.criterion-index l.sort)

@@ -1,0 +1,3 @@
+pub mod SynonymLemmas
+pub mod EachOnce
+pub mod UseLemmas

@@ -1,0 +1,15 @@
+use Rattle.std.proofs.Common.{ap, ap₂, sym, subst, ◌∙◌}
+use Rattle.search_base.specs.Query.{tuple_under}
+use Rattle.search_call.specs.SearchView.{SearchView}
+use Rattle.query_graph.specs.ItemReadings.{query_for}
+use Rattle.query_graph.specs.Items.{items_of}
+use Rattle.search_settings.specs.QueryWords.{query_with, AreWordsOf}
+use Rattle.search_settings.proofs.query_words.QueryWords.query.Goals as goal
+
+pub returns-clause-costs : goal.returns-clause-costs
+returns-clause-costs c = λ settings are rows rules.
+    let words = subst (λ v. AreWordsOf v settings) (sym c.self.view_is) are in
+    c.in_ok-graph.ensures.costs rows rules
+    ∙ ap₂ (λ table list. tuple_under rows (query_for c.call.inside.strategy table list) rules) words.synonyms
+    (c.in_ok-items.ensures.items ∙ ap₂ items_of c.as_str.ensures (c.as_slice.ensures.value ∙ words.stop_words))
+    ∙ ap (λ (v : SearchView). tuple_under rows (query_with settings v) rules) c.call.view_is
