@@ -96,7 +96,7 @@ fn done(rt: &HostRuntime, what: &str, thousands: u32, rounds: u32) -> Result<u64
             attribute: Word::new(alloc, what)?,
             path: Some(PathId(path)),
         };
-        let reply = counts(alloc, &shelf, &matching, asked, most)?;
+        let reply = counts(alloc, &shelf, shelf.leaves(), &matching, asked, most)?;
         last = reply.rows.len() as u64;
     }
     Ok(last)

@@ -1,7 +1,7 @@
 -- Documents that are the same under each internal id are the same to an index.
 use Rattle.std.proofs.Common.{◌≡◌, ℕ, ◌==◌, ◌⊎◌, inl, inr, Bool, true, false, ◌||◌, cond, List, [], ◌∷◌, map, Some, refl, sym, ap, ◌∙◌, subst, eq-eqb, eqb-true}
 use Rattle.std.specs.Cmp.{both_ways}
-use Rattle.std.specs.Option.{unwrap_or}
+use Rattle.std.specs.Option.{unwrap_or, option_map}
 use Rattle.std.specs.List.{list_any, AllByRecursion}
 use Rattle.std.proofs.Math.Bool.{or-true}
 use Rattle.std.proofs.lemmas.Bool.{cond-true, cond-false, true≢false}
@@ -12,10 +12,11 @@ use Rattle.postings.specs.Documents.{Document, stands_in}
 use Rattle.postings.specs.Documents as postings
 use Rattle.postings.specs.Fresh as fresh
 use Rattle.path_lengths.specs.Measured.{measured}
-use Rattle.facet_index.specs.LeavesView.{LeavesView}
+use Rattle.facet_index.specs.LeavesView.{LeavesView, leaves_of}
 use Rattle.facet_index.specs.Places.{IsNarrowDocument, keyed}
 use Rattle.row_index.specs.Documents.{IndexedDocument, AreApart, document_at}
 use Rattle.row_index.specs.Standing.{RowIndexView, StandsFor, placed, faceted}
+use Rattle.row_index.proofs.PartLemmas.{at_faceted}
 use Rattle.doc_index.specs.Ready.{AreTheSame}
 
 -- ---- lists of the same members
@@ -122,5 +123,7 @@ stands-same index xs ys others the_same stood =
         keys = lists-same index.facets _ _ (mapped-same keyed (map faceted xs) (map faceted ys) leaves) (apart-keyed ys others) stood.facets.keys;
         narrow = all-same IsNarrowDocument (map faceted xs) (map faceted ys) leaves stood.facets.narrow;
       };
+      leaves = λ id. stood.leaves id
+          ∙ ap leaves_of (at_faceted id xs ∙ ap (option_map faceted) (the_same id) ∙ sym (at_faceted id ys));
       ids = λ id. stood.ids id ∙ any-same (λ d. d.id == id) xs ys same;
     }

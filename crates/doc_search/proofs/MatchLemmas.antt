@@ -13,7 +13,8 @@ use Rattle.doc_store.specs.Sound.{Increase}
 use Rattle.row_index.specs.Documents.{IndexedDocument, AreApart, document_at}
 use Rattle.row_index.specs.Standing.{faceted}
 use Rattle.facet_index.specs.Batches as facets
-use Rattle.list_facets.specs.Rows.{AreRowsOf, leaves_of}
+use Rattle.facet_index.specs.LeavesView.{leaves_of}
+use Rattle.list_facets.specs.Rows.{AreRowsOf}
 use Rattle.list_search.specs.Matches.{match_at, ids_of}
 use Rattle.index_snapshot.specs.Matches.{AreInOrder, matches_among}
 use Rattle.index_snapshot.specs.Rows.{rows_of, rows_at}

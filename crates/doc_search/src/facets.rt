@@ -36,5 +36,5 @@ fn count_values(
 ) -> Result<FacetReply, NoMemory>
     ensures { IfOk result (λ reply. reply ≡ counted most (map (rows_at searched.now) matching.now.ids) facet) }
 {
-    counts(alloc, searched, matching, facet, most)
+    counts(alloc, searched, searched.leaves(), matching, facet, most)
 }

@@ -35,10 +35,10 @@ pub struct DocumentsFound {
 
 /// The documents of the store that pass the filter and that the query matches: of these the hits from number `offset`
 /// on, of which there are `limit` at most, by their costs under the rules and then by internal id; how many match; and
-/// for each asked attribute the counts of its first `most` values. The row index is that of the store's documents, whose
-/// paths are used as `uses` says; each rank is below 65,535. Each bucket that is opened on the way is told to the log and
-/// is one step; no hits are asked for, none is opened. `NoMemory` comes where memory is wanting, and the log then has the
-/// first of what a search opens.
+/// for each asked attribute the counts of its first `most` values. The row index is that of the store's documents,
+/// whose paths are used as `uses` says; each rank is below 65,535. Each bucket that is opened on the way is told to the
+/// log and is one step; no hits are asked for, none is opened. `NoMemory` comes where memory is wanting, and the log
+/// then has the first of what a search opens.
 pub fn search_documents<G>(
     alloc: Global,
     store: &DocStore,

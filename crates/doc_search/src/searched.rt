@@ -1,5 +1,6 @@
-ghost use Rattle.std.specs.Prelude.{◌≡◌, ◌<◌, IfOk, IfSome};
-ghost use Rattle.row_index.specs.Standing.{StandsFor};
+ghost use Rattle.std.specs.Prelude.{◌≡◌, ◌<◌, map, IfOk, IfSome};
+ghost use Rattle.leaf_table.specs.Tables.{AreLeavesOf};
+ghost use Rattle.row_index.specs.Standing.{StandsFor, faceted};
 ghost use Rattle.doc_index.specs.Documents.{documents_of};
 ghost use Rattle.doc_search.specs.Ranked.{ranks_of as ranks_in, RankedBelow};
 
@@ -7,6 +8,7 @@ use doc_rows::PathUse;
 use doc_store::DocStore;
 use facet_index::{FacetIndex, Indexed};
 use index_snapshot::IndexedRows;
+use leaf_table::LeafTable;
 use row_index::RowIndex;
 use search_base::NoMemory;
 use std::alloc::Global;
@@ -58,6 +60,13 @@ impl<'a> Searched<'a> {
             ranks,
             bound: bound_of(uses),
         })
+    }
+
+    /// The leaves of each document.
+    pub(crate) fn leaves(&self) -> &LeafTable
+        ensures { AreLeavesOf result.now (map faceted self.now) }
+    {
+        self.index.leaves()
     }
 }
 

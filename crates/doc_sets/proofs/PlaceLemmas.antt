@@ -1,5 +1,5 @@
 -- What an edit at a place that a search found does.
-use Rattle.std.proofs.Common.{◌≡◌, ℕ, zero, suc, ◌<◌, ◌≤◌, true, false, ◌||◌, cond, eqb, ltb, ◌+◌, inl, inr, List, [], ◌∷◌, length, get_or, refl, sym, ap, subst, ◌∙◌, arith}
+use Rattle.std.proofs.Common.{◌≡◌, ℕ, zero, suc, ◌<◌, ◌≤◌, true, false, ◌||◌, cond, eqb, ltb, ◌+◌, inl, inr, List, [], ◌∷◌, ◌++◌, length, get_or, refl, sym, ap, subst, ◌∙◌, arith}
 use Rattle.std.proofs.lemmas.Bool.Decides.{nat_tests}
 use Rattle.std.proofs.lemmas.Bool.{eq-eqb, ne_eqb, eqb-true, eqb-false, or_left, or_parts, cond_both, cond-true, cond-false, lt-ltb, le-ltb, cases_eq}
 use Rattle.std.specs.List.{insert, remove, slice_get}
@@ -13,6 +13,7 @@ use Rattle.std.specs.Slice.{IsItemAt}
 use Rattle.std.proofs.lemmas.Option.{slice_get-get_or}
 use Rattle.std.proofs.lemmas.List.Sorted.{searched}
 use Rattle.doc_sets.specs.Sets.{has, AreAbove, IsIncreasing, IsAt, IsGap, above, with_id, without_id}
+use Rattle.doc_sets.specs.Kept.{AreBelow}
 use Rattle.doc_sets.proofs.SetLemmas.{put-less, put-same, put-more, increasing-put, increasing-same, has-with_id}
 
 at_tail : (x : ℕ) (xs : List ℕ) (d i : ℕ) → IsAt (x ∷ xs) d (suc i) → IsAt xs d i
@@ -126,3 +127,8 @@ length-out d [] e = absurd (cc)
 length-out d (x ∷ xs) e =
     cond_both (eqb d x) xs (x ∷ without_id d xs) (λ v. length v + 1 ≡ suc (length xs)) (λ _. omega arith)
     (λ s. omega (arith, length-out d xs (sym (ap (λ b. b || has xs d) (ne_eqb x d (λ t. eqb-false d x s (sym t)))) ∙ e)))
+
+-- a number behind all others goes to the end
+pub put-behind : (d : ℕ) (xs : List ℕ) → AreBelow d xs → with_id d xs ≡ xs ++ d ∷ []
+put-behind d [] h = refl
+put-behind d (x ∷ xs) h = put-more d x xs (h 0 (omega arith)) ∙ ap (λ v. x ∷ v) (put-behind d xs (λ k l. h (suc k) (omega (arith, l))))

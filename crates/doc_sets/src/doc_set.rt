@@ -9,7 +9,7 @@ use crate::kept::{
     Kept, add_to, kept_and, kept_and_len, kept_insert, kept_insert_reserved, kept_limit,
     kept_minus, kept_or, kept_remove, listed_and_reserved, numbers, packed, packed_list,
 };
-use crate::merge::{first_above, holds};
+use crate::merge::{Ids, first_above, holds};
 use search_base::{DocId, NoMemory};
 use smallvec::SmallVec;
 use std::alloc::{AllocError, Global};
@@ -70,8 +70,7 @@ impl DocSet {
         ensures { IfOk result (λ set. set.ids ≡ map (λ id. id.0) ids.now) }
     {
         let list = numbers(alloc, ids)?;
-        let kept = packed_list(alloc, list)?;
-        Ok(DocSet { kept })
+        DocSet::from_list(alloc, list)
     }
 
     /// Whether the document is in the set, found by halving or by its bit.
@@ -224,6 +223,15 @@ impl DocSet {
         ensures { IfOk result (λ set. set.ids ≡ difference self.now.ids other.now.ids) }
     {
         let kept = kept_minus(alloc, &self.kept, &other.kept)?;
+        Ok(DocSet { kept })
+    }
+
+    // The set of a list of ids.
+    pub(crate) fn from_list(alloc: Global, ids: Ids) -> Result<DocSet, NoMemory>
+        requires { IsIncreasing ids.items }
+        ensures { IfOk result (λ set. set.ids ≡ ids.items) }
+    {
+        let kept = packed_list(alloc, ids)?;
         Ok(DocSet { kept })
     }
 

@@ -25,7 +25,7 @@ pub struct FlatRow {
     pub value: Flat,
 }
 
-/// The rows of a document, in the order of its walk. Rows of one member share the text of its path.
+/// The rows of a document, in the order of its walk. Rows of one member have one path.
 ///
 /// For each visited member come first the marks that hold of its value, `Exists` and then `Null` or `Empty`, and
 /// then, as they stand in the value, its leaves (through arrays) and the rows of the members inside it. Null in an

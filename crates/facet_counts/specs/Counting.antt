@@ -1,5 +1,5 @@
 -- Inside: what the counts of documents hold while documents are added. Callers use `AreCountsOf` as a whole.
-use Rattle.std.specs.Prelude.{◌≡◌, ◌≤◌, ◌+◌, ◌==◌, ℕ, ℤ, Bool, true, false, cond, not, List, [], ⊤, length, map, take, Option, Some, None, if◌then◌else◌}
+use Rattle.std.specs.Prelude.{◌≡◌, ◌≤◌, ◌+◌, ◌==◌, ℕ, ℤ, Bool, true, false, not, List, [], ⊤, length, map, take, Option, Some, None, if◌then◌else◌}
 use Rattle.std.specs.BTreeMap.{keys, get, is_at}
 use Rattle.std.specs.BTreeSet.{insert_key}
 use Rattle.std.specs.Cmp.Lexicographic.{slice_cmp}

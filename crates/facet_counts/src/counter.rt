@@ -8,7 +8,7 @@ ghost use Rattle.facet_counts.specs.Counting.{entry_row, reply_of};
 ghost use Rattle.facet_counts.specs.Counts.{both_of};
 
 use crate::rows::{CountRow, FacetPath, FacetReply};
-use search_base::{DocRows, FacetValue, Leaf, NoMemory, PathId, Word};
+use search_base::{FacetValue, Leaf, NoMemory, PathId, Word};
 use std::alloc::Global;
 use std::collections::BTreeMap;
 
@@ -57,13 +57,13 @@ impl Tally {
         }
     }
 
-    fn add(&mut self, alloc: Global, rows: &DocRows) -> Result<(), NoMemory>
-        ensures { OnOk result ((at : Path) (documents : List RowsView)
-            → IsTallyOf (tally_view self.old) at documents
-            → IsTallyOf (tally_view self.new) at (documents ++ rows.now ∷ [])) }
+    fn add(&mut self, alloc: Global, leaves: &[Leaf]) -> Result<(), NoMemory>
+        ensures { OnOk result ((at : Path) (documents : List RowsView) (rows : RowsView)
+            → rows.leaves ≡ leaves.now → IsTallyOf (tally_view self.old) at documents
+            → IsTallyOf (tally_view self.new) at (documents ++ rows ∷ [])) }
     {
         self.documents = next(self.documents)?;
-        for leaf in &rows.leaves {
+        for leaf in leaves {
             if leaf.path == self.path {
                 self.add_leaf(alloc, leaf)?;
             }
@@ -133,14 +133,14 @@ impl Counter {
         self.tally.is_some()
     }
 
-    /// Counts one more document.
-    pub(crate) fn add(&mut self, alloc: Global, rows: &DocRows) -> Result<(), NoMemory>
-        ensures { OnOk result ((asked : Asked) (documents : List RowsView)
-            → IsCounterOf (counter_view self.old) asked documents
-            → IsCounterOf (counter_view self.new) asked (documents ++ rows.now ∷ [])) }
+    /// Counts one more document, which has these leaves.
+    pub(crate) fn add(&mut self, alloc: Global, leaves: &[Leaf]) -> Result<(), NoMemory>
+        ensures { OnOk result ((asked : Asked) (documents : List RowsView) (rows : RowsView)
+            → rows.leaves ≡ leaves.now → IsCounterOf (counter_view self.old) asked documents
+            → IsCounterOf (counter_view self.new) asked (documents ++ rows ∷ [])) }
     {
         match &mut self.tally {
-            Some(tally) => tally.add(alloc, rows),
+            Some(tally) => tally.add(alloc, leaves),
             None => Ok(()),
         }
     }

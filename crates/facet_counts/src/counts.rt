@@ -7,7 +7,7 @@ ghost use Rattle.facet_counts.specs.Counts.{counted};
 
 use crate::counter::Counter;
 use crate::rows::{FacetPath, FacetReply};
-use search_base::{DocRows, NoMemory};
+use search_base::{Leaf, NoMemory};
 use std::alloc::Global;
 use std::marker::Model;
 
@@ -47,14 +47,15 @@ impl FacetCounts {
         have_no_path(&self.counters)
     }
 
-    /// Counts one more document, which has these rows. `NoMemory` comes where memory is wanting, and at a document
+    /// Counts one more document, which has these leaves. `NoMemory` comes where memory is wanting, and at a document
     /// beyond the last number of 64 bits; after it nothing is known of the counts.
-    pub fn add(&mut self, alloc: Global, rows: &DocRows) -> Result<(), NoMemory>
-        ensures { OnOk result ((asked : List Asked) (documents : List RowsView)
-            → AreCountsOf self.old asked documents → AreCountsOf self.new asked (documents ++ rows.now ∷ [])) }
+    pub fn add_leaves(&mut self, alloc: Global, leaves: &[Leaf]) -> Result<(), NoMemory>
+        ensures { OnOk result ((asked : List Asked) (documents : List RowsView) (rows : RowsView)
+            → rows.leaves ≡ leaves.now → AreCountsOf self.old asked documents
+            → AreCountsOf self.new asked (documents ++ rows ∷ [])) }
     {
         for counter in self.counters.iter_mut() {
-            counter.add(alloc, rows)?;
+            counter.add(alloc, leaves)?;
         }
         Ok(())
     }

@@ -88,6 +88,7 @@ if_first up wrap is (Some n) text = ap Some (is (facet.Number n))
 if_first up wrap is None (Some t) = ap Some (is (facet.Text t))
 if_first up wrap is None None = refl
 
+-- the entry of leaves is that of their first value
 pub entry_is : (up : Bool) (path : ℕ) (leaves : List Leaf) → sort_entry up path leaves ≡ option_map (entry_of up) (first_value up path leaves)
 entry_is true path leaves =
     if_first true cost.Up (λ v. refl) (first_by is_less (numbers (leaves_under path leaves))) (first_by is_text_less (texts (leaves_under path leaves)))
@@ -98,6 +99,7 @@ entry_is false path leaves =
 
 -- ---- the order of entries
 
+-- entries come before each other as their values do
 pub entries_before : (up : Bool) (v w : FacetValue) → before (entry_of up v) (entry_of up w) ≡ value_before up v w
 entries_before true (facet.Number m) (facet.Number n) = refl
 entries_before true (facet.Number m) (facet.Text w) = refl

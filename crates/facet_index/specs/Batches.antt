@@ -38,7 +38,7 @@ pub record IsChangeFor (change : ChangeView) (gone come : List LeavesView) : Typ
   pub keys : IsChangeOf change (map keyed gone) (map keyed come)
   pub narrow : AllByRecursion IsNarrowDocument come
 
--- the same, where what comes need not go
+-- the same, without what goes and comes
 pub record IsPreparedFor (change : ChangeView) (gone come : List LeavesView) : Type 0 where
   pub keys : IsPreparedOf change (map keyed gone) (map keyed come)
   pub narrow : AllByRecursion IsNarrowDocument come

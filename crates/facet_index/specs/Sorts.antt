@@ -16,8 +16,8 @@ abbrev pub if_there : (SortKey → CostKey) → SortKey → Option CostKey
 if_there wrap Missing = None
 if_there wrap key = Some (wrap key)
 
--- the entry of the leaves under a path: the least number, else the least text, or descending the greatest; none where no
--- leaf stands there
+-- the entry of the leaves under a path: the least number, else the least text, or descending the greatest; none where
+-- no leaf stands there
 abbrev pub sort_entry : Bool → ℕ → List Leaf → Option CostKey
 sort_entry true path leaves = if_there Up (least_key (leaves_under path leaves))
 sort_entry false path leaves = if_there Down (greatest_key (leaves_under path leaves))

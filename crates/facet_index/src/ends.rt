@@ -105,8 +105,10 @@ pub(crate) fn end_key(
     }
 }
 
-// Of the values under a path the one that comes first.
-fn first_value(leaves: &[Leaf], path: PathId, up: bool) -> Option<&FacetValue>
+/// Of the values that leaves have under a path the one that comes first: ascending the least number, else the least
+/// text, and descending the greatest number, else the greatest text. None exactly where no leaf stands under the path.
+/// Takes no memory, and goes over all the leaves.
+pub fn first_value(leaves: &[Leaf], path: PathId, up: bool) -> Option<&FacetValue>
     ensures { option_copied result ≡ first_value_in up path.0 leaves.now }
 {
     let mut first: Option<&FacetValue> = None;
@@ -121,8 +123,9 @@ fn first_value(leaves: &[Leaf], path: PathId, up: bool) -> Option<&FacetValue>
     first
 }
 
-// Of a value and what may be there, the one that comes first.
-fn sooner<'a>(up: bool, value: &'a FacetValue, other: Option<&'a FacetValue>) -> &'a FacetValue
+/// Of a value and another, where there is one, the value that comes first in the direction; the given one where neither
+/// comes before the other. Takes no memory.
+pub fn sooner<'a>(up: bool, value: &'a FacetValue, other: Option<&'a FacetValue>) -> &'a FacetValue
     ensures { result.now ≡ sooner_by (value_before_in up) value.now (option_copied other.entry) }
 {
     match other {

@@ -67,8 +67,8 @@ impl FacetIndex {
     }
 }
 
-// A value as an entry of the direction.
-fn entry_of(up: bool, value: FacetValue) -> CostKey
+/// A value as an entry of the direction, ascending or not. Takes no memory.
+pub fn entry_of(up: bool, value: FacetValue) -> CostKey
     ensures { result ≡ entry_of_value up value }
 {
     let key = match value {

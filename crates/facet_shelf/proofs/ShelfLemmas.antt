@@ -7,6 +7,7 @@ use Rattle.postings.specs.Dictionary.{PostingsView}
 use Rattle.facet_index.specs.LeavesView.{LeavesView, leaves_at}
 use Rattle.facet_index.specs.Batches.{has_id, AreApart, IsBatch, without, after}
 use Rattle.facet_index.specs.Places.{IsIndexOf}
+use Rattle.leaf_table.specs.Tables.{TableView, AreLeavesOf}
 use Rattle.facet_shelf.specs.Shelves.{put, numbered}
 
 -- the numbers of the documents are below this one
@@ -39,6 +40,9 @@ first_batch leaves = record { whole = tt; once = put_apart 0 [] leaves tt tt; fr
 
 pub all_there : (view : PostingsView) (leaves : List (Vec Leaf Global)) → IsIndexOf view (after [] (numbered leaves) []) → IsIndexOf view (numbered leaves)
 all_there view leaves index = subst (IsIndexOf view) (append-nil (numbered leaves)) index
+
+pub all_kept : (table : TableView) (leaves : List (Vec Leaf Global)) → AreLeavesOf table (after [] (numbered leaves) []) → AreLeavesOf table (numbered leaves)
+all_kept table leaves kept = subst (AreLeavesOf table) (append-nil (numbered leaves)) kept
 
 -- one document more
 pub put_more : (leaves : List (Vec Leaf Global)) (i : ℕ) (x d : Vec Leaf Global) (others : List LeavesView) → i < length leaves → x ≡ get_or leaves i d

@@ -1,7 +1,7 @@
-//! Documents with their facet index, for tests and measurements of what asks for an index and its documents.
+//! Documents with their facet index and the table of their leaves, for tests and measurements of what asks for these.
 //!
-//! Promises that the index is that of documents, of which only their leaves are given. The crate stands on
-//! `search_base`, `facet_keys`, `postings` and `facet_index`.
+//! Promises that the index and the table are those of the documents, of which only their leaves are given. The crate
+//! stands on `search_base`, `facet_keys`, `postings`, `facet_index` and `leaf_table`.
 #![tactic(auto)]
 
 mod shelf;

@@ -1,12 +1,12 @@
 -- What the reading of a text says, and that each text has the one that its rule asks for.
 use Rattle.std.proofs.Common.{◌≡◌, ℕ, ◌<◌, ◌≤◌, List, [], ◌∷◌, ◌++◌, length, Option, Some, None, Result, Ok, Err, refl, sym, ap, subst, ◌∙◌, append_assoc, arith, length-append}
-use Rattle.filter_expr.specs.Grammar.{Ors}
-use Rattle.filter_expr.specs.Machine.{Machine, new_machine, Reading, accept}
-use Rattle.filter_expr.specs.Scan.{with, gap}
-use Rattle.filter_expr.specs.Text.{Piece, spell, spelled, IsFilter, Begins}
+use Rattle.filter_machine.specs.Grammar.{Ors}
+use Rattle.filter_machine.specs.Machine.{Machine, new_machine, Reading, accept}
+use Rattle.filter_machine.specs.Scan.{with, gap}
+use Rattle.filter_machine.specs.Text.{Piece, spell, spelled, IsFilter, Begins}
 use Rattle.filter_expr.specs.Faults.{IsSyntaxFault, IsTooDeep, IsWithin}
 use Rattle.filter_expr.specs.Limit.{TextFault, syntax_at, too_deep_at, outcome_at, accepted_at, ended_at, reading_of}
-use Rattle.filter_expr.proofs.Readings.{filter_reading}
+use Rattle.filter_machine.proofs.Readings.{filter_reading}
 use Rattle.filter_expr.proofs.Limited.{Says, says, read_within}
 use Rattle.filter_expr.proofs.Places.{place_is}
 use Rattle.filter_expr.proofs.Deep.{too_deep_is, too_deep_read}

@@ -2,19 +2,19 @@
 use Rattle.std.proofs.Common.{◌≡◌, ℕ, suc, ◌+◌, ◌<◌, ◌≤◌, List, [], ◌∷◌, ◌++◌, length, true, false, Option, Some, None, Result, Ok, Err, refl, sym, ap, subst, ◌∙◌, add-one, arith}
 use Rattle.std.proofs.Math.Utf8.{encode}
 use Rattle.std.proofs.lemmas.Str.{encode_ascii}
-use Rattle.filter_expr.specs.Scan.{Scan, with, gap, in_word, in_quote, after_slash, after, takes, alone_step}
-use Rattle.filter_expr.specs.Machine.{Machine, step}
+use Rattle.filter_machine.specs.Scan.{Scan, with, gap, in_word, in_quote, after_slash, after, takes, alone_step}
+use Rattle.filter_machine.specs.Machine.{Machine, step}
 use Rattle.filter_expr.specs.Limit.{TextFault, syntax_at, too_deep_at, stepped, outcome_at, feed_by_at, goes_at}
-use Rattle.filter_expr.specs.declared.token.Token.TheVariants.{Text, Compare}
-use Rattle.filter_expr.specs.declared.token.Comparison.{Comparison}
+use Rattle.filter_machine.specs.declared.token.Token.TheVariants.{Text, Compare}
+use Rattle.filter_machine.specs.declared.token.Comparison.{Comparison}
 use Rattle.filter_expr.proofs.HighBytes.{encode_high, wide_of, word_high, word_high_refused, gap_high, quote_high, slash_high, after_high, after_high_refused}
 use Rattle.filter_expr.specs.Gives.{GivesScan, GivesChar, FaultIs, scanner_view}
 use Rattle.filter_expr.specs.declared.feed.ScanFault.{ScanFault}
 use Rattle.filter_expr.specs.declared.feed.ScanFault.TheVariants.{Syntax, TooDeep, NoMemory}
 use Rattle.filter_expr.specs.declared.feed.Scanner.{Scanner}
-use Rattle.filter_expr.specs.declared.scan.Quote.{Quote}
-use Rattle.filter_expr.specs.declared.scan.Quote.TheVariants.{Single, Double}
-use Rattle.filter_expr.specs.Held.{quote_byte}
+use Rattle.filter_machine.specs.declared.scan.Quote.{Quote}
+use Rattle.filter_machine.specs.declared.scan.Quote.TheVariants.{Single, Double}
+use Rattle.filter_machine.specs.Held.{quote_byte}
 
 pub char_given : (c at : ℕ) (s : Scan) (r : Result Scanner ScanFault) → c < 128 → GivesScan (feed_by_at s.lex at c s.machine) r → GivesChar c at s r
 char_given c at s (Ok t) low h = λ rest.

@@ -3,22 +3,22 @@ use Rattle.std.proofs.Common.{◌≡◌, ◌⊎◌, inl, inr, ℕ, suc, ◌+◌,
 use Rattle.std.specs.Prelude.{is_some, nat_lt}
 use Rattle.std.proofs.Math.Seq.{take-append_seam, get_or-append_seam}
 use Rattle.std.proofs.lemmas.Bool.{and_parts}
-use Rattle.filter_expr.specs.Machine.{Machine, step, run, then, new_machine}
-use Rattle.filter_expr.specs.Limit.{too_deep_at, opened, stepped, outcome_at, depth_at, depths, ended_at, reading_of}
+use Rattle.filter_machine.specs.Machine.{Machine, step, run, then, new_machine, opened}
+use Rattle.filter_expr.specs.Limit.{too_deep_at, stepped, outcome_at, depth_at, depths, ended_at, reading_of}
 use Rattle.filter_expr.specs.Faults.{most_depth}
-use Rattle.filter_expr.specs.Text.{is_letter, are_letters, word_token, Piece, blank, word, quoted, sign, pair, alone, spelled, token_in, spell, tokens, IsPiece, starts_no, Stops, AreCut}
-use Rattle.filter_expr.specs.Scan.{gap, in_word, with}
-use Rattle.filter_expr.specs.Grammar.{Ors, ors_tokens, ors_depths}
+use Rattle.filter_machine.specs.Text.{is_letter, are_letters, word_token, Piece, blank, word, quoted, sign, pair, alone, spelled, token_in, spell, tokens, IsPiece, starts_no, Stops, AreCut}
+use Rattle.filter_machine.specs.Scan.{gap, in_word, with}
+use Rattle.filter_machine.specs.Grammar.{Ors, ors_tokens, ors_depths}
 use Rattle.filter_expr.specs.Faults.{IsTooDeep}
-use Rattle.filter_expr.specs.declared.token.Token.{Token}
-use Rattle.filter_expr.specs.declared.token.Token.TheVariants.{Not, Open}
-use Rattle.filter_expr.proofs.Sound.{tokens_of}
-use Rattle.filter_expr.proofs.Complete.{filter_run}
+use Rattle.filter_machine.specs.declared.token.Token.{Token}
+use Rattle.filter_machine.specs.declared.token.Token.TheVariants.{Not, Open}
+use Rattle.filter_machine.proofs.Sound.{tokens_of}
+use Rattle.filter_machine.proofs.Complete.{filter_run}
 use Rattle.filter_expr.proofs.Traces.{filter_trace}
-use Rattle.filter_expr.proofs.Explains.{run_join}
-use Rattle.filter_expr.proofs.PieceRuns.{letter_is, run_parts}
-use Rattle.filter_expr.proofs.Fits.{fits_word}
-use Rattle.filter_expr.proofs.Viable.{completion, completion_run, next_settled}
+use Rattle.filter_machine.proofs.Explains.{run_join}
+use Rattle.filter_machine.proofs.PieceRuns.{letter_is, run_parts}
+use Rattle.filter_machine.proofs.Taking.{fits_word}
+use Rattle.filter_machine.proofs.Viable.{completion, completion_run, next_settled}
 use Rattle.filter_expr.proofs.Depths.{Fits, AreShallow, IsFlat, opens_or_flat, flat_fits, token_depth, deep_depth, not_below, by_step, next_fits, depths-append, length-depths}
 use Rattle.filter_expr.proofs.Limited.{Overdeep}
 use Rattle.filter_expr.proofs.Within.{pieces_go}

@@ -3,12 +3,12 @@ use Rattle.std.proofs.Common.{◌≡◌, ◌⊎◌, inl, inr, ℕ, suc, ◌+◌,
 use Rattle.std.specs.Prelude.{IfSome}
 use Rattle.std.specs.List.{AllByRecursion}
 use Rattle.filter_tree.specs.Tree.{Tree, negation}
-use Rattle.filter_expr.specs.Machine.{State, start, attribute, value, low, high, refused, in_list, first, item, after_comma, being, not_being, done, Level, level_of, Frame, under_not, bracket, Machine, at as machine_at, member_end, whole, closed, step, move, run, then}
-use Rattle.filter_expr.specs.Limit.{opened, deeper, depth_at, depths, depths_after}
+use Rattle.filter_machine.specs.Machine.{State, start, attribute, value, low, high, refused, in_list, first, item, after_comma, being, not_being, done, Level, level_of, Frame, under_not, bracket, Machine, at as machine_at, member_end, whole, closed, step, move, run, then, opened}
+use Rattle.filter_expr.specs.Limit.{deeper, depth_at, depths, depths_after}
 use Rattle.filter_expr.specs.Faults.{most_depth}
-use Rattle.filter_expr.specs.declared.token.Token.{Token}
-use Rattle.filter_expr.specs.declared.token.Token.TheVariants.{Text, And, Or, Not, In, To, Exists, Is, Null, Empty, Compare, Open, Close, ListOpen, ListClose, Comma}
-use Rattle.filter_expr.proofs.Sound.{some_if}
+use Rattle.filter_machine.specs.declared.token.Token.{Token}
+use Rattle.filter_machine.specs.declared.token.Token.TheVariants.{Text, And, Or, Not, In, To, Exists, Is, Null, Empty, Compare, Open, Close, ListOpen, ListClose, Comma}
+use Rattle.filter_machine.proofs.Sound.{some_if}
 
 abbrev pub Fits : Machine → Type 0
 Fits m = opened m ≤ most_depth

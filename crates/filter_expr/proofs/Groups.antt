@@ -4,9 +4,9 @@ use mathlib.Core.List.{map-append}
 use Rattle.std.specs.Prelude.{find, option_map}
 use Rattle.serde_json.specs.Data.{Data, null, string, array, Items, no_items, item}
 use Rattle.filter_tree.specs.Tree.{Tree, or_of}
-use Rattle.filter_expr.specs.Number.{is_no_number}
-use Rattle.filter_expr.specs.Grammar.{Ors, ors_tree, ors_values}
-use Rattle.filter_expr.specs.Machine.{or_first, bad_after, Reading}
+use Rattle.filter_machine.specs.Number.{is_no_number}
+use Rattle.filter_machine.specs.Grammar.{Ors, ors_tree, ors_values}
+use Rattle.filter_machine.specs.Machine.{or_first, bad_after, Reading}
 use Rattle.filter_expr.specs.Limit.{TextFault, syntax_at, too_deep_at, reading_of}
 use Rattle.filter_expr.specs.Faults.{IsSyntaxFault, IsTooDeep}
 use Rattle.filter_expr.specs.Texts.{texts_in, group_of, and_group, groups_in, groups_of, texts_among, texts_of_member, texts_of_members, texts_of}
@@ -14,7 +14,7 @@ use Rattle.filter_expr.specs.Parsed.{is_blank, Write, GroupsWrite, group_trees, 
 use Rattle.filter_expr.specs.Reader.{Progress, progress, new_progress, with_reading, text_read, and_then, texts_read, with_group, group_end, group_read, groups_read, value_read}
 use Rattle.filter_expr.specs.declared.fault.FilterRefusal.{FilterRefusal}
 use Rattle.filter_expr.specs.declared.fault.FilterRefusal.TheVariants.{Syntax, TooDeep, NotANumber, NotText}
-use Rattle.filter_expr.proofs.Complete.{bad_after-append}
+use Rattle.filter_machine.proofs.Complete.{bad_after-append}
 use Rattle.filter_expr.proofs.Answered.{AnswerIs, answer_is}
 
 -- ---- the first bad value

@@ -4,13 +4,13 @@ use Rattle.std.specs.Prelude.{nat_eq, nat_le}
 use Rattle.std.proofs.Math.Utf8.{encode}
 use Rattle.std.proofs.lemmas.Str.{inside_one, length-encode, len_utf8_bounds}
 use Rattle.std.proofs.lemmas.Bool.{eqb-true, or_parts}
-use Rattle.filter_expr.specs.Machine.{State, Machine}
-use Rattle.filter_expr.specs.Text.{letter, class_of, is_letter, keywords}
-use Rattle.filter_expr.specs.Scan.{gap, in_word, in_quote, after_slash, after, with, takes, fits, fits_keyword, starts_with, alone_step}
+use Rattle.filter_machine.specs.Machine.{State, Machine}
+use Rattle.filter_machine.specs.Text.{letter, class_of, is_letter, keywords}
+use Rattle.filter_machine.specs.Scan.{gap, in_word, in_quote, after_slash, after, with, takes, fits, fits_keyword, starts_with, alone_step}
 use Rattle.filter_expr.specs.Limit.{TextFault, syntax_at, stepped, outcome_at}
-use Rattle.filter_expr.specs.declared.token.Comparison.{Comparison}
-use Rattle.filter_expr.specs.declared.token.Token.{Token}
-use Rattle.filter_expr.specs.declared.token.Token.TheVariants.{Text}
+use Rattle.filter_machine.specs.declared.token.Comparison.{Comparison}
+use Rattle.filter_machine.specs.declared.token.Token.{Token}
+use Rattle.filter_machine.specs.declared.token.Token.TheVariants.{Text}
 
 abbrev pub AreHigh : List ℕ → Type 0
 AreHigh [] = Unit {0}

@@ -1,10 +1,3 @@
-pub mod Complete
-pub mod Sound
-pub mod Fits
-pub mod PieceRuns
-pub mod Explains
-pub mod Viable
-pub mod Readings
 pub mod Places
 pub mod Traces
 pub mod Depths
@@ -15,7 +8,5 @@ pub mod Answered
 pub mod Groups
 pub mod Unique
 pub mod Parses
-pub mod Steppings
-pub mod Frames
 pub mod HighBytes
 pub mod Chars

@@ -2,22 +2,22 @@
 use Rattle.std.proofs.Common.{◌≡◌, ◌⊎◌, inl, inr, ℕ, suc, ◌+◌, ◌-◌, ◌≤◌, ◌<◌, List, [], ◌∷◌, ◌++◌, length, Bool, true, false, Option, Some, None, Result, Ok, Err, refl, sym, ap, subst, ◌∙◌, append_assoc, append-nil, cond, arith, length-append}
 use Rattle.std.specs.Prelude.{nat_eq, nat_lt}
 use Rattle.std.proofs.lemmas.Bool.{eqb-true}
-use Rattle.filter_expr.specs.Machine.{Machine, step, run, then, new_machine, Reading, accept}
-use Rattle.filter_expr.specs.Grammar.{Ors}
-use Rattle.filter_expr.specs.Limit.{TextFault, syntax_at, too_deep_at, opened, stepped, spaced_at, so_at, begin_by_at, begin_after_at, feed_by_at, end_at, goes_at, outcome_at, depths}
+use Rattle.filter_machine.specs.Machine.{Machine, step, run, then, new_machine, Reading, accept, opened}
+use Rattle.filter_machine.specs.Grammar.{Ors}
+use Rattle.filter_expr.specs.Limit.{TextFault, syntax_at, too_deep_at, stepped, spaced_at, so_at, begin_by_at, begin_after_at, feed_by_at, end_at, goes_at, outcome_at, depths}
 use Rattle.filter_expr.specs.Faults.{most_depth}
-use Rattle.filter_expr.specs.Text.{Class, space, letter, quote, bang, greater, less, single, strange, class_of, is_letter, is_word, word_token, is_special, Item, byte, escaped, kept, item_text, texts, values, are_items, Piece, blank, word, quoted, sign, pair, alone, spelled, token_in, spell, tokens, IsPiece, Stops, AreCut, IsFilter}
-use Rattle.filter_expr.specs.Scan.{Lex, gap, in_word, in_quote, after_slash, after, Scan, with, takes, fits, alone_step}
+use Rattle.filter_machine.specs.Text.{Class, space, letter, quote, bang, greater, less, single, strange, class_of, is_letter, is_word, word_token, is_special, Item, byte, escaped, kept, item_text, texts, values, are_items, Piece, blank, word, quoted, sign, pair, alone, spelled, token_in, spell, tokens, IsPiece, Stops, AreCut, IsFilter}
+use Rattle.filter_machine.specs.Scan.{Lex, gap, in_word, in_quote, after_slash, after, Scan, with, takes, fits, alone_step}
 use Rattle.filter_expr.specs.Faults.{IsWithin}
-use Rattle.filter_expr.specs.declared.token.Token.{Token}
-use Rattle.filter_expr.specs.declared.token.Token.TheVariants.{Text, Compare}
-use Rattle.filter_expr.specs.declared.token.Comparison.{Comparison}
-use Rattle.filter_expr.specs.declared.token.Comparison.TheVariants.{Equal, Unequal, Above, AtLeast, Below, AtMost}
-use Rattle.filter_expr.proofs.Sound.{tokens_of}
+use Rattle.filter_machine.specs.declared.token.Token.{Token}
+use Rattle.filter_machine.specs.declared.token.Token.TheVariants.{Text, Compare}
+use Rattle.filter_machine.specs.declared.token.Comparison.{Comparison}
+use Rattle.filter_machine.specs.declared.token.Comparison.TheVariants.{Equal, Unequal, Above, AtLeast, Below, AtMost}
+use Rattle.filter_machine.proofs.Sound.{tokens_of}
 use Rattle.filter_expr.proofs.Traces.{filter_trace}
-use Rattle.filter_expr.proofs.Explains.{AloneIs, texts_more, values_more, items_more, word_more, stops_nil, letter_from}
+use Rattle.filter_machine.proofs.Explains.{AloneIs, texts_more, values_more, items_more, word_more, stops_nil, letter_from}
 use Rattle.filter_expr.proofs.Depths.{Fits, AreShallow, IsFlat, flat_fits, one_shallow}
-use Rattle.filter_expr.proofs.Readings.{filter_reading, reading_is}
+use Rattle.filter_machine.proofs.Readings.{filter_reading, reading_is}
 
 pub record Spelled (text : List ℕ) (m n : Machine) : Type 0 where
   pub pieces : List Piece

@@ -1,16 +1,16 @@
 -- The parser's answer for one text, and the grammar.
 use Rattle.std.proofs.Common.{◌≡◌, ℕ, suc, ◌+◌, ◌-◌, List, [], ◌∷◌, ◌++◌, length, Bool, true, false, Option, Some, None, Result, Ok, Err, cond, refl, sym, ap, subst, ◌∙◌, append-nil, arith}
 use Rattle.std.specs.Prelude.{nat_eq, nat_lt}
-use Rattle.filter_expr.specs.Grammar.{Ors}
-use Rattle.filter_expr.specs.Machine.{Machine, at, step, Reading, accept}
-use Rattle.filter_expr.specs.Text.{Class, space, letter, quote, bang, greater, less, single, strange, class_of, is_letter, word_token, is_special, IsFilter, Begins}
-use Rattle.filter_expr.specs.Scan.{Lex, gap, in_word, in_quote, after_slash, after, Scan, with, takes, fits, if_so, spaced, begin_by, begin, begin_after, alone_step, feed, end_by, goes, outcome, scan, proceeds}
-use Rattle.filter_expr.specs.Limit.{opened, TextFault, syntax_at, too_deep_at, stepped, spaced_at, so_at, begin_by_at, begin_after_at, feed_by_at, end_at, goes_at, outcome_at, accepted_at, ended_at, reading_of}
+use Rattle.filter_machine.specs.Grammar.{Ors}
+use Rattle.filter_machine.specs.Machine.{Machine, at, step, Reading, accept, opened}
+use Rattle.filter_machine.specs.Text.{Class, space, letter, quote, bang, greater, less, single, strange, class_of, is_letter, word_token, is_special, IsFilter, Begins}
+use Rattle.filter_machine.specs.Scan.{Lex, gap, in_word, in_quote, after_slash, after, Scan, with, takes, fits, if_so, spaced, begin_by, begin, begin_after, alone_step, feed, end_by, goes, outcome, scan, proceeds}
+use Rattle.filter_expr.specs.Limit.{TextFault, syntax_at, too_deep_at, stepped, spaced_at, so_at, begin_by_at, begin_after_at, feed_by_at, end_at, goes_at, outcome_at, accepted_at, ended_at, reading_of}
 use Rattle.filter_expr.specs.Faults.{most_depth}
 use Rattle.filter_expr.specs.Faults.{IsSyntaxFault}
-use Rattle.filter_expr.specs.declared.token.Token.TheVariants.{Text, Compare}
-use Rattle.filter_expr.specs.declared.token.Comparison.TheVariants.{Equal, Unequal, Above, AtLeast, Below, AtMost}
-use Rattle.filter_expr.proofs.Readings.{filter_reading, filter_read, read_filter, outcome_scan, refused_text, begins_text, new_scan}
+use Rattle.filter_machine.specs.declared.token.Token.TheVariants.{Text, Compare}
+use Rattle.filter_machine.specs.declared.token.Comparison.TheVariants.{Equal, Unequal, Above, AtLeast, Below, AtMost}
+use Rattle.filter_machine.proofs.Readings.{filter_reading, filter_read, read_filter, outcome_scan, refused_text, begins_text, new_scan}
 
 -- the limited answer beside the one without a limit, at a place
 abbrev pub Agrees : {X : Type 0} → ℕ → Option X → Result X TextFault → Type 0

@@ -1,12 +1,12 @@
 -- The depth of the machine is that of the derivation.
 use Rattle.std.proofs.Common.{◌≡◌, ℕ, suc, List, [], ◌∷◌, ◌++◌, length, Bool, true, false, Option, None, refl, sym, ap, ◌∙◌, append_assoc, append-nil}
 use Rattle.filter_tree.specs.Tree.{Tree}
-use Rattle.filter_expr.specs.Grammar.{Condition, compared, between, among, existing, nullish, emptyish, condition_tree, condition_tokens, condition_values, further, listed, Ors, one_and, or, Ands, one_not, and, Nots, negated, group, plain, ors_tokens, ands_tokens, nots_tokens, ors_members, ands_members, nots_tree, ors_values, ands_values, nots_values, level, ors_depths, ands_depths, nots_depths}
-use Rattle.filter_expr.specs.Machine.{start, item, first, done, Level, level_of, Frame, under_not, bracket, at, bad_after, noted, member_end, new_machine}
+use Rattle.filter_machine.specs.Grammar.{Condition, compared, between, among, existing, nullish, emptyish, condition_tree, condition_tokens, condition_values, further, listed, Ors, one_and, or, Ands, one_not, and, Nots, negated, group, plain, ors_tokens, ands_tokens, nots_tokens, ors_members, ands_members, nots_tree, ors_values, ands_values, nots_values, level, ors_depths, ands_depths, nots_depths}
+use Rattle.filter_machine.specs.Machine.{start, item, first, done, Level, level_of, Frame, under_not, bracket, at, bad_after, noted, member_end, new_machine}
 use Rattle.filter_expr.specs.Limit.{depths}
-use Rattle.filter_expr.specs.declared.token.Token.{Token}
-use Rattle.filter_expr.specs.declared.token.Token.TheVariants.{And, Or, Close}
-use Rattle.filter_expr.proofs.Complete.{IsBase, member_base, bad_after-append, filter_level, whole-filter_level, bad-filter_level, next-filter_level}
+use Rattle.filter_machine.specs.declared.token.Token.{Token}
+use Rattle.filter_machine.specs.declared.token.Token.TheVariants.{And, Or, Close}
+use Rattle.filter_machine.proofs.Complete.{IsBase, member_base, bad_after-append, filter_level, whole-filter_level, bad-filter_level, next-filter_level}
 
 further_trace : (a : List ℕ) (n : Bool) (us vs : List (List ℕ)) (l : Level) (o : List Frame) (rest : List Token)
     → depths (further vs ++ rest) (at (item a n us) l o)

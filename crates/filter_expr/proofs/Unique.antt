@@ -4,19 +4,19 @@ use Rattle.std.specs.Prelude.{find}
 use Rattle.std.proofs.lemmas.Bool.{and_parts}
 use Rattle.serde_json.specs.Data.{Data, null, string, array, Items, no_items, item}
 use Rattle.filter_tree.specs.Tree.{Tree, or_of}
-use Rattle.filter_expr.specs.Number.{is_no_number}
-use Rattle.filter_expr.specs.Grammar.{Ors, ors_tree, ors_values}
-use Rattle.filter_expr.specs.Machine.{bad_after, or_first, new_machine, Machine}
+use Rattle.filter_machine.specs.Number.{is_no_number}
+use Rattle.filter_machine.specs.Grammar.{Ors, ors_tree, ors_values}
+use Rattle.filter_machine.specs.Machine.{bad_after, or_first, new_machine, Machine}
 use Rattle.filter_expr.specs.Limit.{syntax_at, too_deep_at, outcome_at, ended_at, reading_of}
-use Rattle.filter_expr.specs.Scan.{with, gap}
-use Rattle.filter_expr.specs.Text.{is_space, class_of, space, IsFilter}
+use Rattle.filter_machine.specs.Scan.{with, gap}
+use Rattle.filter_machine.specs.Text.{is_space, class_of, space, IsFilter}
 use Rattle.filter_expr.specs.Faults.{IsWithin, IsTooDeep}
 use Rattle.filter_expr.specs.Texts.{group_of, groups_in, groups_of, texts_of_member, texts_of_members, texts_of}
 use Rattle.filter_expr.specs.Parsed.{is_blank, Writes, Write, GroupsWrite, group_trees, conditions, values_of, values_of_groups, IsFirstFault, IsParsed}
 use Rattle.filter_expr.specs.declared.fault.FilterRefusal.{FilterRefusal}
 use Rattle.filter_expr.specs.declared.fault.FilterRefusal.TheVariants.{Syntax, TooDeep, NotANumber, NotText}
-use Rattle.filter_expr.proofs.Complete.{bad_after-append}
-use Rattle.filter_expr.proofs.Readings.{filter_reading, one_reading}
+use Rattle.filter_machine.proofs.Complete.{bad_after-append}
+use Rattle.filter_machine.proofs.Readings.{filter_reading, one_reading}
 use Rattle.filter_expr.proofs.Within.{within_read}
 use Rattle.filter_expr.proofs.Deep.{too_deep_read}
 use Rattle.filter_expr.proofs.Answered.{one_place}

@@ -2,23 +2,23 @@
 use Rattle.std.proofs.Common.{◌≡◌, inl, inr, ℕ, suc, ◌+◌, ◌-◌, List, [], ◌∷◌, ◌++◌, length, Bool, true, false, Option, Some, None, Ok, Err, refl, sym, ap, subst, ◌∙◌, append_assoc, append-nil, cond, arith}
 use Rattle.std.specs.Prelude.{is_some, nat_eq, nat_lt}
 use Rattle.std.proofs.lemmas.Bool.{eq-eqb, and_parts}
-use Rattle.filter_expr.specs.Machine.{done, Machine, at as machine_at, step, run, new_machine}
-use Rattle.filter_expr.specs.Limit.{too_deep_at, opened, stepped, outcome_at, depths, accepted_at, ended_at, reading_of}
+use Rattle.filter_machine.specs.Machine.{done, Machine, at as machine_at, step, run, new_machine, opened}
+use Rattle.filter_expr.specs.Limit.{too_deep_at, stepped, outcome_at, depths, accepted_at, ended_at, reading_of}
 use Rattle.filter_expr.specs.Faults.{most_depth}
-use Rattle.filter_expr.specs.Text.{is_letter, are_letters, word_token, Item, byte, escaped, kept, is_item, texts, values, are_items, Piece, blank, word, quoted, sign, pair, alone, spelled, token_in, spell, tokens, IsPiece, starts_no, Stops, AreCut, IsFilter}
-use Rattle.filter_expr.specs.Scan.{gap, in_word, in_quote, after, Scan, with, takes}
-use Rattle.filter_expr.specs.Grammar.{Ors}
+use Rattle.filter_machine.specs.Text.{is_letter, are_letters, word_token, Item, byte, escaped, kept, is_item, texts, values, are_items, Piece, blank, word, quoted, sign, pair, alone, spelled, token_in, spell, tokens, IsPiece, starts_no, Stops, AreCut, IsFilter}
+use Rattle.filter_machine.specs.Scan.{gap, in_word, in_quote, after, Scan, with, takes}
+use Rattle.filter_machine.specs.Grammar.{Ors}
 use Rattle.filter_expr.specs.Faults.{IsWithin}
-use Rattle.filter_expr.specs.declared.token.Token.{Token}
-use Rattle.filter_expr.specs.declared.token.Token.TheVariants.{Text, Compare}
-use Rattle.filter_expr.specs.declared.token.Comparison.{Comparison}
-use Rattle.filter_expr.specs.declared.token.Comparison.TheVariants.{Equal, Above, AtLeast, Below, AtMost}
-use Rattle.filter_expr.proofs.Fits.{takes_text, takes_compare, fits_word}
-use Rattle.filter_expr.proofs.Complete.{filter_level, filter_run, filter_accepted}
+use Rattle.filter_machine.specs.declared.token.Token.{Token}
+use Rattle.filter_machine.specs.declared.token.Token.TheVariants.{Text, Compare}
+use Rattle.filter_machine.specs.declared.token.Comparison.{Comparison}
+use Rattle.filter_machine.specs.declared.token.Comparison.TheVariants.{Equal, Above, AtLeast, Below, AtMost}
+use Rattle.filter_machine.proofs.Taking.{takes_text, takes_compare, fits_word}
+use Rattle.filter_machine.proofs.Complete.{filter_level, filter_run, filter_accepted}
 use Rattle.filter_expr.proofs.Traces.{filter_trace}
-use Rattle.filter_expr.proofs.PieceRuns.{some_same, one_step, letter_is, special_parts, slash_apart, run_parts}
+use Rattle.filter_machine.proofs.PieceRuns.{some_same, one_step, letter_is, special_parts, slash_apart, run_parts}
 use Rattle.filter_expr.proofs.Depths.{Fits, AreShallow, next_fits}
-use Rattle.filter_expr.proofs.Readings.{filter_reading}
+use Rattle.filter_machine.proofs.Readings.{filter_reading}
 
 -- From a place in a text, the scan comes to the rest and the machine `n`.
 pub record Goes (text : List ℕ) (at : ℕ) (s : Scan) (rest : List ℕ) (n : Machine) : Type 0 where

@@ -2,8 +2,8 @@
 use Rattle.std.specs.Prelude.{◌≡◌, ℕ, List, Result}
 use Rattle.serde_json.specs.Data.{Data}
 use Rattle.filter_tree.specs.Tree.{Tree}
-use Rattle.filter_expr.specs.Grammar.{Ors, ors_tree}
-use Rattle.filter_expr.specs.Text.{IsFilter}
+use Rattle.filter_machine.specs.Grammar.{Ors, ors_tree}
+use Rattle.filter_machine.specs.Text.{IsFilter}
 use Rattle.filter_expr.specs.Parsed.{IsParsed}
 use Rattle.filter_expr.specs.Answer.{parsed}
 use Rattle.filter_expr.specs.declared.fault.FilterRefusal.{FilterRefusal}

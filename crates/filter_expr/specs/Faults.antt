@@ -1,10 +1,10 @@
 -- What each fault of a text says.
 use Rattle.std.specs.Prelude.{◌≡◌, ℕ, ◌+◌, ◌≤◌, List, [], ◌∷◌, ◌++◌, ◌⊎◌, length, take, get_or}
 use Rattle.std.specs.List.{AllByRecursion}
-use Rattle.filter_expr.specs.declared.token.Token.{Token}
-use Rattle.filter_expr.specs.declared.token.Token.TheVariants.{Not, Open}
-use Rattle.filter_expr.specs.Grammar.{Ors, ors_tokens, ors_depths}
-use Rattle.filter_expr.specs.Text.{IsFilter, Begins, Piece, token_in, spell, tokens, AreCut}
+use Rattle.filter_machine.specs.declared.token.Token.{Token}
+use Rattle.filter_machine.specs.declared.token.Token.TheVariants.{Not, Open}
+use Rattle.filter_machine.specs.Grammar.{Ors, ors_tokens, ors_depths}
+use Rattle.filter_machine.specs.Text.{IsFilter, Begins, Piece, token_in, spell, tokens, AreCut}
 
 -- how many NOTs and brackets may be open at once
 abbrev pub most_depth : ℕ

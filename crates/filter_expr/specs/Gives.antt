@@ -1,12 +1,12 @@
 -- What the scan's functions answer, beside the pure answer. No public contract cites it.
 use Rattle.std.proofs.Math.Utf8.{encode}
 use Rattle.std.specs.Prelude.{◌≡◌, ℕ, ◌+◌, List, ◌++◌, length, Result, Ok, Err, string_bytes}
-use Rattle.filter_expr.specs.Machine.{Machine as MachineData, Reading as ReadingData}
-use Rattle.filter_expr.specs.Scan.{Lex, gap, in_word, in_quote, after_slash, after, Scan, with}
+use Rattle.filter_machine.specs.Machine.{Machine as MachineData, Reading as ReadingData}
+use Rattle.filter_machine.specs.Scan.{Lex, gap, in_word, in_quote, after_slash, after, Scan, with}
 use Rattle.filter_expr.specs.Limit.{TextFault, syntax_at, too_deep_at, outcome_at}
-use Rattle.filter_expr.specs.Held.{machine_view, reading_view, quote_byte}
-use Rattle.filter_expr.specs.declared.machine.Machine.{Machine}
-use Rattle.filter_expr.specs.declared.machine.Reading.{Reading}
+use Rattle.filter_machine.specs.Held.{machine_view, reading_view, quote_byte}
+use Rattle.filter_machine.specs.declared.machine.Machine.{Machine}
+use Rattle.filter_machine.specs.declared.machine.Reading.{Reading}
 use Rattle.filter_expr.specs.declared.feed.ScanFault.{ScanFault}
 use Rattle.filter_expr.specs.declared.feed.ScanFault.TheVariants.{Syntax, TooDeep, NoMemory}
 use Rattle.filter_expr.specs.declared.feed.Pending.{Pending}

@@ -1,16 +1,12 @@
 -- The same machine with places and the limit on how deep a filter nests: the parser's answer for one text. `answers_are_the_grammars` ties it to the grammar.
 use Rattle.std.specs.Prelude.{ℕ, suc, ◌-◌, List, [], ◌∷◌, ◌++◌, length, Bool, if◌then◌else◌, nat_eq, nat_lt, Option, Some, None, Result, Ok, Err}
-use Rattle.filter_expr.specs.Text.{Class, space, letter, quote, bang, greater, less, single, strange, class_of, is_letter, word_token, is_special}
-use Rattle.filter_expr.specs.Machine.{State, start, Machine, step, new_machine, Reading, accept}
-use Rattle.filter_expr.specs.Scan.{Lex, gap, in_word, in_quote, after_slash, after, Scan, with, takes, fits, alone_step}
+use Rattle.filter_machine.specs.Text.{Class, space, letter, quote, bang, greater, less, single, strange, class_of, is_letter, word_token, is_special}
+use Rattle.filter_machine.specs.Machine.{State, start, Machine, opened, step, new_machine, Reading, accept}
+use Rattle.filter_machine.specs.Scan.{Lex, gap, in_word, in_quote, after_slash, after, Scan, with, takes, fits, alone_step}
 use Rattle.filter_expr.specs.Faults.{most_depth}
-use Rattle.filter_expr.specs.declared.token.Token.{Token}
-use Rattle.filter_expr.specs.declared.token.Token.TheVariants.{Text, Compare, Not, Open}
-use Rattle.filter_expr.specs.declared.token.Comparison.TheVariants.{Equal, Unequal, Above, AtLeast, Below, AtMost}
-
--- how many NOTs and brackets are open
-abbrev pub opened : Machine → ℕ
-opened m = length m.outer
+use Rattle.filter_machine.specs.declared.token.Token.{Token}
+use Rattle.filter_machine.specs.declared.token.Token.TheVariants.{Text, Compare, Not, Open}
+use Rattle.filter_machine.specs.declared.token.Comparison.TheVariants.{Equal, Unequal, Above, AtLeast, Below, AtMost}
 
 pub data TextFault : Type 0 where
   syntax_at : ℕ → TextFault

@@ -3,9 +3,9 @@ use Rattle.std.specs.Prelude.{◌≡◌, ℕ, ◌+◌, List, [], ◌∷◌, ◌+
 use Rattle.std.specs.List.{list_all}
 use Rattle.serde_json.specs.Data.{Data}
 use Rattle.filter_tree.specs.Tree.{Tree, all, and_of, or_of}
-use Rattle.filter_expr.specs.Number.{is_no_number}
-use Rattle.filter_expr.specs.Grammar.{Ors, ors_tree, ors_values}
-use Rattle.filter_expr.specs.Text.{is_space, IsFilter}
+use Rattle.filter_machine.specs.Number.{is_no_number}
+use Rattle.filter_machine.specs.Grammar.{Ors, ors_tree, ors_values}
+use Rattle.filter_machine.specs.Text.{is_space, IsFilter}
 use Rattle.filter_expr.specs.Faults.{IsWithin, IsSyntaxFault, IsTooDeep}
 use Rattle.filter_expr.specs.Texts.{groups_of, texts_of}
 use Rattle.filter_expr.specs.declared.fault.FilterRefusal.{FilterRefusal}

@@ -2,7 +2,7 @@
 use Rattle.std.specs.Prelude.{ℕ, ◌+◌, List, [], ◌∷◌, ◌++◌, if◌then◌else◌, Option, Some, None, Result, Ok, Err}
 use Rattle.serde_json.specs.Data.{Data, null, string, array, Items, no_items, item}
 use Rattle.filter_tree.specs.Tree.{Tree, or_of}
-use Rattle.filter_expr.specs.Machine.{Reading, or_first}
+use Rattle.filter_machine.specs.Machine.{Reading, or_first}
 use Rattle.filter_expr.specs.Limit.{TextFault, syntax_at, too_deep_at, reading_of}
 use Rattle.filter_expr.specs.Parsed.{is_blank, conditions}
 use Rattle.filter_expr.specs.declared.fault.FilterRefusal.{FilterRefusal}

@@ -1,18 +1,18 @@
-ghost use Rattle.std.specs.Prelude.{◌≡◌, ◌<◌, ◌≤◌, ◌∷◌, [], ◌++◌, IfOk, MatchResult, length, string_bytes};
-ghost use Rattle.filter_expr.specs.Text.{letter as letter_class, class_of as class_at, is_letter as letter_at};
-ghost use Rattle.filter_expr.specs.Machine.{step, new_machine};
-ghost use Rattle.filter_expr.specs.Scan.{with as with_lex, gap as gap_lex, takes, in_word as word_in, in_quote as quote_in, after_slash as slash_in, after as after_in};
-ghost use Rattle.filter_expr.specs.Limit.{outcome_at, stepped as stepped_in, so_at, begin_by_at, feed_by_at};
-ghost use Rattle.filter_expr.specs.Held.{place_view, machine_view, quote_byte};
-ghost use Rattle.filter_expr.specs.Gives.{GivesMachine, GivesScan, GivesChar, FaultIs, pending_view, scanner_view};
-ghost use Rattle.filter_expr.specs.declared.token.Token.TheVariants.{Text as TextToken, Compare as CompareToken};
-ghost use Rattle.filter_expr.specs.declared.token.Comparison.TheVariants.{Equal as EqualSign};
+ghost use Rattle.std.specs.Prelude.{◌≡◌, ◌<◌, ◌∷◌, [], ◌++◌, IfOk, string_bytes};
+ghost use Rattle.filter_machine.specs.Text.{letter as letter_class, class_of as class_at, is_letter as letter_at};
+ghost use Rattle.filter_machine.specs.Machine.{step};
+ghost use Rattle.filter_machine.specs.Scan.{takes, in_word as word_in, in_quote as quote_in, after_slash as slash_in, after as after_in};
+ghost use Rattle.filter_expr.specs.Limit.{stepped as stepped_in, so_at, begin_by_at, feed_by_at};
+ghost use Rattle.filter_machine.specs.Held.{place_view, machine_view, quote_byte};
+ghost use Rattle.filter_expr.specs.Gives.{GivesMachine, GivesScan, pending_view};
+ghost use Rattle.filter_machine.specs.declared.token.Token.TheVariants.{Text as TextToken, Compare as CompareToken};
+ghost use Rattle.filter_machine.specs.declared.token.Comparison.TheVariants.{Equal as EqualSign};
 ghost use Rattle.filter_expr.specs.declared.feed.ScanFault.TheVariants.{NoMemory as Memory};
 
-use crate::machine::{Machine, Place, StepFault, depth};
-use crate::scan::{Class, Quote, class_of, fits, word_token};
-use crate::steps::next_step;
-use crate::token::{Comparison, Token};
+use filter_machine::{
+    Class, Comparison, Machine, Place, Quote, StepFault, Token, class_of, depth, fits, next_step,
+    word_token,
+};
 use search_base::{NoMemory, Word};
 use std::alloc::{AllocError, Global};
 

@@ -2,23 +2,20 @@
 //!
 //! Want of memory apart, `parse` answers `Ok` exactly for the filters of the grammar, with the tree
 //! that the grammar gives, and else the first fault with its place. The grammar is a relation over
-//! derivations and spelled tokens in `specs/Grammar.antt` and `specs/Text.antt`, which knows nothing of
-//! the parser; contracts see a filter as its tree. The contract of `parse` names its answer as a
+//! derivations and spelled tokens in `Grammar` and `Text` of `filter_machine/specs`, which knows nothing
+//! of the parser; contracts see a filter as its tree. The contract of `parse` names its answer as a
 //! function of the value, `parsed` in `specs/Answer.antt`. The laws say that the grammar allows this
-//! answer, and no other. The parser is a machine over characters with a stack of its own, so no input
-//! makes it recurse. The crate stands on `filter_tree`, `search_base` and `serde_json`.
+//! answer, and no other. The parser feeds characters to the machine of `filter_machine`, which has a
+//! stack of its own, so no input makes it recurse. The crate stands on `filter_machine`, `filter_tree`,
+//! `search_base` and `serde_json`.
 #![tactic(auto)]
 
 mod fault;
 mod feed;
 mod laws;
-mod machine;
 mod member;
-mod scan;
 mod shape;
-mod steps;
 mod text;
-mod token;
 mod wide;
 
 pub use fault::{FilterFault, FilterRefusal};

@@ -1,7 +1,7 @@
 ghost use Rattle.std.specs.Prelude.{◌≡◌, map, IfOk};
 ghost use Rattle.serde_json.specs.View.{view as data_of, items_view};
-ghost use Rattle.filter_expr.specs.Text.{is_space as is_space_byte};
-ghost use Rattle.filter_expr.specs.Machine.{or_first};
+ghost use Rattle.filter_machine.specs.Text.{is_space as is_space_byte};
+ghost use Rattle.filter_machine.specs.Machine.{or_first};
 ghost use Rattle.filter_tree.specs.View.{view};
 ghost use Rattle.filter_expr.specs.Held.{reader_view};
 ghost use Rattle.search_base.specs.Gives.{Gives};
@@ -11,9 +11,9 @@ ghost use Rattle.filter_expr.specs.Reader.{new_progress, text_read, texts_read, 
 
 use crate::fault::{FilterFault, FilterRefusal};
 use crate::feed::ScanFault;
-use crate::machine::{Reading, and_of, or_of};
 use crate::shape::has_groups;
 use crate::text::read;
+use filter_machine::{Reading, and_of, or_of};
 use filter_tree::Filter;
 use search_base::{Fault, NoMemory, Word};
 use serde_json::Value;

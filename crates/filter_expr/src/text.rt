@@ -1,16 +1,13 @@
-ghost use Rattle.std.specs.Prelude.{◌≡◌, ◌<◌, ◌≤◌, IfOk, MatchResult, length, Ok, Err};
-ghost use Rattle.filter_expr.specs.Machine.{new_machine, reading, whole as whole_of};
-ghost use Rattle.filter_expr.specs.Scan.{with as with_lex, gap as gap_lex};
+ghost use Rattle.std.specs.Prelude.{◌≡◌, ◌<◌, IfOk, MatchResult, length, Ok, Err};
+ghost use Rattle.filter_machine.specs.Machine.{new_machine, reading, whole as whole_of};
+ghost use Rattle.filter_machine.specs.Scan.{with as with_lex, gap as gap_lex};
 ghost use Rattle.filter_expr.specs.Limit.{outcome_at, end_at, ended_at, reading_of};
-ghost use Rattle.filter_expr.specs.Held.{level_view, machine_view, reading_view};
+ghost use Rattle.filter_machine.specs.Held.{level_view, machine_view, reading_view};
 ghost use Rattle.filter_expr.specs.Gives.{GivesMachine, GivesChar, GivesReading, FaultIs, pending_view, scanner_view};
 
 use crate::feed::{Pending, ScanFault, Scanner, feed, stepped};
-use crate::machine::{Level, Machine, Place, Reading, and_of, or_of};
-use crate::scan::word_token;
-use crate::steps::new_level;
-use crate::token::Token;
 use crate::wide::feed_wide;
+use filter_machine::{Level, Machine, Place, Reading, Token, and_of, new_level, or_of, word_token};
 use search_base::NoMemory;
 use std::alloc::Global;
 
@@ -91,7 +88,7 @@ fn accepted(machine: Machine, at: usize) -> Result<Reading, ScanFault>
     if !outer.is_empty() {
         return Err(ScanFault::Syntax(at));
     }
-    match place {
+    match &place {
         Place::Done => Ok(whole(level)?),
         Place::Start
         | Place::Attribute(_)

@@ -1,13 +1,11 @@
 ghost use Rattle.std.specs.Prelude.{◌≡◌, ◌<◌, ◌≤◌, ◌++◌, IfOk, string_bytes};
 ghost use Rattle.std.proofs.Math.Utf8.{encode};
-ghost use Rattle.filter_expr.specs.Scan.{with as with_lex, gap as gap_lex, in_word as word_in, in_quote as quote_in, after_slash as slash_in, after as after_in};
-ghost use Rattle.filter_expr.specs.Held.{machine_view, quote_byte};
+ghost use Rattle.filter_machine.specs.Scan.{with as with_lex, gap as gap_lex, in_word as word_in, in_quote as quote_in, after_slash as slash_in, after as after_in};
+ghost use Rattle.filter_machine.specs.Held.{machine_view, quote_byte};
 ghost use Rattle.filter_expr.specs.Gives.{GivesChar, scanner_view};
 
 use crate::feed::{Pending, ScanFault, Scanner, stepped, takes_text, with_byte};
-use crate::machine::Machine;
-use crate::scan::Quote;
-use crate::token::{Comparison, Token};
+use filter_machine::{Comparison, Machine, Quote, Token};
 use std::alloc::{AllocError, Global};
 
 /// One more character of a text.

@@ -32,7 +32,8 @@ use Rattle.facet_index.proofs.TestLemmas.{any_same, any_where, filter_same, has_
 use Rattle.facet_index.proofs.KeyLemmas.{and_false, bytes_same, bytes_itself}
 use Rattle.facet_index.proofs.RangeLemmas.{leaves_narrow, first_part}
 use Rattle.facet_index.proofs.SortDocLemmas.{if_passes, passes_is, documents_apart}
-use Rattle.filter_sets.specs.Selects.{leaves_of, marks_of, AreRowsOf, Selects, AreBetween}
+use Rattle.facet_index.specs.LeavesView.{leaves_of}
+use Rattle.filter_sets.specs.Selects.{marks_of, AreRowsOf, Selects, AreBetween}
 use Rattle.filter_sets.proofs.JoinLemmas.{one_more, filter_none}
 
 -- ---- documents and rows

@@ -7,16 +7,12 @@ use Rattle.search_base.specs.declared.document.Leaf.{Leaf}
 use Rattle.search_base.specs.declared.document.Mark.{Mark}
 use Rattle.search_base.specs.RowsView.{RowsView}
 use Rattle.postings.specs.Dictionary.{PostingsView}
-use Rattle.facet_index.specs.LeavesView.{LeavesView}
+use Rattle.facet_index.specs.LeavesView.{LeavesView, leaves_of}
 use Rattle.facet_index.specs.Documents.{is_between}
 use Rattle.facet_index.specs.Batches.{document_at}
 use Rattle.facet_index.specs.Places.{IsIndexOf}
 
--- the leaves and the marks of a document, and none where it is not there
-abbrev pub leaves_of : Option LeavesView → List Leaf
-leaves_of None = []
-leaves_of (Some document) = document.leaves
-
+-- the marks of a document, and none where it is not there
 abbrev pub marks_of : Option LeavesView → List Mark
 marks_of None = []
 marks_of (Some document) = document.marks

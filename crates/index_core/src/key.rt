@@ -52,7 +52,7 @@ fn inferred(alloc: Global, text: &DocumentText) -> Result<Word, CoreFault>
     }
 }
 
-/// A key that shares the text of another.
+/// A key as another one is.
 pub(crate) fn copy_of(key: Option<&Word>) -> Result<Option<Word>, NoMemory>
     ensures { IfOk result (λ copy. copy ≡ option_copied key.entry) }
 {

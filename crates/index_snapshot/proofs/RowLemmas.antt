@@ -10,7 +10,8 @@ use Rattle.postings.specs.Documents.{places_of}
 use Rattle.sort_rule.specs.Rows.{is_under}
 use Rattle.facet_index.specs.Batches as facets
 use Rattle.facet_index.specs.Sorts.{sort_key}
-use Rattle.filter_sets.specs.Selects.{leaves_of, marks_of, AreRowsOf}
+use Rattle.facet_index.specs.LeavesView.{leaves_of}
+use Rattle.filter_sets.specs.Selects.{marks_of, AreRowsOf}
 use Rattle.rule_buckets.specs.Entries.{sort_entry}
 use Rattle.row_index.specs.Documents.{IndexedDocument, document_at}
 use Rattle.row_index.specs.Standing.{placed, faceted}
@@ -61,7 +62,7 @@ under documents up path at universe ids is = is
     ∙ filter_agree (λ d. is_under at (sort_key up path (map faceted documents) d)) (λ d. is_under at (sort_entry up path (rows_at documents d).leaves))
     (λ d. ap (is_under at) (key_same up path documents d)) universe
 
-leaves_same : (documents : List IndexedDocument) (d : ℕ) → (rows_at documents d).leaves ≡ leaves_of (facets.document_at d (map faceted documents))
+pub leaves_same : (documents : List IndexedDocument) (d : ℕ) → (rows_at documents d).leaves ≡ leaves_of (facets.document_at d (map faceted documents))
 leaves_same [] d = refl
 leaves_same (x ∷ xs) d = by (x.id == d) (leaves_same xs d)
   where

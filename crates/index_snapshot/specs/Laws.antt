@@ -23,7 +23,7 @@ there_same wrap (sort.Number n) = refl
 there_same wrap (sort.Text text) = refl
 there_same wrap sort.Missing = refl
 
-entry_same : (up : Bool) (path : ℕ) (leaves : List Leaf) → sorts.sort_entry up path leaves ≡ sort_entry up path leaves
+pub entry_same : (up : Bool) (path : ℕ) (leaves : List Leaf) → sorts.sort_entry up path leaves ≡ sort_entry up path leaves
 entry_same true path leaves = there_same Up (least_key (leaves_under path leaves))
 entry_same false path leaves = there_same Down (greatest_key (leaves_under path leaves))
 

@@ -4,6 +4,7 @@ ghost use Rattle.std.specs.Option.{option_copied};
 ghost use Rattle.search_base.specs.Whole.{whole_cost};
 ghost use Rattle.condition_graph.specs.Meets.{meets, IsRanked};
 ghost use Rattle.condition_graph.specs.Promise.{IsCondition};
+ghost use Rattle.sort_rule.specs.First.{IsFirst};
 ghost use Rattle.sort_rule.specs.Rows.{next_of, is_under};
 ghost use Rattle.facet_index.specs.Sorts.{sort_keys};
 ghost use Rattle.rule_buckets.specs.Entries.{sort_entry};
@@ -15,6 +16,7 @@ use condition_graph::Condition;
 use doc_sets::DocSet;
 use list_conditions::meeting;
 use search_base::{CostKey, NoMemory, PathId, Word};
+use sort_rule::First;
 use std::alloc::Global;
 use whole_words::documents_at_whole_cost;
 
@@ -96,4 +98,21 @@ pub(crate) fn documents_under<I: IndexedRows>(
     let facets = index.facets();
     let docs = facets.sort_docs(alloc, path, up, at, universe)?;
     Ok(docs)
+}
+
+/// The documents of the universe that come first by their entries under a path, where the universe is small.
+pub(crate) fn first_under<I: IndexedRows>(
+    alloc: Global,
+    rows: &I,
+    path: PathId,
+    up: bool,
+    universe: &DocSet,
+) -> Result<First, NoMemory>
+    ensures { IfOk result (λ first. IsFirst (λ d. sort_entry up path.0 (rows_at (I.documents rows.now) d).leaves)
+        universe.now.ids first) }
+{
+    let index = rows.index();
+    let leaves = index.leaves();
+    let first = leaves.first_of(alloc, path, up, universe)?;
+    Ok(first)
 }

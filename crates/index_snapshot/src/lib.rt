@@ -1,11 +1,11 @@
 //! A search over all that an index keeps of its documents, with no document read.
 //!
 //! A `Snapshot` borrows what has a `RowIndex` and knows of which documents it is the index, so that no change is made
-//! while it lives. It is a `RuleSource`: each question of the ranking rules is one of posting lists, lengths or the facet
-//! index, and the rows of an id are those of its document, or none. `search` gives the documents that pass a filter and
-//! that a query matches, and the asked slice of them, by definitions over the list of documents alone. The crate stands
-//! on `search_base`, `doc_sets`, `row_index`, `list_conditions`, `whole_words`, `filter_sets`, `rule_buckets` and
-//! `list_search`.
+//! while it lives. It is a `RuleSource`: each question of the ranking rules is one of posting lists, lengths, the facet
+//! index or the documents' own leaves, and the rows of an id are those of its document, or none. `search` gives the
+//! documents that pass a filter and that a query matches, and the asked slice of them, by definitions over the list of
+//! documents alone. The crate stands on `search_base`, `doc_sets`, `row_index`, `list_conditions`, `whole_words`,
+//! `filter_sets`, `rule_buckets` and `list_search`.
 #![tactic(auto)]
 
 mod answers;

@@ -1,13 +1,14 @@
 ghost use Rattle.std.specs.Prelude.{◌≡◌};
 
 use crate::answers::{
-    above_ranks, documents_at_cost, documents_meeting, documents_under, next_entry,
+    above_ranks, documents_at_cost, documents_meeting, documents_under, first_under, next_entry,
 };
 use crate::indexed::IndexedRows;
 use condition_graph::Condition;
 use doc_sets::DocSet;
 use rule_buckets::RuleSource;
 use search_base::{CostKey, NoMemory, PathId, Word};
+use sort_rule::First;
 use std::alloc::Global;
 use std::marker::Model;
 
@@ -94,5 +95,16 @@ impl<'a, I: IndexedRows> RuleSource for Snapshot<'a, I> {
         universe: &DocSet,
     ) -> Result<DocSet, NoMemory> {
         documents_under(alloc, self.rows, path, up, at, universe)
+    }
+
+    fn first_of(
+        &self,
+        alloc: Global,
+        path: PathId,
+        up: bool,
+        universe: &DocSet,
+    ) -> Result<First, NoMemory> {
+        let first = first_under(alloc, self.rows, path, up, universe)?;
+        Ok(first)
     }
 }

@@ -15,11 +15,11 @@ use Rattle.bucket_sort.specs.Buckets.{IsBucket}
 use Rattle.doc_sets.specs.Sets.{has}
 use Rattle.sort_rule.specs.Buckets.{key_or}
 use Rattle.facet_counts.specs.Counts.{leaves_at}
-use Rattle.facet_index.specs.LeavesView.{LeavesView}
+use Rattle.facet_index.specs.LeavesView.{LeavesView, leaves_of}
 use Rattle.facet_index.specs.Batches.{document_at}
 use Rattle.facet_index.specs.Sorts.{if_there, entry_at, sort_key, missing_entry}
 use Rattle.list_facets.specs.Ends.{comes_first, key_number, entry_number}
-use Rattle.list_facets.specs.Rows.{leaves_of, AreRowsOf}
+use Rattle.list_facets.specs.Rows.{AreRowsOf}
 use Rattle.list_facets.proofs.NumberLemmas.{same_number, number_is, first_stands, numbers_in, first_of_documents, no_numbers}
 
 -- a sort key as an entry of a direction

@@ -21,7 +21,7 @@ use Rattle.facet_keys.specs.Keys.{counted, spelling, digits, key_bytes, IsNarrow
 use Rattle.facet_keys.specs.Laws.{AreApart}
 use Rattle.sorted_pages.specs.Entries.{has}
 use Rattle.postings.specs.Dictionary.{PostingsView, word_cmp, value_at, list_at, some_list}
-use Rattle.facet_index.specs.LeavesView.{LeavesView}
+use Rattle.facet_index.specs.LeavesView.{LeavesView, leaves_of}
 use Rattle.facet_index.specs.Batches.{document_at}
 use Rattle.facet_index.specs.Counted as of_leaves
 use Rattle.facet_index.specs.Places.{IsNarrowDocument, has_document}
@@ -31,7 +31,7 @@ use Rattle.facet_index.proofs.RowLemmas.{some_document, shown_list, value_here, 
 use Rattle.facet_index.proofs.SortDocLemmas.{documents_apart, if_passes, passes_is}
 use Rattle.facet_index.proofs.TestLemmas.{any_where, both, filter_same}
 use Rattle.list_facets.specs.Hits.{IsWhole}
-use Rattle.list_facets.specs.Rows.{leaves_of, AreRowsIn, shown_in, has_text, rows_if}
+use Rattle.list_facets.specs.Rows.{AreRowsIn, shown_in, has_text, rows_if}
 use Rattle.list_facets.proofs.EndLemmas.{some_of}
 use Rattle.list_facets.proofs.TextLemmas.{member, having, any_having, rows_of_texts}
 

@@ -1,20 +1,15 @@
 -- The rows of documents, and those of their values that are counted.
 use Rattle.std.specs.Prelude.{◌≡◌, ℕ, Bool, List, [], ◌∷◌, flat_map, filter, Option, Some, None, if◌then◌else◌}
 use Rattle.std.specs.List.{list_any}
-use Rattle.search_base.specs.declared.document.Leaf.{Leaf}
 use Rattle.search_base.specs.RowsView.{RowsView}
 use Rattle.search_base.specs.SortKeys.{leaves_under}
 use Rattle.postings.specs.Dictionary.{PostingsView}
 use Rattle.facet_counts.specs.Counts.{is_of, leaves_at, count_row, first_shown}
 use Rattle.facet_counts.specs.declared.rows.CountRow.{CountRow}
-use Rattle.facet_index.specs.LeavesView.{LeavesView}
+use Rattle.facet_index.specs.LeavesView.{LeavesView, leaves_of}
 use Rattle.facet_index.specs.Batches.{document_at}
 use Rattle.facet_index.specs.Places.{IsIndexOf}
-
--- the leaves of a document, and none where it is not there
-abbrev pub leaves_of : Option LeavesView → List Leaf
-leaves_of None = []
-leaves_of (Some document) = document.leaves
+use Rattle.leaf_table.specs.Tables.{TableView, kept_at}
 
 -- the rows of each number have the leaves of the document of this number
 abbrev pub AreRowsOf : (ℕ → RowsView) → List LeavesView → Type 0
@@ -25,6 +20,10 @@ pub record AreRowsIn (view : PostingsView) (rows : ℕ → RowsView) : Type 0 wh
   pub documents : List LeavesView
   pub index : IsIndexOf view documents
   pub leaves : AreRowsOf rows documents
+
+-- the rows of each number have the leaves that a table keeps for it
+abbrev pub AreKeptRows : (ℕ → RowsView) → TableView → Type 0
+AreKeptRows rows table = (id : ℕ) → (rows id).leaves ≡ kept_at id table
 
 -- how the first leaf of a text is spelled in a document
 abbrev pub shown_in : ℕ → List ℕ → RowsView → List ℕ

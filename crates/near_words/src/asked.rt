@@ -127,7 +127,7 @@ fn place_count(postings: &Postings, word: &Word) -> u64 {
     }
 }
 
-// The same word, which shares its text.
+// The same word.
 fn copy_word(word: &Word) -> Result<Word, NoMemory>
     ensures { IfOk result (λ copy. copy ≡ word.now) }
 {

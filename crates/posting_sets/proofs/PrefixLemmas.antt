@@ -1,5 +1,5 @@
 -- The documents of words that begin alike, by their lists.
-use Rattle.std.proofs.Common.{◌≡◌, ℕ, suc, ◌+◌, ◌%◌, ◌^◌, ◌<◌, ◌≤◌, inl, inr, Bool, true, false, ◌&&◌, ◌||◌, cond, List, [], ◌∷◌, length, eqb, None, Some, refl, sym, ap, ap₂, subst, ◌∙◌, arith}
+use Rattle.std.proofs.Common.{◌≡◌, ℕ, suc, ◌<◌, inl, inr, Bool, true, false, ◌&&◌, ◌||◌, cond, List, [], ◌∷◌, length, get_or, eqb, None, Some, refl, sym, ap, subst, ◌∙◌, arith}
 use Rattle.std.specs.Prelude.{nat_eq}
 use Rattle.std.specs.List.{filter, list_any, starts_with}
 use Rattle.std.specs.List.Sorted.{IsStrictlySortedBy}
@@ -7,7 +7,7 @@ use Rattle.std.specs.Map.{keys_of}
 use Rattle.std.specs.BTreeMap.{is_at}
 use Rattle.std.specs.Ordering.{is_eq}
 use Rattle.std.specs.Cmp.{both_ways}
-use Rattle.std.proofs.lemmas.Bool.{cond-true, cond-false, eqb-true, le-leb, and_from}
+use Rattle.std.proofs.lemmas.Bool.{cond-true, cond-false, eqb-true, and_from}
 use Rattle.std.proofs.lemmas.Map.Keys.{Less-from_sorted, sorted_tail}
 use Rattle.std.proofs.lemmas.Map.Text.{is_eq-slice_cmp}
 use Rattle.search_base.specs.Occurrence.{words_stand_at}
@@ -21,6 +21,7 @@ use Rattle.postings.proofs.WordLemmas.{itself, turned, same_word, bytes_itself}
 use Rattle.posting_sets.specs.Entries.{document_of, path_of, position_of}
 use Rattle.posting_sets.specs.Starts.{is_start, AreStarts}
 use Rattle.posting_sets.specs.Found.{Finds, AreInLists, has_document, has_row, occurring, term_of}
+use Rattle.posting_sets.proofs.StartLemmas.{is_start_one}
 use Rattle.posting_sets.proofs.WalkLemmas.{both_true}
 use Rattle.posting_sets.proofs.PlaceLemmas.{has_at}
 use Rattle.posting_sets.proofs.OccursLemmas.{list_any-found, list_any-from, has_found, has_from, finds_starts, occurring_is}
@@ -29,18 +30,12 @@ abbrev Rows : Type 0
 Rows = List (List ℕ × List ℕ)
 
 -- ---- one list
-within_one : (entry : ℕ) → entry % 2 ^ 16 + 1 ≤ 2 ^ 16
-within_one entry = omega arith
+pub only_one : {X : Type 0} (xs : List X) (d : X) → length xs ≡ 1 → xs ≡ get_or xs 0 d ∷ []
+only_one [] d e = absurd (omega arith)
+only_one (x ∷ []) d e = refl
+only_one (x ∷ (y ∷ ys)) d e = absurd (omega arith)
 
 module _ (ids : List ℕ) (id : ℕ) (test : ℕ → Bool) (of : (entry : ℕ) → test entry ≡ true → document_of entry ≡ id) where
-  is_start_one : (list : List ℕ) (entry : ℕ) → is_start (list ∷ []) entry ≡ has list entry
-  is_start_one list entry =
-      ap₂ (λ a n. a && (has list n && true)) (le-leb (position_of entry + 1) (2 ^ 16) (within_one entry)) (let e : entry + 0 ≡ entry = omega arith in e) ∙ and_true (has list entry)
-    where
-      and_true : (b : Bool) → (b && true) ≡ b
-      and_true true = refl
-      and_true false = refl
-
   pub finds_list : (list : List ℕ) → Finds ids (is_start (list ∷ [])) test (has ids id && list_any test list)
   finds_list list = record {
     found = λ h.

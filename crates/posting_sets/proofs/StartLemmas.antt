@@ -1,5 +1,5 @@
 -- Where words stand in a row, by the entries of one of them.
-use Rattle.std.proofs.Common.{◌≡◌, ℕ, zero, suc, ◌+◌, ◌-◌, ◌^◌, ◌<◌, ◌≤◌, Bool, true, false, ◌&&◌, ◌||◌, cond, List, [], ◌∷◌, map, length, drop, set, get_or, eqb, leb, ltb, refl, sym, ap, ap₂, ◌∙◌, arith}
+use Rattle.std.proofs.Common.{◌≡◌, ℕ, zero, suc, ◌+◌, ◌-◌, ◌%◌, ◌^◌, ◌<◌, ◌≤◌, Bool, true, false, ◌&&◌, ◌||◌, cond, List, [], ◌∷◌, map, length, drop, set, get_or, eqb, leb, ltb, refl, sym, ap, ap₂, ◌∙◌, arith}
 use Rattle.std.specs.List.{filter}
 use Rattle.std.proofs.lemmas.List.{drop_more}
 use Rattle.std.proofs.lemmas.Bool.{cond-true, cond-false, cond_both, eq-eqb, ne_eqb, leb-true, le-leb}
@@ -174,3 +174,24 @@ module _ (ids : List ℕ) (lists : List (List ℕ)) (at : ℕ) (here : at < leng
         ∙ ap (λ a. a && is_around lists at (s + at)) (has-filter (is_inside ids) list (s + at))
         ∙ around_start s;
   }
+
+-- ---- one list
+within_one : (entry : ℕ) → entry % 2 ^ 16 + 1 ≤ 2 ^ 16
+within_one entry = omega arith
+
+pub is_start_one : (list : List ℕ) (entry : ℕ) → is_start (list ∷ []) entry ≡ has list entry
+is_start_one list entry =
+    ap₂ (λ a n. a && (has list n && true)) (le-leb (position_of entry + 1) (2 ^ 16) (within_one entry)) (let e : entry + 0 ≡ entry = omega arith in e) ∙ and_true (has list entry)
+  where
+    and_true : (b : Bool) → (b && true) ≡ b
+    and_true true = refl
+    and_true false = refl
+
+-- the starts of one list are its entries
+pub starts_in_list : (ids list : List ℕ) (lists : List (List ℕ)) → lists ≡ list ∷ [] → IsIncreasing list → AreStarts ids lists (filter (is_inside ids) list)
+starts_in_list ids list lists one up = record {
+  up = increasing-filter (is_inside ids) list up;
+  each = λ entry.
+      has-filter (is_inside ids) list entry ∙ turned (has list entry) (is_inside ids entry)
+      ∙ ap (λ b. is_inside ids entry && b) (sym (ap (λ l. is_start l entry) one ∙ is_start_one list entry));
+}

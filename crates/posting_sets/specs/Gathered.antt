@@ -1,5 +1,5 @@
 -- Documents by number, while they are gathered.
-use Rattle.std.specs.Prelude.{◌≡◌, ℕ, nat_eq, ◌<◌, Bool, not, ◌==◌, ◌&&◌, Option, None, Some, if◌then◌else◌, ⊤}
+use Rattle.std.specs.Prelude.{◌≡◌, ℕ, nat_eq, ◌<◌, Bool, not, ◌==◌, ◌&&◌, ◌||◌, Option, None, Some, if◌then◌else◌, ⊤}
 use Rattle.std.specs.Prelude.{List, [], ◌∷◌, ◌++◌, take, get_or}
 use Rattle.std.specs.Option.{option_eq}
 use Rattle.std.specs.List.{list_any}
@@ -15,6 +15,7 @@ use Rattle.postings.specs.Fresh.{StandsFor}
 use Rattle.posting_sets.specs.declared.number.Number.{Number}
 use Rattle.posting_sets.specs.declared.number.Number.TheVariants.{Rank, Bucket, Beginning}
 use Rattle.posting_sets.specs.Entries.{document_of, path_of, position_of}
+use Rattle.posting_sets.specs.Starts.{AreStarts}
 use Rattle.posting_sets.specs.Numbers.{rank_at, set_at, NumbersIncrease, NoneEmpty}
 
 -- the number of a place, by its path and position
@@ -35,6 +36,11 @@ is_numbered number n id entry =
 -- the documents that have a number, by the numbers
 abbrev pub ids_at : ℕ → List (List ℕ) → List ℕ
 ids_at n sets = get_or sets n []
+
+-- the documents of a universe where the words of these lists stand in a row come to those of the numbers there
+abbrev pub AddsStarts : List (List ℕ) → List (List ℕ) → Number → List ℕ → List (List ℕ) → Type 0
+AddsStarts old new number universe lists = (starts : List ℕ) × AreStarts universe lists starts
+    × ((n id : ℕ) → has (ids_at n new) id ≡ (list_any (is_numbered number n id) starts || has (ids_at n old) id))
 
 -- the set of a number before this one has the document
 abbrev pub is_below : ℕ → ℕ → List (List ℕ) → Bool

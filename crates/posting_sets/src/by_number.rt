@@ -9,8 +9,7 @@ ghost use Rattle.posting_sets.specs.Beginnings.{AreBeginning};
 
 use crate::lists::lists_of;
 use crate::number::Number;
-use crate::numbered::{add_numbered, finished, least_sets};
-use crate::occurrences::Occurrences;
+use crate::numbered::{add_places, finished, least_sets};
 use doc_sets::{DocSet, DocSetBuilder};
 use postings::Postings;
 use search_base::{NoMemory, Term, Word};
@@ -33,8 +32,7 @@ fn numbers_of_words(
         return Ok(Vec::new(alloc));
     };
     let mut sets = Vec::new(alloc);
-    let occurrences = Occurrences::new(alloc, lists.as_slice(), universe)?;
-    add_numbered(alloc, &mut sets, occurrences, number)?;
+    add_places(alloc, &mut sets, lists.as_slice(), number, universe)?;
     Ok(sets)
 }
 
@@ -53,8 +51,7 @@ fn numbers_of_prefix(
     let mut sets = Vec::new(alloc);
     for (_word, list) in postings.with_prefix(prefix) {
         let lists = [list];
-        let occurrences = Occurrences::new(alloc, &lists, universe)?;
-        add_numbered(alloc, &mut sets, occurrences, number)?;
+        add_places(alloc, &mut sets, &lists, number, universe)?;
     }
     Ok(sets)
 }
@@ -129,9 +126,10 @@ pub fn documents_by_bucket(
     documents_by(alloc, postings, term, Number::Bucket, universe)
 }
 
-/// For each path the documents of the universe in which it begins with these words: they stand at its positions 0, 1 and
-/// so on. There is a word at least. The set of a path is at its number, and behind the last set no document begins so.
-/// It goes over the list of the rarest word, as far as this is in the universe. Where there is no memory, nothing has
+/// For each path the documents of the universe in which it begins with these words: they stand at its positions 0,
+/// 1 and so on. There is a word at least. The set of a path is at its number, and behind the last set no document
+/// begins so. It goes over the list of the rarest word, as far as this is in the universe; the list of a single
+/// word that is not much longer than the universe is walked to its end. Where there is no memory, nothing has
 /// changed.
 pub fn documents_by_beginning(
     alloc: Global,

@@ -5,16 +5,13 @@ ghost use Rattle.search_base.specs.Graphs.{IsTerm};
 ghost use Rattle.posting_sets.specs.Found.{has_document, AreInLists, AreOccurring, term_of};
 
 use crate::entry::document_of;
-use crate::lists::lists_of;
+use crate::lists::{is_walked, lists_of};
 use crate::occurrences::Occurrences;
 use doc_sets::{DocSet, DocSetBuilder};
 use postings::Postings;
 use search_base::{DocId, NoMemory, Term, Word};
 use sorted_pages::SortedPages;
 use std::alloc::Global;
-
-// A list of so many times as many entries as the universe has documents is sought in.
-const MANY: u64 = 16;
 
 // A list with an entry for so many documents of the universe has its documents as bits.
 const FEW: u64 = 128;
@@ -70,12 +67,12 @@ fn add_list(
     ensures { OnOk result ((q : ℕ) → (has universe.now.ids q && has builder.new q)
         ≡ (has universe.now.ids q && (has_document list.now.entries q || has builder.old q))) }
 {
-    if universe.len() < list.len() as u64 / MANY {
-        let lists = [list];
-        let occurrences = Occurrences::new(alloc, &lists, universe)?;
-        return add_documents(builder, occurrences);
+    if is_walked(list.len(), universe.len()) {
+        return add_entries(builder, list);
     }
-    add_entries(builder, list)
+    let lists = [list];
+    let occurrences = Occurrences::new(alloc, &lists, universe)?;
+    add_documents(builder, occurrences)
 }
 
 // The documents of the universe that have an entry in the list.
@@ -103,9 +100,9 @@ fn documents_of_lists(
     ensures { IfOk result (λ set. AreInLists universe.now.ids (map (λ list. list.now.entries) lists.now) set.ids) }
 {
     let list = lists[0];
-    let entries = list.len() as u64;
+    let entries = list.len();
     let documents = universe.len();
-    if lists.len() == 1 && entries / MANY <= documents && documents / FEW <= entries {
+    if lists.len() == 1 && is_walked(entries, documents) && documents / FEW <= entries as u64 {
         return documents_of_list(alloc, list, universe);
     }
     let occurrences = Occurrences::new(alloc, lists, universe)?;

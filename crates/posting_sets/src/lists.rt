@@ -7,6 +7,15 @@ use search_base::{NoMemory, Word};
 use sorted_pages::SortedPages;
 use std::alloc::Global;
 
+// A list of so many times as many entries as the universe has documents is sought in.
+const MANY: u64 = 16;
+
+// Whether a list of so many entries is walked from end to end, and not sought in, for a universe of so many documents.
+// What is found is the same either way.
+pub(crate) fn is_walked(entries: usize, documents: u64) -> bool {
+    entries as u64 / MANY <= documents
+}
+
 // The list of each of the words, or none where one of them has no list.
 pub(crate) fn lists_of<'a>(
     alloc: Global,

@@ -1,13 +1,16 @@
-ghost use Rattle.std.specs.Prelude.{◌≡◌, ℕ, ◌≤◌, ◌^◌, ◌==◌, ◌&&◌, ◌||◌, map, length, IfOk, OnOk};
-ghost use Rattle.std.specs.List.{list_any, AllByRecursion};
+ghost use Rattle.std.specs.Prelude.{◌≡◌, ℕ, ◌<◌, ◌≤◌, ◌^◌, ◌==◌, ◌&&◌, ◌||◌, map, length, IfOk, OnOk};
+ghost use Rattle.std.specs.List.{filter, list_any, AllByRecursion};
 ghost use Rattle.doc_sets.specs.Sets.{has, IsIncreasing, difference};
-ghost use Rattle.posting_sets.specs.Gathered.{is_numbered, ids_at, AreLeast, AddsRow};
+ghost use Rattle.posting_sets.specs.Starts.{is_inside};
+ghost use Rattle.posting_sets.specs.Gathered.{is_numbered, ids_at, AreLeast, AddsRow, AddsStarts};
 
 use crate::entry::document_of;
+use crate::lists::is_walked;
 use crate::number::{Number, number_of};
 use crate::occurrences::Occurrences;
 use doc_sets::{DocSet, DocSetBuilder};
 use search_base::{DocId, NoMemory};
+use sorted_pages::SortedPages;
 use std::alloc::Global;
 
 // Adds a document to the set of a number.
@@ -25,8 +28,26 @@ fn add(alloc: Global, sets: &mut Vec<DocSetBuilder>, number: u16, id: DocId) -> 
     sets[at].add_id(id)
 }
 
+// Adds the document of an entry to the set of its number, if it has one.
+fn add_entry(
+    alloc: Global,
+    sets: &mut Vec<DocSetBuilder>,
+    entry: u64,
+    number: Number<'_>,
+) -> Result<(), NoMemory>
+    requires { length sets.old.items ≤ 2 ^ 16 }
+    ensures each { OnOk result ((n q : ℕ) → has (ids_at n sets.new.items) q
+        ≡ (is_numbered number.entry n q entry || has (ids_at n sets.old.items) q)) }
+    ensures few { length sets.new.items ≤ 2 ^ 16 }
+{
+    match number_of(number, entry) {
+        Some(n) => add(alloc, sets, n, document_of(entry)),
+        None => Ok(()),
+    }
+}
+
 // Adds the documents of the places to the sets of their numbers.
-pub(crate) fn add_numbered(
+fn add_numbered(
     alloc: Global,
     sets: &mut Vec<DocSetBuilder>,
     occurrences: Occurrences<'_>,
@@ -39,11 +60,54 @@ pub(crate) fn add_numbered(
 {
     let mut left = occurrences;
     while let Some(start) = left.next() {
-        if let Some(n) = number_of(number, start) {
-            add(alloc, sets, n, document_of(start))?;
+        add_entry(alloc, sets, start, number)?;
+    }
+    Ok(())
+}
+
+// Adds the documents of the universe that a list has entries of to the sets of the numbers of these.
+fn add_listed(
+    alloc: Global,
+    sets: &mut Vec<DocSetBuilder>,
+    list: &SortedPages,
+    number: Number<'_>,
+    universe: &DocSet,
+) -> Result<(), NoMemory>
+    requires { length sets.old.items ≤ 2 ^ 16 }
+    ensures each { OnOk result ((n q : ℕ) → has (ids_at n sets.new.items) q
+        ≡ (list_any (is_numbered number.entry n q) (filter (is_inside universe.now.ids) list.now.entries)
+        || has (ids_at n sets.old.items) q)) }
+    ensures few { length sets.new.items ≤ 2 ^ 16 }
+{
+    for entry in list.iter() {
+        if universe.contains(document_of(entry)) {
+            add_entry(alloc, sets, entry, number)?;
         }
     }
     Ok(())
+}
+
+// Adds the documents of the universe where the words of these lists stand in a row, to the sets of the numbers of the
+// places where they begin. One list that is not much longer than the universe is walked straight.
+pub(crate) fn add_places(
+    alloc: Global,
+    sets: &mut Vec<DocSetBuilder>,
+    lists: &[&SortedPages],
+    number: Number<'_>,
+    universe: &DocSet,
+) -> Result<(), NoMemory>
+    requires some { 0 < length lists.now }
+    requires few { length sets.old.items ≤ 2 ^ 16 }
+    ensures each { OnOk result (AddsStarts sets.old.items sets.new.items number.entry universe.now.ids
+        (map (λ list. list.now.entries) lists.now)) }
+    ensures few { length sets.new.items ≤ 2 ^ 16 }
+{
+    let list = lists[0];
+    if lists.len() == 1 && is_walked(list.len(), universe.len()) {
+        return add_listed(alloc, sets, list, number, universe);
+    }
+    let occurrences = Occurrences::new(alloc, lists, universe)?;
+    add_numbered(alloc, sets, occurrences, number)
 }
 
 // Adds the documents of a set that were not seen before, under this number, if there is one.

@@ -1,10 +1,10 @@
 -- Lists are those of the documents after a change.
 use Rattle.std.proofs.Common.{◌≡◌, ℕ, ◌+◌, ◌*◌, ◌/◌, ◌^◌, ◌<◌, Bool, true, false, not, ◌&&◌, ◌||◌, ◌==◌, cond, List, [], ◌∷◌, ◌++◌, refl, sym, ap, ap₂, subst, ◌∙◌, arith}
-use Rattle.std.specs.List.{filter, list_any, AllByRecursion}
+use Rattle.std.specs.List.{AllByRecursion}
 use Rattle.std.proofs.lemmas.Bool.{cond-true, cond-false, eqb-true, eq-eqb}
 use Rattle.std.proofs.lemmas.List.Folds.{list_any-append}
 use Rattle.search_base.specs.declared.document.Place.{Place}
-use Rattle.postings.specs.Documents.{Document, entry_of, is_place, stands_in, stands, AreNarrow, AllNarrow, has_id, AreApart, places_of, without, after, IsBatch}
+use Rattle.postings.specs.Documents.{Document, is_place, stands_in, stands, AreNarrow, AllNarrow, has_id, AreApart, places_of, without, after, IsBatch}
 
 -- the document of an entry
 abbrev pub document_of : ℕ → ℕ
@@ -174,15 +174,36 @@ narrow_after gone come documents h k = narrow_both come (without gone documents)
 pub apart_after : (gone come documents : List Document) → IsBatch gone come documents → AreApart documents → AreApart (after gone come documents)
 apart_after gone come documents batch apart = apart_both come (without gone documents) batch.once (apart_left gone documents apart) batch.free
 
--- what is there after a commit, from what was named
-pub told_after : (comes goes old : Bool) → (come gone stood : Bool) → comes ≡ come → goes ≡ (gone && not come) → old ≡ stood
-    → ((comes || old) && not goes) ≡ (come || (stood && not gone))
-told_after comes goes old come gone stood a b c = ap₂ (λ x y. (x || old) && not y) a b ∙ ap (λ x. (come || x) && not (gone && not come)) c ∙ by come gone stood
+-- what stands in the document of a number stands
+stands_at : (word : List ℕ) (entry id : ℕ) (documents : List Document) → stands_in word entry id (places_of id documents) ≡ true → stands word entry documents ≡ true
+stands_at word entry id [] h = absurd (cc)
+stands_at word entry id (d ∷ ds) h = by (d.id == id) refl h (stands_at word entry id ds)
   where
-    by : (come gone stood : Bool) → ((come || stood) && not (gone && not come)) ≡ (come || (stood && not gone))
-    by true true stood = refl
-    by true false stood = refl
-    by false true true = refl
-    by false true false = refl
-    by false false true = refl
-    by false false false = refl
+    by : (b : Bool) → b ≡ (d.id == id) → stands_in word entry id (cond b d.places (places_of id ds)) ≡ true
+        → (stands_in word entry id (places_of id ds) ≡ true → stands word entry ds ≡ true) → stands word entry (d ∷ ds) ≡ true
+    by true same there later = ap (λ b. b || stands word entry ds) (ap (λ n. stands_in word entry n d.places) (eqb-true d.id id (sym same)) ∙ there)
+    by false same there later = ap (λ b. stands_in word entry d.id d.places || b) (later there) ∙ or_true (stands_in word entry d.id d.places)
+
+-- what goes stood
+gone_stands : (all gone : List Document) (word : List ℕ) (entry : ℕ) → AreAmong all gone → stands word entry gone ≡ true → stands word entry all ≡ true
+gone_stands all [] word entry among h = absurd (cc)
+gone_stands all (g ∷ gs) word entry among h = either (stands_in word entry g.id g.places) (stands word entry gs) h
+    (λ here. stands_at word entry g.id all (ap (stands_in word entry g.id) (sym among.0) ∙ here))
+    (λ later. gone_stands all gs word entry among.1 later)
+
+told_by : (come gone stood : Bool) → (gone ≡ true → stood ≡ true) → (((come && not gone) || stood) && not (gone && not come)) ≡ (come || (stood && not gone))
+told_by true true stood h = ap (λ s. s && true) (h refl)
+told_by true false stood h = refl
+told_by false true true h = refl
+told_by false true false h = refl
+told_by false false true h = refl
+told_by false false false h = refl
+
+-- what is there after a commit, from what was named
+pub told_after : (comes goes old : Bool) (gone come documents : List Document) (word : List ℕ) (entry : ℕ) → IsBatch gone come documents
+    → comes ≡ (stands word entry come && not (stands word entry gone)) → goes ≡ (stands word entry gone && not (stands word entry come)) → old ≡ stands word entry documents
+    → ((comes || old) && not goes) ≡ (stands word entry come || (stands word entry documents && not (stands word entry gone)))
+told_after comes goes old gone come documents word entry batch a b c =
+    ap₂ (λ x y. (x || old) && not y) a b
+    ∙ ap (λ x. ((stands word entry come && not (stands word entry gone)) || x) && not (stands word entry gone && not (stands word entry come))) c
+    ∙ told_by (stands word entry come) (stands word entry gone) (stands word entry documents) (gone_stands documents gone word entry batch.whole)

@@ -1,6 +1,7 @@
 -- Changes of words, one row behind the other.
-use Rattle.std.proofs.Common.{◌≡◌, ℕ, ◌<◌, ◌≤◌, ◌+◌, Bool, true, false, not, ◌&&◌, ◌||◌, ◌==◌, cond, List, [], ◌∷◌, ◌++◌, length, get_or, take, Option, None, Some, Result, Ok, Err, OnOk, refl, sym, ap, ap₂, subst, ◌∙◌, zero, suc, add-one, arith}
+use Rattle.std.proofs.Common.{◌≡◌, ℕ, ◌<◌, ◌+◌, Bool, true, false, not, ◌&&◌, ◌||◌, ◌==◌, cond, List, [], ◌∷◌, ◌++◌, length, get_or, take, Option, None, Some, Result, Ok, Err, OnOk, refl, sym, ap, ap₂, subst, ◌∙◌, zero, suc, add-one, arith}
 use Rattle.std.specs.declared.cmp.Ordering.TheVariants.{Less}
+use Rattle.std.specs.List.{AllByRecursion}
 use Rattle.std.specs.List.Sorted.{IsStrictlySortedBy}
 use Rattle.std.specs.Ordering.{is_eq}
 use Rattle.std.specs.Str.{bytes_eq}
@@ -10,7 +11,7 @@ use Rattle.std.proofs.Math.Seq.{take-suc}
 use Rattle.std.proofs.lemmas.Bool.{cond-true, cond-false}
 use Rattle.std.proofs.lemmas.List.{get_or-map}
 use Rattle.std.proofs.lemmas.Map.Entries.{length-keys_of}
-use Rattle.std.proofs.lemmas.Map.Keys.{Less-from_sorted, sorted_tail}
+use Rattle.std.proofs.lemmas.Map.Keys.{Less-from_sorted, sorted_head, sorted_tail}
 use Rattle.sorted_pages.specs.Entries.{has}
 use Rattle.sorted_pages.specs.Rooms.{PagesView}
 use Rattle.postings.specs.declared.change.Side.{Side}
@@ -19,7 +20,7 @@ use Rattle.postings.specs.declared.change.WordChange.{WordChange}
 use Rattle.postings.specs.Dictionary.{word_cmp, value_at, entries_of}
 use Rattle.postings.specs.Changes.{ChangeView, is_side, side_of, side_at, named, IsRowOf, IsChangeOf}
 use Rattle.postings.specs.Documents.{Document, stands_in, AreNarrow}
-use Rattle.postings.proofs.WordLemmas.{Written, by_word, itself, turned, bytes_itself, bytes_apart, written_here, written_other}
+use Rattle.postings.proofs.WordLemmas.{Written, same_word, by_word, itself, turned, bytes_itself, bytes_apart, written_here, written_other}
 
 -- the words of two rows are two
 pub rows_apart : {X : Type 0} (rows : List (List ℕ × X)) (i j : ℕ) (d e : List ℕ × X) → IsStrictlySortedBy word_cmp (keys_of rows) → i < j → j < length rows
@@ -84,41 +85,98 @@ value_pushed {X} P (r ∷ rs) x w old some = by (is_at (word_cmp w) r.0) old (λ
     by true here later = here
     by false here later = later here
 
+-- the same words are there, in the same order
 pub words_moved : {X : Type 0} (done left : List (List ℕ × X)) (word : List ℕ) (old new : X)
-    → keys_of (done ++ (word, new) ∷ []) ++ keys_of left ≡ keys_of done ++ keys_of ((word, old) ∷ left)
+    → keys_of ((done ++ (word, new) ∷ []) ++ left) ≡ keys_of (done ++ (word, old) ∷ left)
 words_moved [] left word old new = refl
 words_moved (r ∷ rs) left word old new = ap (λ v. r.0 ∷ v) (words_moved rs left word old new)
 
--- an entry that comes does not go
-abbrev pub IsWithout : ℕ → Option WordChange → Type 0
-IsWithout e o = has (side_at Goes o) e ≡ (has (side_at Goes o) e && not (has (side_at Comes o) e))
+-- a row less leaves the words in order
+pub words_dropped : {X : Type 0} (done left : List (List ℕ × X)) (x : List ℕ × X) → IsStrictlySortedBy word_cmp (keys_of (done ++ x ∷ left))
+    → IsStrictlySortedBy word_cmp (keys_of (done ++ left))
+unfolding IsStrictlySortedBy
+words_dropped [] left x h = h.1
+words_dropped {X} (r ∷ rs) left x h = (all rs h.0, words_dropped rs left x h.1)
+  where
+    all : (rows : List (List ℕ × X)) → AllByRecursion (λ y. word_cmp r.0 y ≡ Less) (keys_of (rows ++ x ∷ left))
+        → AllByRecursion (λ y. word_cmp r.0 y ≡ Less) (keys_of (rows ++ left))
+    all [] a = a.1
+    all (q ∷ qs) a = (a.0, all qs a.1)
+
+-- no row behind has the word
+absent_behind : {X : Type 0} (word : List ℕ) (rows : List (List ℕ × X)) → AllByRecursion (λ y. word_cmp word y ≡ Less) (keys_of rows) → value_at word rows ≡ None
+absent_behind word [] h = refl
+absent_behind word (r ∷ rs) h = cond-false _ _ _ (ap is_eq h.0) ∙ absent_behind word rs h.1
+
+-- what is read alike of a row's value and of none is read alike at each word where the row is dropped
+pub read_dropped : {X Y : Type 0} (f : Option X → Y) (done left : List (List ℕ × X)) (word : List ℕ) (old : X) → IsStrictlySortedBy word_cmp (keys_of (done ++ (word, old) ∷ left))
+    → f None ≡ f (Some old) → (w : List ℕ) → f (value_at w (done ++ left)) ≡ f (value_at w (done ++ (word, old) ∷ left))
+read_dropped {X} {Y} f [] left word old sorted same w = by (is_at (word_cmp w) word) refl
+  where
+    by : (b : Bool) → b ≡ is_at (word_cmp w) word → f (value_at w left) ≡ f (cond b (Some old) (value_at w left))
+    by true s = ap (λ v. f (value_at v left)) (same_word w word (sym s)) ∙ ap f (absent_behind word left (sorted_head word_cmp word (keys_of left) sorted)) ∙ same
+    by false s = refl
+read_dropped {X} {Y} f (r ∷ rs) left word old sorted same w =
+    by (is_at (word_cmp w) r.0) (read_dropped f rs left word old (sorted_tail word_cmp r.0 (keys_of (rs ++ (word, old) ∷ left)) sorted) same w)
+  where
+    by : (b : Bool) → f (value_at w (rs ++ left)) ≡ f (value_at w (rs ++ (word, old) ∷ left))
+        → f (cond b (Some r.1) (value_at w (rs ++ left))) ≡ f (cond b (Some r.1) (value_at w (rs ++ (word, old) ∷ left)))
+    by true rest = refl
+    by false rest = rest
+
+abbrev pub across : Side → Side
+across Goes = Comes
+across Comes = Goes
+
+-- whether the entry is on this side of a word's change and not on the other
+abbrev pub is_alone : Side → ℕ → Option WordChange → Bool
+is_alone side entry change = has (side_at side change) entry && not (has (side_at (across side) change) entry)
+
+-- what is named on a side is not on the other
+abbrev pub IsAlone : Side → ℕ → Option WordChange → Type 0
+IsAlone side entry change = has (side_at side change) entry ≡ is_alone side entry change
+
+-- the row has what is alone, and nothing else
+row_alone : (old new : WordChange) → IsRowOf old new → (s : Side) (e : ℕ) → has (side_of s new) e ≡ is_alone s e (Some old)
+row_alone old new row Goes e = row.gone e
+row_alone old new row Comes e = row.come e
+
+still_alone : (old new : WordChange) → IsRowOf old new → (s : Side) (e : ℕ) → is_alone s e (Some old) ≡ is_alone s e (Some new)
+still_alone old new row s e = by s
+  where
+    again : (a b : Bool) → (a && not b) ≡ ((a && not b) && not (b && not a))
+    again true true = refl
+    again true false = refl
+    again false b = refl
+
+    by : (s : Side) → is_alone s e (Some old) ≡ is_alone s e (Some new)
+    by Goes = again (has old.gone.items e) (has old.come.items e) ∙ sym (ap₂ (λ a b. a && not b) (row.gone e) (row.come e))
+    by Comes = again (has old.come.items e) (has old.gone.items e) ∙ sym (ap₂ (λ a b. a && not b) (row.come e) (row.gone e))
 
 -- one word more is settled
-pub settled_goes : (done left : List (List ℕ × WordChange)) (word : List ℕ) (old new : WordChange) → IsRowOf old new → (w : List ℕ) (e : ℕ)
-    → (named Goes w e ((done ++ (word, new) ∷ []) ++ left) && not (named Comes w e ((done ++ (word, new) ∷ []) ++ left)))
-    ≡ (named Goes w e (done ++ (word, old) ∷ left) && not (named Comes w e (done ++ (word, old) ∷ left)))
-settled_goes done left word old new row w e =
-    read_swapped (λ o. has (side_at Goes o) e && not (has (side_at Comes o) e)) done left word old new
-    (sym (ap₂ (λ a b. a && not b) (row.gone e) (row.come e) ∙ again (has old.gone.items e) (has old.come.items e))) w
-  where
-    again : (a b : Bool) → ((a && not b) && not b) ≡ (a && not b)
-    again true true = refl
-    again true false = refl
-    again false b = refl
+pub settled_named : (done left : List (List ℕ × WordChange)) (word : List ℕ) (old new : WordChange) → IsRowOf old new → (s : Side) (w : List ℕ) (e : ℕ)
+    → is_alone s e (value_at w ((done ++ (word, new) ∷ []) ++ left)) ≡ is_alone s e (value_at w (done ++ (word, old) ∷ left))
+settled_named done left word old new row s w e = read_swapped (is_alone s e) done left word old new (still_alone old new row s e) w
 
-pub settled_comes : (done left : List (List ℕ × WordChange)) (word : List ℕ) (old new : WordChange) → IsRowOf old new → (w : List ℕ) (e : ℕ)
-    → named Comes w e ((done ++ (word, new) ∷ []) ++ left) ≡ named Comes w e (done ++ (word, old) ∷ left)
-settled_comes done left word old new row w e = read_swapped (λ o. has (side_at Comes o) e) done left word old new (sym (row.come e)) w
+pub settled_alone : (done : List (List ℕ × WordChange)) (word : List ℕ) (old new : WordChange) → IsRowOf old new → (s : Side) (w : List ℕ) (e : ℕ)
+    → IsAlone s e (value_at w done) → IsAlone s e (value_at w (done ++ (word, new) ∷ []))
+settled_alone done word old new row s w e before =
+    value_pushed (IsAlone s e) done (word, new) w before (row_alone old new row s e ∙ still_alone old new row s e)
 
-pub settled_without : (done : List (List ℕ × WordChange)) (word : List ℕ) (old new : WordChange) → IsRowOf old new → (w : List ℕ) (e : ℕ)
-    → IsWithout e (value_at w done) → IsWithout e (value_at w (done ++ (word, new) ∷ []))
-settled_without done word old new row w e before = value_pushed (IsWithout e) done (word, new) w before
-    (row.gone e ∙ again (has old.gone.items e) (has old.come.items e) ∙ sym (ap₂ (λ a b. a && not b) (row.gone e) (row.come e)))
+-- so is one that has nothing then
+pub dropped_named : (done left : List (List ℕ × WordChange)) (word : List ℕ) (old new : WordChange) → IsRowOf old new → length new.gone.items + length new.come.items ≡ 0
+    → IsStrictlySortedBy word_cmp (keys_of (done ++ (word, old) ∷ left)) → (s : Side) (w : List ℕ) (e : ℕ)
+    → is_alone s e (value_at w (done ++ left)) ≡ is_alone s e (value_at w (done ++ (word, old) ∷ left))
+dropped_named done left word old new row empty sorted s w e =
+    read_dropped (is_alone s e) done left word old sorted (sym (none_in (side_of s new) (by s)) ∙ row_alone old new row s e) w
   where
-    again : (a b : Bool) → (a && not b) ≡ ((a && not b) && not b)
-    again true true = refl
-    again true false = refl
-    again false b = refl
+    none_in : (xs : List ℕ) → length xs ≡ 0 → has xs e ≡ false
+    none_in [] h = refl
+    none_in (x ∷ xs) h = absurd (omega arith)
+
+    by : (s : Side) → length (side_of s new) ≡ 0
+    by Goes = omega arith
+    by Comes = omega arith
 
 -- what two clauses say of success
 pub ok_both : {X E P Q R : Type 0} (r : Result X E) → OnOk r P → OnOk r Q → (P → Q → R) → OnOk r R

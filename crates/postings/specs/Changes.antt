@@ -1,5 +1,5 @@
 -- What a change of documents makes words lose and gain.
-use Rattle.std.specs.Prelude.{◌≡◌, ℕ, Bool, true, false, not, ◌&&◌, List, [], Option, None, Some}
+use Rattle.std.specs.Prelude.{◌≡◌, ℕ, ◌+◌, ◌<◌, Bool, true, false, not, ◌&&◌, List, [], length, Option, None, Some}
 use Rattle.std.specs.List.{All}
 use Rattle.std.specs.List.Sorted.{IsStrictlySortedBy}
 use Rattle.std.specs.Map.{keys_of}
@@ -39,30 +39,37 @@ pub record IsChangeOf (change : ChangeView) (gone come : List Document) : Type 0
   pub comes : (word : List ℕ) (entry : ℕ) → named Comes word entry change.words ≡ stands word entry come
   pub narrow : AllNarrow come
 
--- the same, where what comes need not go
+-- the same, without what goes and comes
 pub record IsPreparedOf (change : ChangeView) (gone come : List Document) : Type 0 where
   pub goes : (word : List ℕ) (entry : ℕ) → named Goes word entry change.words
       ≡ (stands word entry gone && not (stands word entry come))
-  pub comes : (word : List ℕ) (entry : ℕ) → named Comes word entry change.words ≡ stands word entry come
+  pub comes : (word : List ℕ) (entry : ℕ) → named Comes word entry change.words
+      ≡ (stands word entry come && not (stands word entry gone))
   pub narrow : AllNarrow come
 
 -- the entries on both sides are in order
-abbrev pub IsSettled : List ℕ × WordChange → Type 0
-IsSettled row = IsIncreasing row.1.gone.items × IsIncreasing row.1.come.items
+abbrev pub AreInOrder : WordChange → Type 0
+AreInOrder change = IsIncreasing change.gone.items × IsIncreasing change.come.items
 
--- so are the words, each of which is there once
+-- so they are, and one side at least has some
+pub record IsSettled (row : List ℕ × WordChange) : Type 0 where
+  pub increasing : AreInOrder row.1
+  pub some : 0 < length row.1.gone.items + length row.1.come.items
+
+-- so are all, and the words are in order too, each of which is there once
 pub record AreSettled (rows : List (List ℕ × WordChange)) : Type 0 where
   pub words : IsStrictlySortedBy word_cmp (keys_of rows)
   pub each : All IsSettled rows
 
--- the entries of a word's change in order, without those among what goes that come
+-- the entries of a word's change in order, without those that go and come
 pub record IsRowOf (change row : WordChange) : Type 0 where
-  pub increasing : IsIncreasing row.gone.items × IsIncreasing row.come.items
+  pub increasing : AreInOrder row
   pub gone : (entry : ℕ) → has row.gone.items entry ≡ (has change.gone.items entry && not (has change.come.items entry))
-  pub come : (entry : ℕ) → has row.come.items entry ≡ has change.come.items entry
+  pub come : (entry : ℕ) → has row.come.items entry ≡ (has change.come.items entry && not (has change.gone.items entry))
 
 -- the same for each word
 pub record AreSettledOf (words rows : List (List ℕ × WordChange)) : Type 0 where
   pub goes : (word : List ℕ) (entry : ℕ) → named Goes word entry rows
       ≡ (named Goes word entry words && not (named Comes word entry words))
-  pub comes : (word : List ℕ) (entry : ℕ) → named Comes word entry rows ≡ named Comes word entry words
+  pub comes : (word : List ℕ) (entry : ℕ) → named Comes word entry rows
+      ≡ (named Comes word entry words && not (named Goes word entry words))

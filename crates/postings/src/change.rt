@@ -29,7 +29,8 @@ pub(crate) struct WordChange {
 // What each word loses and gains.
 pub(crate) type WordChanges = BTreeMap<Word, WordChange>;
 
-/// Whole documents that go, and others that come. One that is replaced goes and comes.
+/// Whole documents that go, and others that come. One that is replaced goes and comes, and the places that it has
+/// before and after stay.
 #[derive(Drop)]
 pub struct Change {
     pub(crate) words: WordChanges,
@@ -43,7 +44,7 @@ impl Model for Change {
     ghost view = { λ change. record { words = change.words.entries } };
 }
 
-/// A change whose memory was taken.
+/// A change whose memory was taken. Each of its words has a place that goes or comes, and none that does both.
 #[derive(Drop)]
 pub struct Prepared {
     pub(crate) words: Vec<(Word, WordChange)>,
@@ -132,7 +133,7 @@ fn name_entry(
     Ok(())
 }
 
-// The same word, which shares its text.
+// The same word.
 pub(crate) fn copy_word(word: &Word) -> Result<Word, NoMemory>
     ensures { IfOk result (λ copy. copy ≡ word.now) }
 {

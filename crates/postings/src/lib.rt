@@ -4,8 +4,10 @@
 //! increasing. After any changes the list of each word is exactly its places in the documents as
 //! they stand, each once, and a word without a place has no list. Whole documents go and come: a
 //! `Change` gathers them, `prepare` takes all memory and leaves every answer, and `commit` and
-//! `release` take none and cannot be refused. Contracts see postings as lists by word, a change as
-//! what each word loses and gains. The crate stands on `search_base` and `sorted_pages`.
+//! `release` take none and cannot be refused. A place that goes and comes stays: where a document
+//! is replaced, only the words whose places differ are part of what is prepared. Contracts see
+//! postings as lists by word, a change as what each word loses and gains. The crate stands on
+//! `search_base` and `sorted_pages`.
 #![tactic(auto)]
 
 mod change;

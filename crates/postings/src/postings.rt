@@ -104,8 +104,9 @@ impl Postings {
         last_shown(&mut lists)
     }
 
-    /// Takes all memory that the change needs, in proportion to the change. Each list stays as it
-    /// was, whatever the result, and after a refusal no room is left at a word without a place.
+    /// Takes all memory that the change needs, in proportion to the change. What goes and comes is
+    /// left out, and so is a word of which nothing is left. Each list stays as it was, whatever the
+    /// result, and after a refusal no room is left at a word without a place.
     pub fn prepare(&mut self, alloc: Global, change: Change) -> Result<Prepared, NoMemory>
         ensures lists { (word : List ℕ) → list_at word self.new ≡ list_at word self.old }
         ensures made { IfOk result (λ prepared. (gone come : List Document) → IsChangeOf change gone come
@@ -125,9 +126,9 @@ impl Postings {
         }
     }
 
-    /// Makes a change that was prepared on these postings as they are. Takes no memory. Where they
-    /// were those of some documents, they are those of the documents after the change, and no word
-    /// without a place is kept.
+    /// Makes a change that was prepared on these postings as they are, and changes the lists of its
+    /// words alone. Takes no memory. Where they were those of some documents, they are those of the
+    /// documents after the change, and no word without a place is kept.
     pub fn commit(&mut self, prepared: Prepared)
         requires { HasRooms self.old.lists prepared.words }
         ensures lists { (word : List ℕ) (entry : ℕ) → has (list_at word self.new) entry

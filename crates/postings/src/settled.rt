@@ -1,4 +1,4 @@
-ghost use Rattle.std.specs.Prelude.{◌≡◌, ℕ, IfOk};
+ghost use Rattle.std.specs.Prelude.{◌≡◌, ℕ, ◌+◌, ◌↔◌, length, IfOk, IsTrue};
 ghost use Rattle.sorted_pages.specs.Entries.{has, IsIncreasing, difference};
 ghost use Rattle.postings.specs.Changes.{IsRowOf, AreSettled, AreSettledOf};
 
@@ -7,7 +7,8 @@ use search_base::{NoMemory, Word};
 use sorted_pages::changes_are_on_members;
 use std::alloc::Global;
 
-// The changes of the words, with the entries of each in order, and none that comes among those that go.
+// The changes of the words, with the entries of each in order, without those that go and come. A word of which
+// nothing goes or comes then is left out.
 pub(crate) fn settle(alloc: Global, words: WordChanges) -> Result<Vec<(Word, WordChange)>, NoMemory>
     ensures settled { IfOk result (λ rows. AreSettled rows.items) }
     ensures same { IfOk result (λ rows. AreSettledOf words.entries rows.items) }
@@ -16,20 +17,33 @@ pub(crate) fn settle(alloc: Global, words: WordChanges) -> Result<Vec<(Word, Wor
     let _words = words.len();
     let mut left = words;
     while let Some((word, change)) = left.pop_first() {
-        let settled = settle_word(change);
+        let settled = settle_word(change)?;
+        if is_empty(&settled) {
+            continue;
+        }
         rows.push((word, settled))?;
     }
     Ok(rows)
 }
 
-// The same change, with its entries in order, and none that comes among those that go.
-fn settle_word(change: WordChange) -> WordChange
-    ensures { IsRowOf change result }
+// Whether nothing goes and nothing comes.
+fn is_empty(change: &WordChange) -> bool
+    ensures { IsTrue result ↔ (length change.now.gone.items + length change.now.come.items ≡ 0) }
+{
+    change.gone.is_empty() && change.come.is_empty()
+}
+
+// The same change, with its entries in order, without those that go and come.
+fn settle_word(change: WordChange) -> Result<WordChange, NoMemory>
+    ensures { IfOk result (λ row. IsRowOf change row) }
 {
     changes_are_on_members();
+    let gone = in_order(change.gone);
     let come = in_order(change.come);
-    let gone = without(in_order(change.gone), come.as_slice());
-    WordChange { gone, come }
+    Ok(WordChange {
+        gone: without(gone.clone()?, come.as_slice()),
+        come: without(come, gone.as_slice()),
+    })
 }
 
 // The same entries in order, each once.

@@ -7,6 +7,7 @@ use Rattle.postings.specs.Documents.{Document}
 use Rattle.postings.specs.Fresh as postings
 use Rattle.path_lengths.specs.Measured.{AreLengthsOf}
 use Rattle.facet_index.specs.Places.{IsIndexOf}
+use Rattle.leaf_table.specs.Tables.{AreLeavesOf}
 use Rattle.row_index.specs.Documents.{IndexedDocument, has_id, after}
 use Rattle.row_index.specs.Standing.{RowIndexView, StandsFor, placed, faceted}
 use Rattle.row_index.specs.Changes.{PreparedView, IsPreparedOf, AnswersAsBefore}
@@ -33,6 +34,7 @@ stands_as_before old new documents same stood = record {
     keys = lists_stand old.facets new.facets _ same.facets stood.facets.keys;
     narrow = stood.facets.narrow;
   };
+  leaves = λ id. same.leaves id ∙ stood.leaves id;
   ids = λ id. ap (λ ids. sets.has ids id) same.ids ∙ stood.ids id;
 }
 
@@ -42,11 +44,13 @@ pub stands_after : (old new : RowIndexView) (prepared : PreparedView) (gone come
     → postings.StandsFor new.places (map placed (after gone come documents))
     → AreLengthsOf new.lengths (map placed (after gone come documents))
     → IsIndexOf new.facets (map faceted (after gone come documents))
+    → AreLeavesOf new.leaves (map faceted (after gone come documents))
     → StandsFor new (after gone come documents)
-stands_after old new prepared gone come documents is stood ids places lengths facets = record {
+stands_after old new prepared gone come documents is stood ids places lengths facets leaves = record {
   places = places;
   lengths = lengths;
   facets = facets;
+  leaves = leaves;
   ids = λ id. ap (λ ids. sets.has ids id) ids ∙ is.ids id
       ∙ ap (λ b. has_id id come || (b && not (has_id id gone))) (stood.ids id)
       ∙ sym (has_after id gone come documents);

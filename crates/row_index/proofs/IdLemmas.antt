@@ -6,8 +6,8 @@ use Rattle.std.proofs.lemmas.List.Folds.{list_any-append}
 use Rattle.search_base.specs.declared.document.DocId.{DocId}
 use Rattle.doc_sets.specs.Sets.{has, with_id}
 use Rattle.doc_sets.specs.Membership.{AreByMembers}
+use Rattle.leaf_table.specs.Changes.{numbers}
 use Rattle.row_index.specs.Documents.{IndexedDocument, has_id, without, after}
-use Rattle.row_index.specs.Changes.{numbers}
 
 and_false : (x : Bool) → (x && false) ≡ false
 and_false true = refl

@@ -1,5 +1,6 @@
 -- Documents as the parts of an index know them.
 use Rattle.std.proofs.Common.{◌≡◌, ℕ, Bool, true, false, not, ◌==◌, ◌||◌, cond, List, [], ◌∷◌, ◌++◌, Some, map, refl, sym, ap, ◌∙◌}
+use Rattle.std.specs.Option.{option_map}
 use Rattle.std.specs.List.{filter, list_any, AllByRecursion}
 use Rattle.std.proofs.lemmas.List.{map-append}
 use Rattle.search_base.specs.declared.document.Place.{Place}
@@ -92,22 +93,20 @@ apart_faceted : (documents : List IndexedDocument) → AreApart documents → fa
 apart_faceted [] h = tt
 apart_faceted (x ∷ xs) h = (has_faceted x.id xs ∙ h.0, apart_faceted xs h.1)
 
-leaves_of : (id : ℕ) (x : IndexedDocument) (documents : List IndexedDocument) → document_at id documents ≡ Some x
-    → facets.document_at id (map faceted documents) ≡ Some (faceted x)
-leaves_of id x [] h = absurd (cc)
-leaves_of id x (d ∷ ds) h = by (d.id == id) h (leaves_of id x ds)
+pub at_faceted : (id : ℕ) (documents : List IndexedDocument)
+    → facets.document_at id (map faceted documents) ≡ option_map faceted (document_at id documents)
+at_faceted id [] = refl
+at_faceted id (d ∷ ds) = ap (cond (d.id == id) (Some (faceted d))) (at_faceted id ds) ∙ by (d.id == id)
   where
-    by : (b : Bool) → cond b (Some d) (document_at id ds) ≡ Some x
-        → (document_at id ds ≡ Some x → facets.document_at id (map faceted ds) ≡ Some (faceted x))
-        → cond b (Some (faceted d)) (facets.document_at id (map faceted ds)) ≡ Some (faceted x)
-    by true h later = let same : d ≡ x = cc in ap (λ y. Some (faceted y)) same
-    by false h later = later h
+    by : (b : Bool) → cond b (Some (faceted d)) (option_map faceted (document_at id ds)) ≡ option_map faceted (cond b (Some d) (document_at id ds))
+    by true = refl
+    by false = refl
 
 pub batch_faceted : (gone come documents : List IndexedDocument) → IsBatch gone come documents
     → facets.IsBatch (map faceted gone) (map faceted come) (map faceted documents)
 batch_faceted gone come documents batch = record {
   whole = all_map faceted (λ x. document_at x.id documents ≡ Some x) (λ x. facets.document_at x.id (map faceted documents) ≡ Some x) gone batch.whole
-      (λ x h. leaves_of x.id x documents h);
+      (λ x h. at_faceted x.id documents ∙ ap (option_map faceted) h);
   once = apart_faceted come batch.once;
   free = all_map faceted (λ x. has_id x.id (without gone documents) ≡ false)
       (λ x. facets.has_id x.id (facets.without (map faceted gone) (map faceted documents)) ≡ false) come batch.free

@@ -4,6 +4,7 @@ ghost use Rattle.row_index.specs.Changes.{IsChangeOf};
 
 use doc_sets::DocSet;
 use facet_index::{FacetChange, PreparedFacets};
+use leaf_table::{LeafChange, PreparedLeaves};
 use path_lengths::{LengthChange, PreparedLengths};
 use postings::{Change, Prepared};
 use search_base::{DocId, DocRows, NoMemory};
@@ -16,12 +17,14 @@ pub struct RowChange {
     pub(crate) places: Change,
     pub(crate) lengths: LengthChange,
     pub(crate) facets: FacetChange,
+    pub(crate) leaves: LeafChange,
     pub(crate) gone: Vec<DocId>,
     pub(crate) come: Vec<DocId>,
 }
 
 impl Model for RowChange {
-    ghost use Rattle.row_index.specs.Changes.{RowChangeView, numbers};
+    ghost use Rattle.leaf_table.specs.Changes.{numbers};
+    ghost use Rattle.row_index.specs.Changes.{RowChangeView};
 
     ghost Value = { RowChangeView };
 
@@ -29,6 +32,7 @@ impl Model for RowChange {
       places = change.places;
       lengths = change.lengths;
       facets = change.facets;
+      leaves = change.leaves;
       gone = numbers change.gone.items;
       come = numbers change.come.items;
     } };
@@ -40,6 +44,7 @@ pub struct PreparedRows {
     pub(crate) places: Prepared,
     pub(crate) lengths: PreparedLengths,
     pub(crate) facets: PreparedFacets,
+    pub(crate) leaves: PreparedLeaves,
     pub(crate) ids: DocSet,
 }
 
@@ -52,6 +57,7 @@ impl Model for PreparedRows {
       places = prepared.places;
       lengths = prepared.lengths;
       facets = prepared.facets;
+      leaves = prepared.leaves;
       ids = prepared.ids.ids;
     } };
 }
@@ -65,6 +71,7 @@ impl RowChange {
             places: Change::new(alloc),
             lengths: LengthChange::new(alloc),
             facets: FacetChange::new(alloc),
+            leaves: LeafChange::new(alloc),
             gone: Vec::new(alloc),
             come: Vec::new(alloc),
         }
@@ -81,6 +88,7 @@ impl RowChange {
         self.places.take_out(alloc, id, places)?;
         self.lengths.take_out(alloc, id, places)?;
         self.facets.take_out(alloc, id, leaves, marks)?;
+        self.leaves.take_out(id)?;
         self.gone.push(id)?;
         Ok(())
     }
@@ -96,6 +104,7 @@ impl RowChange {
         self.places.put_in(alloc, id, places)?;
         self.lengths.put_in(alloc, id, places)?;
         self.facets.put_in(alloc, id, leaves, marks)?;
+        self.leaves.put_in(alloc, id, leaves)?;
         self.come.push(id)?;
         Ok(())
     }

@@ -1,6 +1,6 @@
 ghost use Rattle.std.specs.Prelude.{◌≡◌, ℕ, not, ◌&&◌, ◌||◌, IfOk, OnOk};
 ghost use Rattle.doc_sets.specs.Sets.{has};
-ghost use Rattle.row_index.specs.Changes.{numbers};
+ghost use Rattle.leaf_table.specs.Changes.{numbers};
 
 use doc_sets::{DocSet, DocSetBuilder, operations_are_on_members};
 use search_base::{DocId, NoMemory};

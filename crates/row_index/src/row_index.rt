@@ -7,6 +7,7 @@ use crate::change::{PreparedRows, RowChange};
 use crate::ids::ids_after;
 use doc_sets::DocSet;
 use facet_index::FacetIndex;
+use leaf_table::LeafTable;
 use path_lengths::PathLengths;
 use postings::Postings;
 use search_base::NoMemory;
@@ -19,6 +20,7 @@ pub struct RowIndex {
     places: Postings,
     lengths: PathLengths,
     facets: FacetIndex,
+    leaves: LeafTable,
     ids: DocSet,
 }
 
@@ -31,6 +33,7 @@ impl Model for RowIndex {
       places = index.places;
       lengths = index.lengths;
       facets = index.facets;
+      leaves = index.leaves;
       ids = index.ids.ids;
     } };
 }
@@ -45,6 +48,7 @@ impl RowIndex {
             places: Postings::new(alloc),
             lengths: PathLengths::new(alloc),
             facets: FacetIndex::new(alloc),
+            leaves: LeafTable::new(alloc),
             ids: DocSet::new(alloc),
         }
     }
@@ -70,6 +74,13 @@ impl RowIndex {
         &self.facets
     }
 
+    /// The documents' leaves by their ids. Takes no memory.
+    pub fn leaves(&self) -> &LeafTable
+        ensures { result.now ≡ self.now.leaves }
+    {
+        &self.leaves
+    }
+
     /// The ids of the documents. Takes no memory.
     pub fn ids(&self) -> &DocSet
         ensures { result.now.ids ≡ self.now.ids }
@@ -85,8 +96,9 @@ impl RowIndex {
         *self = RowIndex::new(alloc);
     }
 
-    /// Takes all memory that the change needs: in proportion to the change, and a bit or an id for each document that
-    /// stands. Each answer stays as it was, whatever the result, and after a refusal no room is left behind.
+    /// Takes all memory that the change needs: in proportion to the change, a bit or an id for each document that
+    /// stands, and an empty row of leaves for each id up to the greatest that comes. Each answer stays as it was,
+    /// whatever the result, and after a refusal no room is left behind but such rows.
     pub fn prepare(&mut self, alloc: Global, change: RowChange) -> Result<PreparedRows, NoMemory>
         ensures answers { AnswersAsBefore self.old self.new }
         ensures same { (documents : List IndexedDocument) → StandsFor self.old documents → StandsFor self.new documents }
@@ -100,10 +112,12 @@ impl RowIndex {
             places,
             lengths,
             facets,
+            leaves,
             gone,
             come,
         } = change;
         let ids = ids_after(alloc, &self.ids, gone.as_slice(), come.as_slice())?;
+        let leaves = self.leaves.prepare(leaves)?;
         let places = self.places.prepare(alloc, places)?;
         let lengths = match self.lengths.prepare(alloc, lengths) {
             Ok(lengths) => lengths,
@@ -117,6 +131,7 @@ impl RowIndex {
                 places,
                 lengths,
                 facets,
+                leaves,
                 ids,
             }),
             Err(refused) => {
@@ -139,10 +154,12 @@ impl RowIndex {
         self.places.commit(prepared.places);
         self.lengths.commit(prepared.lengths);
         self.facets.commit(prepared.facets);
+        self.leaves.commit(prepared.leaves);
         self.ids = prepared.ids;
     }
 
-    /// Gives back the room of a prepared change that is not to be made. Each answer stays as it was. Takes no memory.
+    /// Gives back the room of a prepared change that is not to be made, but for empty rows of leaves. Each answer stays
+    /// as it was. Takes no memory.
     pub fn release(&mut self, prepared: PreparedRows)
         ensures answers { AnswersAsBefore self.old self.new }
         ensures same { (documents : List IndexedDocument) → StandsFor self.old documents → StandsFor self.new documents }

@@ -9,7 +9,7 @@ use crate::source::RuleSource;
 use bucket_sort::{Bucket, BucketStream};
 use doc_sets::DocSet;
 use search_base::{CostKey, NoMemory, PathId, Rule, SortKey, Steps};
-use sort_rule::{OrderedRows, SortBuckets};
+use sort_rule::{First, OrderedRows, SortBuckets};
 use std::alloc::Global;
 use std::marker::Model;
 use std::mem;
@@ -42,6 +42,18 @@ impl<'a, S: RuleSource> OrderedRows for KeyedRows<'a, S> {
 
     fn docs_at(&self, alloc: Global, at: &CostKey, universe: &DocSet) -> Result<DocSet, NoMemory> {
         docs_under(alloc, &self.query, at, universe)
+    }
+
+    /// What the source tells of the values of a path, and nothing of whole attributes.
+    fn first_of(&self, alloc: Global, universe: &DocSet) -> Result<First, NoMemory> {
+        match key_kind(self.query.rule) {
+            KeyKind::Values { path, up } => {
+                let source = self.query.source;
+                let first = source.first_of(alloc, path, up, universe)?;
+                Ok(first)
+            }
+            KeyKind::Whole | KeyKind::Nothing => Ok(First::Unknown),
+        }
     }
 }
 

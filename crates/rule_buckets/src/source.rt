@@ -7,12 +7,14 @@ ghost use Rattle.search_base.specs.declared.cost_key.CostKey.{CostKey as Key};
 ghost use Rattle.condition_graph.specs.Meets.{meets, IsRanked};
 ghost use Rattle.condition_graph.specs.Promise.{IsCondition};
 ghost use Rattle.sort_rule.specs.Rows.{AreRows, next_of, is_under};
+ghost use Rattle.sort_rule.specs.First.{IsFirst};
 ghost use Rattle.rule_buckets.specs.Entries.{sort_entry, missing_entry};
 
 use condition_graph::Condition;
 use doc_sets::DocSet;
 use path_costs::Resolve;
 use search_base::{CostKey, NoMemory, PathId, Word};
+use sort_rule::First;
 use std::alloc::Global;
 
 /// An index as ranking rules see it. A universe is a set of its documents; each answer is about these alone.
@@ -73,6 +75,19 @@ pub trait RuleSource {
     ) -> Result<DocSet, NoMemory>
         ensures { IfOk result (λ set.
             set.ids ≡ filter (λ d. is_under at.now (sort_entry up path.0 (rows self.now d).leaves)) universe.now.ids) };
+
+    /// Which documents of the universe come first by their entries under the path, as far as the source tells. It may
+    /// where it knows the entry of each document and the universe is small enough to be gone through; `Unknown` is
+    /// always true.
+    fn first_of(
+        &self,
+        alloc: Global,
+        path: PathId,
+        up: bool,
+        universe: &DocSet,
+    ) -> Result<First, NoMemory>
+        ensures { IfOk result (λ first.
+            IsFirst (λ d. sort_entry up path.0 (rows self.now d).leaves) universe.now.ids first) };
 
     /// Each document has one of the entries of a path, or none.
     ghost sorted: { (source : Self) (up : Bool) (path : ℕ)

@@ -14,6 +14,8 @@ pub mod BlockCosts
 pub mod Sums
 pub mod LeastSums
 pub mod Bucket
+pub mod Heads
+pub mod Texts
 pub mod Whole
 pub mod SortKeys
 pub mod EmptyQuery

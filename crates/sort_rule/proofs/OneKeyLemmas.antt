@@ -1,13 +1,14 @@
 -- Rows of one key, as tests have them.
-use Rattle.std.proofs.Common.{◌≡◌, ℕ, ℤ, pos, Bool, true, false, not, ◌&&◌, ◌||◌, cond, List, [], ◌∷◌, filter, Option, Some, None, refl, sym, ap, ap₂, ◌∙◌, subst}
+use Rattle.std.proofs.Common.{◌≡◌, ℕ, pos, Bool, true, false, not, ◌&&◌, ◌||◌, cond, List, [], ◌∷◌, filter, Option, Some, None, refl, sym, ap, ap₂, ◌∙◌, subst}
 use Rattle.std.specs.List.{list_any}
 use Rattle.search_base.specs.declared.cost_key.CostKey.{CostKey}
 use Rattle.search_base.specs.declared.cost_key.CostKey.TheVariants as cost
 use Rattle.search_base.specs.declared.cost_key.SortKey.TheVariants as sort
 use Rattle.search_base.specs.CostOrder.{before}
 use Rattle.search_base.specs.SortKeys.{first_by}
-use Rattle.search_base.proofs.CostOrderLemmas.{before-alike, before-strict}
+use Rattle.search_base.proofs.CostOrderLemmas.{before-alike}
 use Rattle.doc_sets.specs.Sets.{has, intersection}
+use Rattle.doc_sets.proofs.SetLemmas.{has-filter}
 use Rattle.bucket_sort.specs.Classes.{same}
 use Rattle.sort_rule.specs.Rows.{next_of, is_under, AreRows}
 
@@ -57,6 +58,11 @@ none-under docs universe at e = sym (filter-same (λ d. is_under at (key_in docs
     differs true b e = refl
     differs false true e = refl
     differs false false e = absurd (cc)
+
+-- where none of some documents has the key, each is without one
+pub missing : (docs universe : List ℕ) → intersection universe docs ≡ [] → (d : ℕ) → has universe d ≡ true → key_in docs d ≡ None
+missing docs universe none d h =
+    ap (λ b. cond b (Some the_key) None) (sym (ap (λ b. b && has docs d) h) ∙ sym (has-filter (has docs) universe d) ∙ ap (λ l. has l d) none)
 
 pub are-rows : (docs : List ℕ) → AreRows (the_key ∷ []) (key_in docs) (cost.Up sort.Missing)
 are-rows docs = record {

@@ -1,3 +1,4 @@
 -- Documents under keys, and what contracts see of their buckets.
 pub mod Rows
 pub mod Buckets
+pub mod First

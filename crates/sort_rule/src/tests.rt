@@ -5,7 +5,7 @@ ghost use Rattle.search_base.specs.CostOrder.{before};
 ghost use Rattle.sort_rule.specs.Rows.{next_of, is_under};
 ghost use Rattle.doc_sets.specs.Sets.{has};
 
-use crate::{OrderedRows, SortBuckets};
+use crate::{First, OrderedRows, SortBuckets};
 use bucket_sort::{Bucket, BucketStream};
 use doc_sets::DocSet;
 use search_base::{CostKey, DocId, NoMemory, SortKey, Steps};
@@ -67,6 +67,18 @@ impl OrderedRows for OneKey {
         }
         universe.and(alloc, &self.docs)
     }
+
+    // It looks at no more than two documents itself.
+    fn first_of(&self, alloc: Global, universe: &DocSet) -> Result<First, NoMemory> {
+        if self.refuses || universe.len() > 2 {
+            return Ok(First::Unknown);
+        }
+        let docs = universe.and(alloc, &self.docs)?;
+        if docs.is_empty() {
+            return Ok(First::Missing);
+        }
+        Ok(First::Found(Bucket { key: two(), docs }))
+    }
 }
 
 // The documents of a universe, some of them under the key 2, and the others last.
@@ -110,16 +122,25 @@ fn documents_without_a_key_come_last(rt: HostRuntime) -> Result<(), Fail> {
     let mut openings = Steps::new();
     assert_eq!(rt; told(alloc, &mut stream, &mut openings)?.as_str(), "2: 1 3");
     assert_eq!(rt; told(alloc, &mut stream, &mut openings)?.as_str(), " 0 2");
-    assert_eq!(rt; told(alloc, &mut stream, &mut openings)?.as_str(), "");
+    Ok(())
+}
+
+#[test]
+fn rows_tell_which_of_few_documents_come_first(rt: HostRuntime) -> Result<(), Fail> {
+    let alloc = rt.alloc();
+    let mut stream = buckets(set(alloc, &[1, 9])?, false, set(alloc, &[0, 9])?);
+    let mut openings = Steps::new();
+    assert_eq!(rt; told(alloc, &mut stream, &mut openings)?.as_str(), "2: 9");
+    assert_eq!(rt; told(alloc, &mut stream, &mut openings)?.as_str(), " 0");
     Ok(())
 }
 
 #[test]
 fn a_key_of_no_document_that_remains_is_passed(rt: HostRuntime) -> Result<(), Fail> {
     let alloc = rt.alloc();
-    let mut stream = buckets(set(alloc, &[9])?, false, set(alloc, &[5, 6])?);
+    let mut stream = buckets(set(alloc, &[9])?, false, set(alloc, &[5, 6, 7])?);
     let mut openings = Steps::new();
-    assert_eq!(rt; told(alloc, &mut stream, &mut openings)?.as_str(), " 5 6");
+    assert_eq!(rt; told(alloc, &mut stream, &mut openings)?.as_str(), " 5 6 7");
     assert_eq!(rt; told(alloc, &mut stream, &mut openings)?.as_str(), "");
     Ok(())
 }

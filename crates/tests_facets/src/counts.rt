@@ -3,7 +3,7 @@ use doc_sets::DocSet;
 use facet_counts::{FacetCounts, FacetPath, FacetReply, in_order};
 use facet_shelf::Shelf;
 use list_facets::counts;
-use search_base::{DocRows, FacetValue, Leaf, PathId};
+use search_base::{DocId, FacetValue, Leaf, PathId};
 use std::alloc::Global;
 use std::process::Abort;
 
@@ -14,6 +14,9 @@ const YEAR: u16 = 2;
 const MIXED: u16 = 3;
 
 const MANY: u16 = 4;
+
+// The documents from the fifth up to this number have no leaves.
+const BARE: u32 = 1_100;
 
 const FIRST: i128 = -(1 << 63);
 
@@ -61,7 +64,7 @@ const COUNTS: [(&[u32], Option<u16>, u64, &str); 23] = [
     (&[0, 1], Some(GENRE), 1, "action Action 1, "),
     (&[0, 1], Some(GENRE), 0, ""),
     (&[], Some(GENRE), 100, ""),
-    (&[7], Some(GENRE), 100, ""),
+    (&[2_000], Some(GENRE), 100, ""),
     (
         &[0, 1],
         Some(YEAR),
@@ -135,14 +138,25 @@ fn leaves_of(rt: &impl Abort, alloc: Global, document: u32) -> Vec<Leaf> {
     leaves
 }
 
-// The four documents of the table.
+// The four documents of the table, and those behind them, which have no leaves.
 fn shelf(rt: &impl Abort, alloc: Global) -> Shelf {
     let mut documents = Vec::new(alloc);
-    for document in 0..4 {
+    for document in 0..BARE {
         let leaves = leaves_of(rt, alloc, document);
         documents.push(leaves).expect(rt, "memory");
     }
     Shelf::of(alloc, documents).expect(rt, "memory")
+}
+
+// These documents, and with `many` those behind the four as well: more than are counted one by one.
+fn matches(rt: &impl Abort, alloc: Global, ids: &[u32], many: bool) -> DocSet {
+    let mut matching = set(rt, alloc, ids);
+    if many {
+        for bare in 4..BARE {
+            let _new = matching.insert(DocId(bare)).expect(rt, "memory");
+        }
+    }
+    matching
 }
 
 fn asked(
@@ -157,7 +171,7 @@ fn asked(
         attribute: word(rt, alloc, "asked"),
         path: path.map(PathId),
     };
-    let reply = counts(alloc, shelf, matching, facet, most).expect(rt, "memory");
+    let reply = counts(alloc, shelf, shelf.leaves(), matching, facet, most).expect(rt, "memory");
     check(rt, reply.attribute.as_str() == "asked", "attribute");
     reply
 }
@@ -179,10 +193,12 @@ fn values_of_matches_are_counted(rt: HostRuntime) {
     let alloc = rt.alloc();
     let shelf = shelf(&rt, alloc);
     for (ids, path, most, want) in &COUNTS {
-        let matching = set(&rt, alloc, ids);
-        let reply = asked(&rt, alloc, &shelf, &matching, *path, *most);
-        let text = told(&rt, alloc, &reply);
-        check(&rt, text.as_str() == *want, want);
+        for many in [false, true] {
+            let matching = matches(&rt, alloc, ids, many);
+            let reply = asked(&rt, alloc, &shelf, &matching, *path, *most);
+            let text = told(&rt, alloc, &reply);
+            check(&rt, text.as_str() == *want, want);
+        }
     }
 }
 
@@ -225,12 +241,10 @@ fn documents_are_counted_one_after_the_other(rt: HostRuntime) {
     let mut counts = FacetCounts::new(alloc, asked).expect(&rt, "memory");
     check(&rt, !counts.is_empty(), "one path");
     for document in 0..2 {
-        let rows = DocRows {
-            places: Vec::new(alloc),
-            leaves: leaves_of(&rt, alloc, document),
-            marks: Vec::new(alloc),
-        };
-        counts.add(alloc, &rows).expect(&rt, "memory");
+        let leaves = leaves_of(&rt, alloc, document);
+        counts
+            .add_leaves(alloc, leaves.as_slice())
+            .expect(&rt, "memory");
     }
     let want = "action Action 1, drama Drama 2, élan Élan 1, ";
     for reply in &counts.finish(alloc, 100).expect(&rt, "memory") {

@@ -7,6 +7,7 @@ use doc_sets::DocSet;
 use list_search::find;
 use rule_buckets::{RuleSource, Rules};
 use search_base::{CostKey, DocId, Graph, NoMemory, PathId, Rule, SortKey, Steps, Word};
+use sort_rule::First;
 use std::alloc::Global;
 use std::test::Fail;
 
@@ -67,6 +68,16 @@ impl RuleSource for Bare {
         universe: &DocSet,
     ) -> Result<DocSet, NoMemory> {
         Err(NoMemory)
+    }
+
+    fn first_of(
+        &self,
+        alloc: Global,
+        path: PathId,
+        up: bool,
+        universe: &DocSet,
+    ) -> Result<First, NoMemory> {
+        Ok(First::Unknown)
     }
 }
 

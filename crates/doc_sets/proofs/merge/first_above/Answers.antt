@@ -1,4 +1,4 @@
-use Rattle.std.proofs.Common.{◌+◌, suc, ap, ◌∙◌, arith}
+use Rattle.std.proofs.Common.{◌+◌, ap, ◌∙◌, arith}
 use Rattle.std.specs.Prelude.{slice_get}
 use Rattle.doc_sets.proofs.PlaceLemmas.{read-at, above-at, above-gap}
 use Rattle.doc_sets.proofs.merge.first_above.Goals as goal

@@ -1,7 +1,7 @@
 use Rattle.std.proofs.Common.{ap, ◌∙◌}
 use Rattle.std.specs.Str.Iter.{chars_rest}
-use Rattle.filter_expr.specs.Machine.{new_machine}
-use Rattle.filter_expr.specs.Scan.{with, gap}
+use Rattle.filter_machine.specs.Machine.{new_machine}
+use Rattle.filter_machine.specs.Scan.{with, gap}
 use Rattle.filter_expr.specs.Limit.{outcome_at}
 use Rattle.filter_expr.specs.Gives.{scanner_view}
 use Rattle.filter_expr.proofs.Chars.{same_fault}

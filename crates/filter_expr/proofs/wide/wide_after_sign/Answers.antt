@@ -1,4 +1,4 @@
-use Rattle.filter_expr.specs.Held.{machine_view}
+use Rattle.filter_machine.specs.Held.{machine_view}
 use Rattle.filter_expr.proofs.Chars.{after_none, after_some, after_some_refused}
 use Rattle.filter_expr.proofs.wide.wide_after_sign.Goals as goal
 

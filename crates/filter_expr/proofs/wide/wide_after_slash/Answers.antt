@@ -1,5 +1,5 @@
 use Rattle.std.proofs.Common.{string_bytes}
-use Rattle.filter_expr.specs.Held.{machine_view, quote_byte}
+use Rattle.filter_machine.specs.Held.{machine_view, quote_byte}
 use Rattle.filter_expr.proofs.Chars.{slash_char, quote_low}
 use Rattle.filter_expr.proofs.wide.wide_after_slash.Goals as goal
 

@@ -1,5 +1,5 @@
 use Rattle.std.proofs.Common.{string_bytes}
-use Rattle.filter_expr.specs.Held.{machine_view}
+use Rattle.filter_machine.specs.Held.{machine_view}
 use Rattle.filter_expr.proofs.Chars.{gap_char}
 use Rattle.filter_expr.proofs.wide.wide_in_gap.Goals as goal
 

@@ -1,5 +1,5 @@
 use Rattle.std.proofs.Common.{◌∙◌, sym, string_bytes}
-use Rattle.filter_expr.specs.Held.{machine_view}
+use Rattle.filter_machine.specs.Held.{machine_view}
 use Rattle.filter_expr.proofs.Chars.{word_char, word_char_refused}
 use Rattle.filter_expr.proofs.wide.wide_in_word.Goals as goal
 

@@ -13,14 +13,15 @@ loop-word-preserved c =
     let number = c.args.number in
     let list = c.in-Some.list.now.entries in
     let left = rows_left c.next.new.self in
+    let adds = c.in_ok-add_places.ensures.each in
     record {
       each = λ n id.
           let old = has (ids_at n c.loop-word.sets.items) id in
-          let one = one_list ids id (is_numbered number n id) (of_document number n id) list c.in_ok-occurrences.occurrences c.in_ok-occurrences.ensures in
-          ap (λ b. b || has_numbered_row number n ids id left) (c.in_ok-add_numbered.ensures.each n id ∙ ap (λ b. b || old) one)
+          let one = one_list ids id (is_numbered number n id) (of_document number n id) list adds.0 adds.1 in
+          ap (λ b. b || has_numbered_row number n ids id left) (adds.2 n id ∙ ap (λ b. b || old) one)
           ∙ row_step (has ids id && list_any (is_numbered number n id) list) old (has_numbered_row number n ids id left)
           ∙ ap (λ v. old || has_numbered_row number n ids id v) (sym c.in-Some.ensures.steps) ∙ c.loop-word.invariant.each n id;
-      few = c.in_ok-add_numbered.ensures.few;
+      few = c.in_ok-add_places.ensures.few;
     }
 
 pub returns-clause-each : goal.returns-clause-each

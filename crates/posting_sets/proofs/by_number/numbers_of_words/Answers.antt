@@ -9,6 +9,7 @@ returns-in_default-clause-each c =
 pub returns-clause-each : goal.returns-clause-each
 returns-clause-each c =
     let lists = rw c.in-Some.is at c.in_ok-lists.ensures in
+    let adds = c.in_ok-add_places.ensures.each in
     words_numbered c.args.postings.now c.args.words.now c.requires c.args.number c.args.universe.now.ids (map (λ list. list.now.entries) c.as_slice.result.now)
-    c.in_ok-occurrences.occurrences c.new-sets.result.items c.add_numbered.new.sets.items (ap (map (λ list. list.now.entries)) c.as_slice.ensures.value ∙ lists)
-    c.in_ok-occurrences.ensures c.new-sets.ensures.items c.in_ok-add_numbered.ensures.each
+    adds.0 c.new-sets.result.items c.add_places.new.sets.items (ap (map (λ list. list.now.entries)) c.as_slice.ensures.value ∙ lists)
+    adds.1 c.new-sets.ensures.items adds.2

@@ -7,8 +7,8 @@ use Rattle.posting_sets.proofs.NumberLemmas.{on_ok}
 use Rattle.posting_sets.proofs.PrefixLemmas.{one_list, guarded}
 use Rattle.posting_sets.proofs.found.add_list.Goals as goal
 
-pub returns-then-len : goal.returns-then-len
-returns-then-len c = on_ok c.add_documents.result c.add_documents.ensures (λ more q.
+pub returns : goal.returns
+returns c = on_ok c.add_documents.result c.add_documents.ensures (λ more q.
     let ids = c.args.universe.now.ids in
     let list = c.args.list.now.entries in
     ap (λ b. has ids q && b) (more q)

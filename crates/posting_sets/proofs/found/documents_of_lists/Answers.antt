@@ -1,12 +1,7 @@
-use Rattle.std.proofs.Common.{◌≡◌, ◌∷◌, [], List, length, map, get_or, refl, sym, ap, ◌∙◌, arith}
+use Rattle.std.proofs.Common.{◌∷◌, [], map, sym, ap, ◌∙◌}
 use Rattle.posting_sets.proofs.OccursLemmas.{ok_of}
-use Rattle.posting_sets.proofs.PrefixLemmas.{are_in_list, are_walked}
+use Rattle.posting_sets.proofs.PrefixLemmas.{only_one, are_in_list, are_walked}
 use Rattle.posting_sets.proofs.found.documents_of_lists.Goals as goal
-
-only_one : {X : Type 0} (xs : List X) (d : X) → length xs ≡ 1 → xs ≡ get_or xs 0 d ∷ []
-only_one [] d e = absurd (omega arith)
-only_one (x ∷ []) d e = refl
-only_one (x ∷ (y ∷ ys)) d e = absurd (omega arith)
 
 pub returns-then-documents-entries : goal.returns-then-documents-entries
 returns-then-documents-entries c = ok_of _ _ c.documents_of_list.result c.documents_of_list.ensures (λ set e.

@@ -1,6 +1,6 @@
 use Rattle.std.proofs.Common.{◌≡◌, ℕ, ◌||◌, take}
 use Rattle.doc_sets.specs.Sets.{has}
-use Rattle.row_index.specs.Changes.{numbers}
+use Rattle.leaf_table.specs.Changes.{numbers}
 use Rattle.row_index.proofs.ids.add_ids.Given as goal
 
 abbrev pub invariant-loop-id : goal.invariant-loop-id

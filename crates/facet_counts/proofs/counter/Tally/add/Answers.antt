@@ -11,7 +11,7 @@ loop-leaf-init c = λ at documents h. amid-start at documents c.args.self.now c.
 
 pub loop-leaf-preserved : goal.loop-leaf-preserved
 loop-leaf-preserved c = λ at documents h.
-    let leaves = c.deref-leaf-items.result.now in
+    let leaves = c.args.leaves.now in
     let i = c.loop-leaf.leaf-index in
     let leaf = c.leaf-item.result in
     let amid = c.loop-leaf.invariant at documents h in
@@ -26,8 +26,8 @@ loop-leaf-preserved c = λ at documents h.
     ])
 
 pub returns : goal.returns
-returns c = λ at documents h.
-    let leaves = c.deref-leaf-items.result.now in
-    let whole : take c.loop-leaf.leaf-index leaves ≡ c.args.rows.now.leaves = take_all c.loop-leaf.leaf-index leaves c.loop-leaf-test.false ∙ c.deref-leaf-items.ensures.value ∙ ap (λ r. r.leaves) c.rows.view_is in
-    amid-end at documents c.args.rows.now c.loop-leaf.self
+returns c = λ at documents rows are h.
+    let leaves = c.args.leaves.now in
+    let whole : take c.loop-leaf.leaf-index leaves ≡ rows.leaves = take_all c.loop-leaf.leaf-index leaves c.loop-leaf-test.false ∙ sym are in
+    amid-end at documents rows c.loop-leaf.self
     (subst (λ l. IsAmid c.loop-leaf.self at (leaves_at at.0 documents ++ leaves_under at.0 l) (count_of at.0 documents) (length documents) (leaves_under at.0 l)) whole (c.loop-leaf.invariant at documents h))

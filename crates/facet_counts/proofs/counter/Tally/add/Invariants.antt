@@ -9,5 +9,5 @@ use Rattle.facet_counts.proofs.counter.Tally.add.Given as goal
 
 abbrev pub invariant-loop-leaf : goal.invariant-loop-leaf
 invariant-loop-leaf l = (at : PathId) (documents : List RowsView) → IsTallyOf (tally_view l.fn.self) at documents
-    → IsAmid l.self at (leaves_at at.0 documents ++ leaves_under at.0 (take l.leaf-index l.leaf-items)) (count_of at.0 documents) (length documents)
-    (leaves_under at.0 (take l.leaf-index l.leaf-items))
+    → IsAmid l.self at (leaves_at at.0 documents ++ leaves_under at.0 (take l.leaf-index l.leaves)) (count_of at.0 documents) (length documents)
+    (leaves_under at.0 (take l.leaf-index l.leaves))

@@ -1,13 +1,23 @@
-use Rattle.std.proofs.Common.{[], subst}
+use Rattle.std.proofs.Common.{[], ◌∙◌, sym, subst}
 use Rattle.facet_index.specs.Batches.{IsChangeFor}
+use Rattle.leaf_table.specs.Changes.{IsLeafChangeOf}
 use Rattle.facet_shelf.specs.Shelves.{numbered}
-use Rattle.facet_shelf.proofs.ShelfLemmas.{first_batch, all_there}
+use Rattle.facet_shelf.proofs.ShelfLemmas.{first_batch, all_there, all_kept}
 use Rattle.facet_shelf.proofs.shelf.Shelf.of.Goals as goal
 
 pub invariant_of-result : goal.invariant_of-result
 invariant_of-result c =
-    all_there c.commit.new.self c.args.leaves.items
-    (c.commit.ensures.index [] (numbered c.args.leaves.items) []
-    (c.in_ok-prepared.ensures.made [] (numbered c.args.leaves.items)
-    (subst (λ ls. IsChangeFor c.in_ok-change.change [] (numbered ls)) c.as_slice.ensures.value c.in_ok-change.ensures))
-    (first_batch c.args.leaves.items) (c.prepare.ensures.same [] c.new-facets.ensures.index))
+    let leaves = c.args.leaves.items in
+    let changes = c.in_ok-facet_change in
+    record {
+      index = all_there c.commit.new.self leaves
+          (c.commit.ensures.index [] (numbered leaves) []
+          (c.in_ok-prepared_facets.ensures.made [] (numbered leaves)
+          (subst (λ ls. IsChangeFor changes.facet_change [] (numbered ls)) c.as_slice.ensures.value changes.ensures.0))
+          (first_batch leaves) (c.prepare.ensures.same [] c.new-facets.ensures.index));
+      leaves = all_kept c.commit-2.new.self leaves
+          (c.commit-2.ensures [] (numbered leaves) []
+          (subst (λ prepared. IsLeafChangeOf prepared [] (numbered leaves)) (sym c.in_ok-prepared_leaves.ensures.made)
+          (subst (λ ls. IsLeafChangeOf changes.leaf_change [] (numbered ls)) c.as_slice.ensures.value changes.ensures.1))
+          (λ id. c.prepare-2.ensures.same id ∙ c.new-table.ensures id));
+    }

@@ -1,10 +1,9 @@
-use Rattle.std.proofs.Common.{◌≡◌, ℕ, not, ◌&&◌, ◌||◌, List, sym, ap, subst, ◌∙◌, rules, arith}
+use Rattle.std.proofs.Common.{◌≡◌, ℕ, not, ◌&&◌, ◌||◌, List, sym, ◌∙◌, rules, arith}
 use Rattle.std.proofs.lemmas.Grind.{common_steps}
 use Rattle.sorted_pages.specs.Entries.{has}
 use Rattle.postings.specs.declared.change.Side.TheVariants.{Goes, Comes}
 use Rattle.postings.specs.Dictionary.{value_at, entries_of, list_at}
 use Rattle.postings.specs.Changes.{named}
-use Rattle.postings.specs.Documents.{stands}
 use Rattle.postings.proofs.FreshLemmas.{stands_after, narrow_after, apart_after, told_after}
 use Rattle.postings.proofs.postings.Postings.commit.Goals as goal
 
@@ -15,7 +14,7 @@ returns-clause-fresh c = λ gone come documents prepared batch stood.
     = λ w e. first_of (search rules, grind (arith, common_steps)) in
     record {
       each = λ w e. told w e
-          ∙ told_after _ _ _ (stands w e come) (stands w e gone) (stands w e documents) (prepared.comes w e) (prepared.goes w e) (stood.each w e)
+          ∙ told_after _ _ _ gone come documents w e batch (prepared.comes w e) (prepared.goes w e) (stood.each w e)
           ∙ sym (stands_after gone come documents w e batch stood.narrow stood.apart);
       narrow = narrow_after gone come documents prepared.narrow stood.narrow;
       apart = apart_after gone come documents batch stood.apart;

@@ -10,7 +10,7 @@ returns-in-Ok-clause-made c = λ gone come change.
     let named = subst (λ v. IsChangeOf v gone come) (sym c.change.view_is) change in
     record {
       goes = λ word entry. same.goes word entry ∙ ap₂ (λ a b. a && not b) (named.goes word entry) (named.comes word entry);
-      comes = λ word entry. same.comes word entry ∙ named.comes word entry;
+      comes = λ word entry. same.comes word entry ∙ ap₂ (λ a b. a && not b) (named.comes word entry) (named.goes word entry);
       narrow = named.narrow;
     }
 

@@ -1,11 +1,12 @@
-use Rattle.std.proofs.Common.{◌==◌, ◌||◌, ◌∷◌, map, sym, ap, ap₂, subst, ◌∙◌}
+use Rattle.std.proofs.Common.{◌==◌, ◌||◌, ◌∷◌, map, refl, sym, ap, ap₂, subst, ◌∙◌}
 use Rattle.doc_sets.specs.Sets.{has}
 use Rattle.postings.specs.Changes as postings
 use Rattle.path_lengths.specs.Measured.{IsLengthChangeOf}
 use Rattle.facet_index.specs.LeavesView.{leaves_at}
 use Rattle.facet_index.specs.Batches.{IsChangeFor}
+use Rattle.leaf_table.specs.Changes.{numbers}
 use Rattle.row_index.specs.Standing.{placed, faceted}
-use Rattle.row_index.specs.Changes.{IsChangeOf, numbers}
+use Rattle.row_index.specs.Changes.{IsChangeOf}
 use Rattle.row_index.proofs.IdLemmas.{has_behind}
 use Rattle.row_index.proofs.PartLemmas.{placed_at}
 use Rattle.row_index.proofs.change.RowChange.put_in.Goals as goal
@@ -24,6 +25,8 @@ returns c = λ gone come change.
           (ap₂ (leaves_at c.args.id.0) (c.as_slice-leaves.ensures.value ∙ ap (λ rows. rows.leaves) c.rows.view_is)
           (c.as_slice-marks.ensures.value ∙ ap (λ rows. rows.marks) c.rows.view_is))
           (c.in_ok-put_in-3.ensures (map faceted gone) (map faceted come) named.facets);
+      leaves = c.in_ok-put_in-4.ensures (leaves_at c.args.id.0 c.args.rows.now.leaves c.args.rows.now.marks) (map faceted gone) (map faceted come) refl
+          (sym (c.as_slice-leaves.ensures.value ∙ ap (λ rows. rows.leaves) c.rows.view_is)) named.leaves;
       comes = λ id. ap (λ ids. has (numbers ids) id) c.in_ok-push.ensures.items ∙ has_behind c.self.inside.come.items c.args.id id
           ∙ ap (λ b. (c.args.id.0 == id) || b) (named.comes id);
       goes = named.goes;

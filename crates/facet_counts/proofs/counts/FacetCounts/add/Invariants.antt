@@ -1,5 +1,0 @@
-use Rattle.facet_counts.proofs.Counters.{HasAdded}
-use Rattle.facet_counts.proofs.counts.FacetCounts.add.Given as goal
-
-abbrev pub invariant-loop-counter : goal.invariant-loop-counter
-invariant-loop-counter l = HasAdded l.rows l.counter-index l.initial.counter-items l.counter-items

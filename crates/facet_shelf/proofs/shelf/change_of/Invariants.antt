@@ -1,9 +1,0 @@
-use Rattle.std.proofs.Common.{◌≡◌, List, [], drop}
-use Rattle.facet_index.specs.LeavesView.{LeavesView}
-use Rattle.facet_index.specs.Batches.{IsChangeFor}
-use Rattle.facet_shelf.specs.Shelves.{put, numbered}
-use Rattle.facet_shelf.proofs.shelf.change_of.Given as goal
-
-abbrev pub invariant-loop-each : goal.invariant-loop-each
-invariant-loop-each l = (come : List LeavesView) × IsChangeFor l.change [] come × (l.next ≡ l.each-index)
-    × (put l.each-index come (drop l.each-index l.leaves) ≡ numbered l.leaves)

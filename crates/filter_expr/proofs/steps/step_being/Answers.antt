@@ -1,6 +1,0 @@
-use Rattle.filter_expr.specs.Held.{level_view, frames_of}
-use Rattle.filter_expr.proofs.Steppings.{none_being}
-use Rattle.filter_expr.proofs.steps.step_being.Goals as goal
-
-pub returns-in_default : goal.returns-in_default
-returns-in_default c = none_being c.args.attribute c.args.token (level_view c.args.level) (frames_of c.args.outer.items) c.in_default.not-Not c.in_default.not-Null c.in_default.not-Empty

@@ -1,6 +1,0 @@
-use Rattle.filter_expr.specs.Held.{level_view, frames_of}
-use Rattle.filter_expr.proofs.Steppings.{none_first}
-use Rattle.filter_expr.proofs.steps.step_first.Goals as goal
-
-pub returns-in_default : goal.returns-in_default
-returns-in_default c = none_first c.args.attribute c.args.is_not c.args.token (level_view c.args.level) (frames_of c.args.outer.items) c.in_default.not-Text c.in_default.not-ListClose

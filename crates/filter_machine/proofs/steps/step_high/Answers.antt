@@ -1,0 +1,6 @@
+use Rattle.filter_machine.specs.Held.{level_view, frames_of}
+use Rattle.filter_machine.proofs.Steppings.{none_high}
+use Rattle.filter_machine.proofs.steps.step_high.Goals as goal
+
+pub returns-in_default : goal.returns-in_default
+returns-in_default c = none_high c.args.attribute c.args.low c.args.token (level_view c.args.level) (frames_of c.args.outer.items) c.in_default.not-Text

@@ -1,0 +1,203 @@
+-- The rows of a table of leaves, and how they change.
+use Rattle.std.proofs.Common.{◌≡◌, ℕ, suc, ◌+◌, ◌-◌, ◌<◌, ◌≤◌, Bool, true, false, not, ◌==◌, ◌||◌, cond, List, [], ◌∷◌, ◌++◌, Option, None, Some, Vec, map, reverse, length, take, get_or, set, refl, sym, ap, subst, ◌∙◌, arith}
+use borrow.Author.Count.{below_more}
+use Rattle.std.specs.Global.{Global}
+use Rattle.std.proofs.lemmas.Bool.{eqb-true}
+use Rattle.std.proofs.lemmas.Bool.Decides.{nat_tests}
+use Rattle.std.proofs.lemmas.Grind.{common_steps}
+use Rattle.std.proofs.lemmas.List.{get_or-set_same, get_or-set_other, get_or_past, get_or_default, map-set, map-append, reverse-append, reverse-reverse, length-reverse, get_or-reverse, length-set, take_more, length-map}
+use Rattle.search_base.specs.declared.document.DocId.{DocId}
+use Rattle.search_base.specs.declared.document.Leaf.{Leaf}
+use Rattle.doc_sets.specs.Sets.{has}
+use Rattle.facet_index.specs.LeavesView.{LeavesView, leaves_of}
+use Rattle.facet_index.specs.Batches.{has_id, document_at, without, after}
+use Rattle.leaf_table.specs.Tables.{row_leaves, table_rows}
+use Rattle.leaf_table.specs.Changes.{RowView, numbers, row_of, come_at, left_at}
+
+-- what stands in the rows under an id
+abbrev pub kept_in : ℕ → List (Option (Vec Leaf Global)) → List Leaf
+kept_in id rows = get_or (table_rows rows) id []
+
+set_in : (rows : List (List Leaf)) (at id : ℕ) (leaves : List Leaf) → at < length rows
+    → get_or (set rows at leaves) id [] ≡ cond (at == id) leaves (get_or rows id [])
+set_in rows at id leaves within = grind (arith, nat_tests, get_or-set_same, get_or-set_other)
+
+-- one row is set
+pub kept_set : (id : ℕ) (rows : List (Option (Vec Leaf Global))) (at : ℕ) (row : Option (Vec Leaf Global)) → at < length rows
+    → kept_in id (set rows at row) ≡ cond (at == id) (row_leaves row) (kept_in id rows)
+kept_set id rows at row within =
+    ap (λ list. get_or list id []) (map-set row_leaves rows at row)
+    ∙ set_in (table_rows rows) at id (row_leaves row) (let n = length-map rows row_leaves in omega arith)
+
+-- ---- rows that come
+
+come_behind : (id : ℕ) (rows : List RowView) (row : RowView) (kept : List Leaf)
+    → come_at id (rows ++ row ∷ []) kept ≡ come_at id rows (cond (row.id == id) row.leaves kept)
+come_behind id [] row kept = refl
+come_behind id (x ∷ xs) row kept = ap (λ rest. cond (x.id == id) x.leaves rest) (come_behind id xs row kept)
+
+-- one row more is set
+pub one_comes : (id : ℕ) (row : RowView) (left : List RowView) (rows : List (Option (Vec Leaf Global))) (leaves : Vec Leaf Global)
+    → row.leaves ≡ leaves.items → row.id < length rows
+    → come_at id (reverse (row ∷ left)) (kept_in id rows) ≡ come_at id (reverse left) (kept_in id (set rows row.id (Some leaves)))
+one_comes id row left rows leaves same within =
+    ap (λ all. come_at id all (kept_in id rows)) (reverse-append (row ∷ []) left)
+    ∙ come_behind id (reverse left) row (kept_in id rows)
+    ∙ ap (λ value. come_at id (reverse left) (cond (row.id == id) value (kept_in id rows))) same
+    ∙ ap (come_at id (reverse left)) (sym (kept_set id rows row.id (Some leaves) within))
+
+-- ---- rows that go
+
+-- the ids up to one more, the last of them first
+pub numbers_more : (ids : List DocId) (i : ℕ) (d : DocId) → i < length ids
+    → reverse (numbers (take (i + 1) ids)) ≡ (get_or ids i d).0 ∷ reverse (numbers (take i ids))
+numbers_more ids i d within =
+    ap (λ xs. reverse (numbers xs)) (take_more ids i d within)
+    ∙ ap reverse (map-append (λ (x : DocId). x.0) (take i ids) (get_or ids i d ∷ []))
+    ∙ reverse-append (numbers (take i ids)) ((get_or ids i d).0 ∷ [])
+
+left_more : (id at : ℕ) (gone : List ℕ) (kept : List Leaf) → cond (at == id) [] (left_at id gone kept) ≡ left_at id (at ∷ gone) kept
+left_more id at gone kept = by (at == id)
+  where
+    by : (b : Bool) → cond b [] (cond (has gone id) [] kept) ≡ cond (b || has gone id) [] kept
+    by true = refl
+    by false = refl
+
+-- the row of one more is emptied
+pub one_goes : (ids : List DocId) (i : ℕ) (d : DocId) (start rows : List (Option (Vec Leaf Global))) → i < length ids
+    → ((id : ℕ) → kept_in id rows ≡ left_at id (reverse (numbers (take i ids))) (kept_in id start)) → (get_or ids i d).0 < length rows
+    → (id : ℕ) → kept_in id (set rows (get_or ids i d).0 None) ≡ left_at id (reverse (numbers (take (i + 1) ids))) (kept_in id start)
+one_goes ids i d start rows more told within id =
+    let at = (get_or ids i d).0 in
+    kept_set id rows at None within
+    ∙ ap (cond (at == id) []) (told id)
+    ∙ left_more id at (reverse (numbers (take i ids))) (kept_in id start)
+    ∙ ap (λ gone. left_at id gone (kept_in id start)) (sym (numbers_more ids i d more))
+
+-- one more has no row
+pub none_goes : (ids : List DocId) (i : ℕ) (d : DocId) (start rows : List (Option (Vec Leaf Global))) → i < length ids
+    → ((id : ℕ) → kept_in id rows ≡ left_at id (reverse (numbers (take i ids))) (kept_in id start)) → length rows ≤ (get_or ids i d).0
+    → (id : ℕ) → kept_in id rows ≡ left_at id (reverse (numbers (take (i + 1) ids))) (kept_in id start)
+none_goes ids i d start rows more told past id =
+    let at = (get_or ids i d).0 in
+    unset (at == id) (λ same. get_or_past (table_rows rows) id [] (let n = length-map rows row_leaves in let e = eqb-true at id same in omega arith))
+    ∙ ap (cond (at == id) []) (told id)
+    ∙ left_more id at (reverse (numbers (take i ids))) (kept_in id start)
+    ∙ ap (λ gone. left_at id gone (kept_in id start)) (sym (numbers_more ids i d more))
+  where
+    unset : (b : Bool) → (b ≡ true → kept_in id rows ≡ []) → kept_in id rows ≡ cond b [] (kept_in id rows)
+    unset true h = h refl
+    unset false h = refl
+
+-- ---- a row more
+
+-- an empty row behind the others
+pub kept_behind : (id : ℕ) (rows : List (Option (Vec Leaf Global))) → kept_in id (rows ++ None ∷ []) ≡ kept_in id rows
+kept_behind id rows = grind (arith, common_steps)
+
+-- ---- what is left of documents
+
+is_any : (id : ℕ) (documents : List LeavesView) → has (map (λ document. document.id) documents) id ≡ has_id id documents
+is_any id [] = refl
+is_any id (d ∷ ds) = ap (λ b. (d.id == id) || b) (is_any id ds)
+
+left_of_one : (goes is gone : Bool) (document : LeavesView) (left : List Leaf) (all : Option LeavesView) → (is ≡ true → goes ≡ gone)
+    → left ≡ cond gone [] (leaves_of all)
+    → cond goes left (cond is document.leaves left) ≡ cond gone [] (leaves_of (cond is (Some document) all))
+left_of_one true true true document left all same told = told
+left_of_one true true false document left all same told = let e : true ≡ false = same refl in absurd (cc)
+left_of_one false true true document left all same told = let e : false ≡ true = same refl in absurd (cc)
+left_of_one false true false document left all same told = refl
+left_of_one true false gone document left all same told = told
+left_of_one false false gone document left all same told = told
+
+kept_of_one : (id : ℕ) (b : Bool) (d : LeavesView) (ds : List LeavesView)
+    → leaves_of (document_at id (cond (not b) (d ∷ ds) ds)) ≡ cond b (leaves_of (document_at id ds)) (cond (d.id == id) d.leaves (leaves_of (document_at id ds)))
+kept_of_one id true d ds = refl
+kept_of_one id false d ds = by (d.id == id)
+  where
+    by : (b : Bool) → leaves_of (cond b (Some d) (document_at id ds)) ≡ cond b d.leaves (leaves_of (document_at id ds))
+    by true = refl
+    by false = refl
+
+abbrev nothing : List Leaf
+nothing = []
+
+left_without : (id : ℕ) (gone documents : List LeavesView)
+    → leaves_of (document_at id (without gone documents)) ≡ cond (has_id id gone) [] (leaves_of (document_at id documents))
+left_without id gone [] = by (has_id id gone)
+  where
+    by : (b : Bool) → nothing ≡ cond b nothing nothing
+    by true = refl
+    by false = refl
+left_without id gone (d ∷ ds) =
+    kept_of_one id (has_id d.id gone) d (without gone ds)
+    ∙ left_of_one (has_id d.id gone) (d.id == id) (has_id id gone) d (leaves_of (document_at id (without gone ds))) (document_at id ds)
+    (λ h. ap (λ n. has_id n gone) (eqb-true d.id id h)) (left_without id gone ds)
+
+come_before : (id : ℕ) (come rest : List LeavesView)
+    → leaves_of (document_at id (come ++ rest)) ≡ come_at id (map row_of come) (leaves_of (document_at id rest))
+come_before id [] rest = refl
+come_before id (d ∷ ds) rest = by (d.id == id) ∙ ap (cond (d.id == id) d.leaves) (come_before id ds rest)
+  where
+    by : (b : Bool) → leaves_of (cond b (Some d) (document_at id (ds ++ rest))) ≡ cond b d.leaves (leaves_of (document_at id (ds ++ rest)))
+    by true = refl
+    by false = refl
+
+-- the leaves of documents after some went and others came
+pub leaves_after : (id : ℕ) (gone come documents : List LeavesView)
+    → come_at id (map row_of come) (left_at id (map (λ document. document.id) gone) (leaves_of (document_at id documents)))
+    ≡ leaves_of (document_at id (after gone come documents))
+leaves_after id gone come documents =
+    ap (λ b. come_at id (map row_of come) (cond b [] (leaves_of (document_at id documents)))) (is_any id gone)
+    ∙ ap (come_at id (map row_of come)) (sym (left_without id gone documents))
+    ∙ sym (come_before id come (without gone documents))
+
+-- ---- how many rows are needed
+
+-- one row more is below a bound that is not lower
+pub below_one_more : (rows : List RowView) (i most next : ℕ) → ((k : ℕ) (d : RowView) → k < i → (get_or rows k d).id < most)
+    → most ≤ next → ((d : RowView) → (get_or rows i d).id < next) → (k : ℕ) (d : RowView) → k < i + 1 → (get_or rows k d).id < next
+below_one_more rows i most next below low here k d h =
+    below_more (λ k. (d : RowView) → (get_or rows k d).id < next) i (λ k less d. let b = below k d less in omega arith) here k h d
+
+-- the id of a row that was read, whatever is read past the end
+pub id_of_item : (rows : List RowView) (i : ℕ) (row : RowView) (id : ℕ) → i < length rows → row ≡ get_or rows i row → id ≡ row.id
+    → (d : RowView) → (get_or rows i d).id ≡ id
+id_of_item rows i row id within is same d = ap (λ r. r.id) (get_or_default rows i d row within ∙ sym is) ∙ sym same
+
+-- the rows in the other order
+pub all_of_reversed : (rows : List RowView) (n : ℕ) → ((k : ℕ) (d : RowView) → k < length (reverse rows) → (get_or (reverse rows) k d).id < n)
+    → (k : ℕ) (d : RowView) → k < length rows → (get_or rows k d).id < n
+all_of_reversed rows n below k d less =
+    let l = length-reverse rows in
+    let back : length rows - 1 - (length rows - 1 - k) ≡ k = omega arith in
+    let e = get_or-reverse rows (length rows - 1 - k) d (omega arith) ∙ ap (λ j. get_or rows j d) back in
+    subst (λ (row : RowView). row.id < n) e (below (length rows - 1 - k) d (omega (arith, l)))
+
+pub all_reversed : (rows : List RowView) (n : ℕ) → ((k : ℕ) (d : RowView) → k < length rows → (get_or rows k d).id < n)
+    → (k : ℕ) (d : RowView) → k < length (reverse rows) → (get_or (reverse rows) k d).id < n
+all_reversed rows n below =
+    all_of_reversed (reverse rows) n (subst (λ all. (k : ℕ) (d : RowView) → k < length all → (get_or all k d).id < n) (sym (reverse-reverse rows)) below)
+
+-- ---- one turn of the loop over rows that come
+
+-- what was set so far and what is left are what comes, and each that is left has a row
+pub record IsSetting (start rows : List (Option (Vec Leaf Global))) (come left : List RowView) : Type 0 where
+  pub each : (id : ℕ) → come_at id (reverse come) (kept_in id start) ≡ come_at id (reverse left) (kept_in id rows)
+  pub within : (k : ℕ) (d : RowView) → k < length left → (get_or left k d).id < length rows
+
+one_set : (start rows : List (Option (Vec Leaf Global))) (come left : List RowView) (row : RowView) (leaves : Vec Leaf Global)
+    → row.leaves ≡ leaves.items → IsSetting start rows come (row ∷ left) → IsSetting start (set rows row.id (Some leaves)) come left
+one_set start rows come left row leaves same setting = record {
+  each = λ id. setting.each id ∙ one_comes id row left rows leaves same (setting.within 0 row (omega arith));
+  within = λ k d less. subst (λ n. (get_or left k d).id < n) (sym (length-set rows row.id (Some leaves))) (setting.within (suc k) d (omega arith));
+}
+
+-- one row is set
+pub sets_one : (start rows : List (Option (Vec Leaf Global))) (come left rest : List RowView) (row : RowView) (id : ℕ) (leaves : Vec Leaf Global)
+    → left ≡ row ∷ rest → record { id = id; leaves = leaves.items } ≡ row → IsSetting start rows come left
+    → IsSetting start (set rows id (Some leaves)) come rest
+sets_one start rows come left rest row id leaves first is setting =
+    subst (λ at. IsSetting start (set rows at (Some leaves)) come rest) (sym (ap (λ (r : RowView). r.id) is))
+    (one_set start rows come rest row leaves (sym (ap (λ (r : RowView). r.leaves) is)) (subst (IsSetting start rows come) first setting))

@@ -1,0 +1,9 @@
+use Rattle.std.specs.Vec.Iter.{into_iter_items}
+use Rattle.leaf_table.proofs.ChangeLemmas.{IsSetting}
+use Rattle.leaf_table.proofs.table.LeafTable.put_in.Given as goal
+
+abbrev pub invariant-loop-row : goal.invariant-loop-row
+invariant-loop-row l =
+    (goal.iterator-loop-row).can_next l.row-iterator ×
+    (goal.iterator-loop-row).is_finite l.row-iterator ×
+    IsSetting l.initial.self-inside.rows.items l.self-inside.rows.items (into_iter_items l.initial.row-iterator) (into_iter_items l.row-iterator)

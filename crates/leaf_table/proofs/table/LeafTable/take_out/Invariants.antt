@@ -1,0 +1,11 @@
+use Rattle.std.proofs.Common.{◌≡◌, ℕ, reverse, take, length}
+use Rattle.leaf_table.specs.Changes.{numbers, left_at}
+use Rattle.leaf_table.proofs.ChangeLemmas.{kept_in}
+use Rattle.leaf_table.proofs.table.LeafTable.take_out.Given as goal
+
+abbrev pub invariant-loop-id : goal.invariant-loop-id
+invariant-loop-id l =
+    record {
+      each : (id : ℕ) → kept_in id l.self-inside.rows.items ≡ left_at id (reverse (numbers (take l.id-index l.gone))) (kept_in id l.initial.self-inside.rows.items);
+      rows : length l.self-inside.rows.items ≡ length l.initial.self-inside.rows.items;
+    }

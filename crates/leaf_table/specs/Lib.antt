@@ -1,0 +1,4 @@
+-- The leaves of each document.
+pub mod Tables
+pub mod Changes
+pub mod Least
