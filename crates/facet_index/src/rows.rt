@@ -3,9 +3,10 @@ ghost use Rattle.facet_index.specs.Places.{IsIndexOf};
 ghost use Rattle.facet_index.specs.Sorts.{missing_entry, AreSortRows};
 
 use crate::facet_index::FacetIndex;
+use bucket_sort::Bucket;
 use doc_sets::DocSet;
 use search_base::{CostKey, NoMemory, PathId, SortKey, keys_are_ordered};
-use sort_rule::{First, OrderedRows, SortBuckets};
+use sort_rule::{OrderedRows, SortBuckets};
 use std::alloc::Global;
 
 /// What has a facet index, and knows of which documents it is the index.
@@ -52,9 +53,9 @@ impl<'a, I: Indexed> OrderedRows for SortRows<'a, I> {
             .sort_docs(alloc, self.path, self.up, at, universe)
     }
 
-    /// Never told: the index knows the documents of an entry, and not the entry of a document. Takes no memory.
-    fn first_of(&self, alloc: Global, universe: &DocSet) -> Result<First, NoMemory> {
-        Ok(First::Unknown)
+    /// None: the index knows the documents of an entry, and not the entry of a document. Takes no memory.
+    fn ordered(&self, alloc: Global, universe: &DocSet) -> Result<Option<Vec<Bucket>>, NoMemory> {
+        Ok(None)
     }
 }
 

@@ -1,5 +1,5 @@
 -- Lemmas on documents that a search sees by their ids.
 pub mod RowLemmas
-pub mod FirstLemmas
+pub mod OrderedLemmas
 pub mod OrderLemmas
 pub mod MatchLemmas

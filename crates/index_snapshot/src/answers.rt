@@ -1,10 +1,10 @@
-ghost use Rattle.std.specs.Prelude.{◌≡◌, ◌==◌, ◌<◌, ℕ, map, filter, IfOk};
+ghost use Rattle.std.specs.Prelude.{◌≡◌, ◌==◌, ◌<◌, ℕ, map, filter, reverse, IfOk};
 ghost use Rattle.std.specs.List.{AllByRecursion};
 ghost use Rattle.std.specs.Option.{option_copied};
 ghost use Rattle.search_base.specs.Whole.{whole_cost};
 ghost use Rattle.condition_graph.specs.Meets.{meets, IsRanked};
 ghost use Rattle.condition_graph.specs.Promise.{IsCondition};
-ghost use Rattle.sort_rule.specs.First.{IsFirst};
+ghost use Rattle.sort_rule.specs.Ordered.{AreOrdered};
 ghost use Rattle.sort_rule.specs.Rows.{next_of, is_under};
 ghost use Rattle.facet_index.specs.Sorts.{sort_keys};
 ghost use Rattle.rule_buckets.specs.Entries.{sort_entry};
@@ -12,11 +12,11 @@ ghost use Rattle.row_index.specs.Standing.{faceted};
 ghost use Rattle.index_snapshot.specs.Rows.{rows_at};
 
 use crate::indexed::IndexedRows;
+use bucket_sort::Bucket;
 use condition_graph::Condition;
 use doc_sets::DocSet;
 use list_conditions::meeting;
 use search_base::{CostKey, NoMemory, PathId, Word};
-use sort_rule::First;
 use std::alloc::Global;
 use whole_words::documents_at_whole_cost;
 
@@ -100,19 +100,19 @@ pub(crate) fn documents_under<I: IndexedRows>(
     Ok(docs)
 }
 
-/// The documents of the universe that come first by their entries under a path, where the universe is small.
-pub(crate) fn first_under<I: IndexedRows>(
+/// The documents of the universe in buckets by their entries under a path, that of the least entry last.
+pub(crate) fn ordered_under<I: IndexedRows>(
     alloc: Global,
     rows: &I,
     path: PathId,
     up: bool,
     universe: &DocSet,
-) -> Result<First, NoMemory>
-    ensures { IfOk result (λ first. IsFirst (λ d. sort_entry up path.0 (rows_at (I.documents rows.now) d).leaves)
-        universe.now.ids first) }
+) -> Result<Vec<Bucket>, NoMemory>
+    ensures { IfOk result (λ buckets. AreOrdered (λ d. sort_entry up path.0 (rows_at (I.documents rows.now) d).leaves)
+        universe.now.ids (reverse buckets.items)) }
 {
     let index = rows.index();
     let leaves = index.leaves();
-    let first = leaves.first_of(alloc, path, up, universe)?;
-    Ok(first)
+    let buckets = leaves.ordered(alloc, path, up, universe)?;
+    Ok(buckets)
 }

@@ -1,14 +1,14 @@
 ghost use Rattle.std.specs.Prelude.{◌≡◌};
 
 use crate::answers::{
-    above_ranks, documents_at_cost, documents_meeting, documents_under, first_under, next_entry,
+    above_ranks, documents_at_cost, documents_meeting, documents_under, next_entry, ordered_under,
 };
 use crate::indexed::IndexedRows;
+use bucket_sort::Bucket;
 use condition_graph::Condition;
 use doc_sets::DocSet;
 use rule_buckets::RuleSource;
 use search_base::{CostKey, NoMemory, PathId, Word};
-use sort_rule::First;
 use std::alloc::Global;
 use std::marker::Model;
 
@@ -97,14 +97,14 @@ impl<'a, I: IndexedRows> RuleSource for Snapshot<'a, I> {
         documents_under(alloc, self.rows, path, up, at, universe)
     }
 
-    fn first_of(
+    fn ordered(
         &self,
         alloc: Global,
         path: PathId,
         up: bool,
         universe: &DocSet,
-    ) -> Result<First, NoMemory> {
-        let first = first_under(alloc, self.rows, path, up, universe)?;
-        Ok(first)
+    ) -> Result<Option<Vec<Bucket>>, NoMemory> {
+        let buckets = ordered_under(alloc, self.rows, path, up, universe)?;
+        Ok(Some(buckets))
     }
 }

@@ -1,2 +1,2 @@
 pub mod ChangeLemmas
-pub mod FirstLemmas
+pub mod EntryLemmas

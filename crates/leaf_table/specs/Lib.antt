@@ -1,4 +1,3 @@
 -- The leaves of each document.
 pub mod Tables
 pub mod Changes
-pub mod Least

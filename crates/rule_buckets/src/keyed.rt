@@ -9,7 +9,7 @@ use crate::source::RuleSource;
 use bucket_sort::{Bucket, BucketStream};
 use doc_sets::DocSet;
 use search_base::{CostKey, NoMemory, PathId, Rule, SortKey, Steps};
-use sort_rule::{First, OrderedRows, SortBuckets};
+use sort_rule::{OrderedRows, SortBuckets};
 use std::alloc::Global;
 use std::marker::Model;
 use std::mem;
@@ -45,14 +45,14 @@ impl<'a, S: RuleSource> OrderedRows for KeyedRows<'a, S> {
     }
 
     /// What the source tells of the values of a path, and nothing of whole attributes.
-    fn first_of(&self, alloc: Global, universe: &DocSet) -> Result<First, NoMemory> {
+    fn ordered(&self, alloc: Global, universe: &DocSet) -> Result<Option<Vec<Bucket>>, NoMemory> {
         match key_kind(self.query.rule) {
             KeyKind::Values { path, up } => {
                 let source = self.query.source;
-                let first = source.first_of(alloc, path, up, universe)?;
-                Ok(first)
+                let buckets = source.ordered(alloc, path, up, universe)?;
+                Ok(buckets)
             }
-            KeyKind::Whole | KeyKind::Nothing => Ok(First::Unknown),
+            KeyKind::Whole | KeyKind::Nothing => Ok(None),
         }
     }
 }

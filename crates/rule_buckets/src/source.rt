@@ -1,4 +1,4 @@
-ghost use Rattle.std.specs.Prelude.{◌≡◌, ◌==◌, ◌<◌, ℕ, Bool, List, filter, IfOk};
+ghost use Rattle.std.specs.Prelude.{◌≡◌, ◌==◌, ◌<◌, ℕ, Bool, List, filter, reverse, IfOk, IfSome};
 ghost use Rattle.std.specs.List.{AllByRecursion};
 ghost use Rattle.std.specs.Option.{option_copied};
 ghost use Rattle.search_base.specs.RowsView.{RowsView};
@@ -7,14 +7,14 @@ ghost use Rattle.search_base.specs.declared.cost_key.CostKey.{CostKey as Key};
 ghost use Rattle.condition_graph.specs.Meets.{meets, IsRanked};
 ghost use Rattle.condition_graph.specs.Promise.{IsCondition};
 ghost use Rattle.sort_rule.specs.Rows.{AreRows, next_of, is_under};
-ghost use Rattle.sort_rule.specs.First.{IsFirst};
+ghost use Rattle.sort_rule.specs.Ordered.{AreOrdered};
 ghost use Rattle.rule_buckets.specs.Entries.{sort_entry, missing_entry};
 
+use bucket_sort::Bucket;
 use condition_graph::Condition;
 use doc_sets::DocSet;
 use path_costs::Resolve;
 use search_base::{CostKey, NoMemory, PathId, Word};
-use sort_rule::First;
 use std::alloc::Global;
 
 /// An index as ranking rules see it. A universe is a set of its documents; each answer is about these alone.
@@ -76,18 +76,18 @@ pub trait RuleSource {
         ensures { IfOk result (λ set.
             set.ids ≡ filter (λ d. is_under at.now (sort_entry up path.0 (rows self.now d).leaves)) universe.now.ids) };
 
-    /// Which documents of the universe come first by their entries under the path, as far as the source tells. It may
-    /// where it knows the entry of each document and the universe is small enough to be gone through; `Unknown` is
-    /// always true.
-    fn first_of(
+    /// The documents of the universe in buckets by their entries under the path, that of the least entry last, where
+    /// the source knows the entry of each document, and none where it does not. Documents without an entry stand in no
+    /// bucket.
+    fn ordered(
         &self,
         alloc: Global,
         path: PathId,
         up: bool,
         universe: &DocSet,
-    ) -> Result<First, NoMemory>
-        ensures { IfOk result (λ first.
-            IsFirst (λ d. sort_entry up path.0 (rows self.now d).leaves) universe.now.ids first) };
+    ) -> Result<Option<Vec<Bucket>>, NoMemory>
+        ensures { IfOk result (λ found. IfSome found (λ buckets.
+            AreOrdered (λ d. sort_entry up path.0 (rows self.now d).leaves) universe.now.ids (reverse buckets.items))) };
 
     /// Each document has one of the entries of a path, or none.
     ghost sorted: { (source : Self) (up : Bool) (path : ℕ)

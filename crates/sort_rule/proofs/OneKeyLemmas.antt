@@ -1,5 +1,5 @@
 -- Rows of one key, as tests have them.
-use Rattle.std.proofs.Common.{◌≡◌, ℕ, pos, Bool, true, false, not, ◌&&◌, ◌||◌, cond, List, [], ◌∷◌, filter, Option, Some, None, refl, sym, ap, ap₂, ◌∙◌, subst}
+use Rattle.std.proofs.Common.{◌≡◌, ℕ, pos, Bool, true, false, not, ◌&&◌, ◌||◌, cond, List, [], ◌∷◌, ◌<◌, length, filter, Option, Some, None, refl, sym, ap, ap₂, ◌∙◌, subst}
 use Rattle.std.specs.List.{list_any}
 use Rattle.search_base.specs.declared.cost_key.CostKey.{CostKey}
 use Rattle.search_base.specs.declared.cost_key.CostKey.TheVariants as cost
@@ -7,10 +7,12 @@ use Rattle.search_base.specs.declared.cost_key.SortKey.TheVariants as sort
 use Rattle.search_base.specs.CostOrder.{before}
 use Rattle.search_base.specs.SortKeys.{first_by}
 use Rattle.search_base.proofs.CostOrderLemmas.{before-alike}
-use Rattle.doc_sets.specs.Sets.{has, intersection}
+use Rattle.doc_sets.specs.Sets.{has, intersection, difference}
 use Rattle.doc_sets.proofs.SetLemmas.{has-filter}
 use Rattle.bucket_sort.specs.Classes.{same}
+use Rattle.bucket_sort.specs.declared.bucket.Bucket.{Bucket}
 use Rattle.sort_rule.specs.Rows.{next_of, is_under, AreRows}
+use Rattle.sort_rule.specs.Ordered.{AreOrdered}
 
 abbrev pub the_key : CostKey
 the_key = cost.Up (sort.Number (pos 2))
@@ -59,10 +61,43 @@ none-under docs universe at e = sym (filter-same (λ d. is_under at (key_in docs
     differs false true e = refl
     differs false false e = absurd (cc)
 
+key-none : (docs : List ℕ) (d : ℕ) → has docs d ≡ false → key_in docs d ≡ None
+key-none docs d e = ap (λ b. cond b (Some the_key) None) e
+
 -- where none of some documents has the key, each is without one
 pub missing : (docs universe : List ℕ) → intersection universe docs ≡ [] → (d : ℕ) → has universe d ≡ true → key_in docs d ≡ None
 missing docs universe none d h =
-    ap (λ b. cond b (Some the_key) None) (sym (ap (λ b. b && has docs d) h) ∙ sym (has-filter (has docs) universe d) ∙ ap (λ l. has l d) none)
+    key-none docs d (sym (ap (λ b. b && has docs d) h) ∙ sym (has-filter (has docs) universe d) ∙ ap (λ l. has l d) none)
+
+-- those that have the key are the one bucket, and what is left is without one
+pub one-ordered : (docs universe : List ℕ) (bucket : Bucket) → bucket.key ≡ the_key → bucket.docs.ids ≡ intersection universe docs → 0 < length bucket.docs.ids
+    → AreOrdered (key_in docs) universe (bucket ∷ [])
+one-ordered docs universe bucket key_is docs_are some = (
+  record {
+    some = some;
+    docs_are = docs_are ∙ docs-under docs universe bucket.key (ap (before the_key) key_is) (ap (λ k. before k the_key) key_is);
+    is_least = λ d other h e. least d other (has docs d) refl e;
+  },
+  left,
+)
+  where
+    least : (d : ℕ) (other : CostKey) (b : Bool) → has docs d ≡ b → key_in docs d ≡ Some other → before other bucket.key ≡ false
+    least d other true f e =
+        let both : Some the_key ≡ Some other = ap (λ b. cond b (Some the_key) None) (sym f) ∙ e in
+        let it : the_key ≡ other = cc in
+        ap₂ before (sym it) key_is
+    least d other false f e = absurd (let none : None ≡ Some other = ap (λ b. cond b (Some the_key) None) (sym f) ∙ e in cc)
+
+    left : (d : ℕ) → has (difference universe bucket.docs.ids) d ≡ true → key_in docs d ≡ None
+    left d h = tests (has universe d) (has docs d) refl refl
+      where
+        out : (has universe d && not (has universe d && has docs d)) ≡ true
+        out = sym (ap (λ b. has universe d && not b) (ap (λ l. has l d) docs_are ∙ has-filter (has docs) universe d)) ∙ sym (has-filter (λ x. not (has bucket.docs.ids x)) universe d) ∙ h
+
+        tests : (a b : Bool) → has universe d ≡ a → has docs d ≡ b → key_in docs d ≡ None
+        tests a false e f = key-none docs d f
+        tests true true e f = absurd (let no = ap₂ (λ x y. x && not (x && y)) (sym e) (sym f) ∙ out in cc)
+        tests false true e f = absurd (let no = ap₂ (λ x y. x && not (x && y)) (sym e) (sym f) ∙ out in cc)
 
 pub are-rows : (docs : List ℕ) → AreRows (the_key ∷ []) (key_in docs) (cost.Up sort.Missing)
 are-rows docs = record {

@@ -1,4 +1,5 @@
 -- Documents under keys, and what contracts see of their buckets.
 pub mod Rows
 pub mod Buckets
-pub mod First
+pub mod Ordered
+pub mod Entries

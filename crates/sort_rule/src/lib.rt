@@ -2,15 +2,20 @@
 //!
 //! `SortBuckets::next_bucket` promises the least key that a remaining document has, with exactly the documents that
 //! have it; those that stand under no key come last, under a key of their own. It is a `BucketStream` over any rows
-//! that know their keys in order, and looks at no key after the one that it gives. Rows that know the key of each
-//! document may tell themselves which documents of a small universe come first (`OrderedRows::first_of`); then it goes
-//! through no keys. The crate stands on `search_base`, `doc_sets` and `bucket_sort`.
+//! that know their keys in order, and goes through these up to the one that it gives, and none after it. Rows that know
+//! the key of each document may put them in order themselves (`OrderedRows::ordered`): they are asked to, once, when as
+//! many keys were passed in vain as that costs. `buckets_of` does it for documents with their keys. The crate stands on
+//! `search_base`, `doc_sets` and `bucket_sort`.
 #![tactic(auto)]
 
+mod entries;
+mod grouped;
 mod rows;
 mod stream;
 #[cfg(test)]
 mod tests;
 
-pub use rows::{First, OrderedRows};
+pub use entries::Entry;
+pub use grouped::buckets_of;
+pub use rows::OrderedRows;
 pub use stream::SortBuckets;

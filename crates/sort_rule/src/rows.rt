@@ -1,24 +1,13 @@
-ghost use Rattle.std.specs.Prelude.{◌≡◌, ℕ, List, filter, Option, IfOk};
+ghost use Rattle.std.specs.Prelude.{◌≡◌, ℕ, List, filter, reverse, Option, IfOk, IfSome};
 ghost use Rattle.std.specs.Option.{option_copied};
 ghost use Rattle.search_base.specs.declared.cost_key.CostKey.{CostKey as Key};
 ghost use Rattle.sort_rule.specs.Rows.{next_of, is_under};
-ghost use Rattle.sort_rule.specs.First.{IsFirst};
+ghost use Rattle.sort_rule.specs.Ordered.{AreOrdered};
 
 use bucket_sort::Bucket;
 use doc_sets::DocSet;
 use search_base::{CostKey, NoMemory};
 use std::alloc::Global;
-
-/// Which documents of a universe come first.
-#[derive(Drop)]
-pub enum First {
-    /// The documents of the least key that one has.
-    Found(Bucket),
-    /// None of them stands under a key.
-    Missing,
-    /// The rows do not tell; the keys have to be gone through in their order.
-    Unknown,
-}
 
 /// Documents under keys, which are known in their order.
 pub trait OrderedRows {
@@ -37,8 +26,9 @@ pub trait OrderedRows {
         ensures { IfOk result (λ docs.
             docs.ids ≡ filter (λ d. is_under at.now (key self.now d)) universe.now.ids) };
 
-    /// Which documents of the universe come first, as far as the rows tell. They may where they know the key of each
-    /// document and the universe is small enough to be gone through; `Unknown` is always true.
-    fn first_of(&self, alloc: Global, universe: &DocSet) -> Result<First, NoMemory>
-        ensures { IfOk result (λ first. IsFirst (key self.now) universe.now.ids first) };
+    /// The documents of the universe in buckets by their keys, that of the least key last, where the rows know the key
+    /// of each document, and none where they do not. Documents without a key stand in no bucket.
+    fn ordered(&self, alloc: Global, universe: &DocSet) -> Result<Option<Vec<Bucket>>, NoMemory>
+        ensures { IfOk result (λ found. IfSome found (λ buckets.
+            AreOrdered (key self.now) universe.now.ids (reverse buckets.items))) };
 }

@@ -5,12 +5,12 @@ ghost use Rattle.search_base.specs.CostOrder.{before};
 ghost use Rattle.sort_rule.specs.Rows.{next_of, is_under};
 ghost use Rattle.doc_sets.specs.Sets.{has};
 
-use crate::{First, OrderedRows, SortBuckets};
+use crate::{OrderedRows, SortBuckets};
 use bucket_sort::{Bucket, BucketStream};
 use doc_sets::DocSet;
 use search_base::{CostKey, DocId, NoMemory, SortKey, Steps};
 use std::alloc::Global;
-use std::test::Fail;
+use std::process::Abort;
 
 struct Counted;
 
@@ -68,16 +68,18 @@ impl OrderedRows for OneKey {
         universe.and(alloc, &self.docs)
     }
 
-    // It looks at no more than two documents itself.
-    fn first_of(&self, alloc: Global, universe: &DocSet) -> Result<First, NoMemory> {
+    // It puts no more than two documents in order itself.
+    fn ordered(&self, alloc: Global, universe: &DocSet) -> Result<Option<Vec<Bucket>>, NoMemory> {
         if self.refuses || universe.len() > 2 {
-            return Ok(First::Unknown);
+            return Ok(None);
         }
         let docs = universe.and(alloc, &self.docs)?;
+        let mut buckets = Vec::new(alloc);
         if docs.is_empty() {
-            return Ok(First::Missing);
+            return Ok(Some(buckets));
         }
-        Ok(First::Found(Bucket { key: two(), docs }))
+        buckets.push(Bucket { key: two(), docs })?;
+        Ok(Some(buckets))
     }
 }
 
@@ -87,70 +89,72 @@ fn buckets(docs: DocSet, refuses: bool, universe: DocSet) -> SortBuckets<OneKey>
     SortBuckets::new(OneKey { docs, refuses }, missing, universe)
 }
 
-fn set(alloc: Global, ids: &[u32]) -> Result<DocSet, Fail> {
+fn set(rt: &impl Abort, alloc: Global, ids: &[u32]) -> DocSet {
     let mut set = DocSet::new(alloc);
     for id in ids {
-        let _new = set.insert(DocId(*id))?;
+        let _new = set.insert(DocId(*id)).expect(rt, "memory");
     }
-    Ok(set)
+    set
 }
 
-// What a stream gives next: a key and its documents.
-fn told(
-    alloc: Global,
-    stream: &mut SortBuckets<OneKey>,
-    openings: &mut Steps<Counted>,
-) -> Result<String, Fail> {
+// Adds a bucket to what was told: its key and its documents.
+fn tell(rt: &impl Abort, bucket: &Bucket, told: &mut String) {
+    let key = if bucket.key == two() { "2" } else { "last" };
+    write!(told, "{key}:").expect(rt, "memory");
+    for id in bucket.docs.iter() {
+        write!(told, " {}", id.0).expect(rt, "memory");
+    }
+    write!(told, "; ").expect(rt, "memory");
+}
+
+// Checks what a stream tells, asked three times.
+fn check_told(rt: &impl Abort, alloc: Global, stream: &mut SortBuckets<OneKey>, wanted: &str) {
+    let mut openings = Steps::<Counted>::new();
     let mut told = String::new(alloc);
-    if let Some(Bucket { key, docs }) = stream.next_bucket(alloc, openings)? {
-        if key == two() {
-            told.push_str("2:")?;
-        }
-        for id in docs.iter() {
-            let number = id.0;
-            told.push_str(format!(in alloc; " {number}")?.as_str())?;
+    for _time in 0..3u32 {
+        if let Some(bucket) = stream
+            .next_bucket(alloc, &mut openings)
+            .expect(rt, "memory")
+        {
+            tell(rt, &bucket, &mut told);
         }
     }
-    Ok(told)
+    assert!(rt; told.as_str() == wanted, "{wanted} {told}");
+}
+
+// The documents that have the key 2, those of the universe, and the buckets of these: the rows put two documents in
+// order, and of more the key is gone through, once or after one was passed in vain.
+const ROWS: [(&[u32], &[u32], &str); 5] = [
+    (&[1, 3, 9], &[0, 1, 2, 3], "2: 1 3; last: 0 2; "),
+    (&[1, 9], &[0, 9], "2: 9; last: 0; "),
+    (&[9], &[5, 6, 7], "last: 5 6 7; "),
+    (
+        &[1],
+        &[0, 1, 2, 3, 4, 5, 6, 7, 8],
+        "2: 1; last: 0 2 3 4 5 6 7 8; ",
+    ),
+    (&[], &[], ""),
+];
+
+#[test]
+fn documents_without_a_key_come_last(rt: HostRuntime) {
+    let alloc = rt.alloc();
+    for (docs, universe, wanted) in &ROWS {
+        let mut stream = buckets(set(&rt, alloc, docs), false, set(&rt, alloc, universe));
+        check_told(&rt, alloc, &mut stream, wanted);
+    }
+}
+
+fn check_refused(rt: &impl Abort, alloc: Global, stream: &mut SortBuckets<OneKey>) {
+    let mut openings = Steps::<Counted>::new();
+    let refused = stream.next_bucket(alloc, &mut openings).is_err();
+    assert!(rt; refused, "no memory");
 }
 
 #[test]
-fn documents_without_a_key_come_last(rt: HostRuntime) -> Result<(), Fail> {
+fn a_stream_that_found_no_memory_says_so_from_then_on(rt: HostRuntime) {
     let alloc = rt.alloc();
-    let docs = set(alloc, &[1, 3, 9])?;
-    let mut stream = buckets(docs, false, set(alloc, &[0, 1, 2, 3])?);
-    let mut openings = Steps::new();
-    assert_eq!(rt; told(alloc, &mut stream, &mut openings)?.as_str(), "2: 1 3");
-    assert_eq!(rt; told(alloc, &mut stream, &mut openings)?.as_str(), " 0 2");
-    Ok(())
-}
-
-#[test]
-fn rows_tell_which_of_few_documents_come_first(rt: HostRuntime) -> Result<(), Fail> {
-    let alloc = rt.alloc();
-    let mut stream = buckets(set(alloc, &[1, 9])?, false, set(alloc, &[0, 9])?);
-    let mut openings = Steps::new();
-    assert_eq!(rt; told(alloc, &mut stream, &mut openings)?.as_str(), "2: 9");
-    assert_eq!(rt; told(alloc, &mut stream, &mut openings)?.as_str(), " 0");
-    Ok(())
-}
-
-#[test]
-fn a_key_of_no_document_that_remains_is_passed(rt: HostRuntime) -> Result<(), Fail> {
-    let alloc = rt.alloc();
-    let mut stream = buckets(set(alloc, &[9])?, false, set(alloc, &[5, 6, 7])?);
-    let mut openings = Steps::new();
-    assert_eq!(rt; told(alloc, &mut stream, &mut openings)?.as_str(), " 5 6 7");
-    assert_eq!(rt; told(alloc, &mut stream, &mut openings)?.as_str(), "");
-    Ok(())
-}
-
-#[test]
-fn a_stream_that_found_no_memory_says_so_from_then_on(rt: HostRuntime) -> Result<(), Fail> {
-    let alloc = rt.alloc();
-    let mut stream = buckets(set(alloc, &[1])?, true, set(alloc, &[1])?);
-    let mut openings: Steps<Counted> = Steps::new();
-    assert!(rt; stream.next_bucket(alloc, &mut openings).is_err());
-    assert!(rt; stream.next_bucket(alloc, &mut openings).is_err());
-    Ok(())
+    let mut stream = buckets(set(&rt, alloc, &[1]), true, set(&rt, alloc, &[1]));
+    check_refused(&rt, alloc, &mut stream);
+    check_refused(&rt, alloc, &mut stream);
 }

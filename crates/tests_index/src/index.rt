@@ -451,6 +451,45 @@ fn several_criteria_and_values_of_two_kinds(rt: HostRuntime) {
     check_sorted(&rt, alloc, &index, SORTED);
 }
 
+// Sixty documents with a value of x each, in no order, and one without: those of the twenty greatest values are high, and
+// the others low.
+fn valued(rt: &impl Abort, alloc: Global) -> String {
+    let mut body = String::new(alloc);
+    add(rt, &mut body, "[{\"id\":60,\"t\":\"low\"}");
+    for id in 0..60u32 {
+        let x = id * 7 % 60;
+        let name = if x < 40 { "low" } else { "high" };
+        write!(body, ",{{\"id\":{id},\"t\":\"{name}\",\"x\":{x}}}").expect(rt, "memory");
+    }
+    add(rt, &mut body, "]");
+    body
+}
+
+// A word, by what its documents are sorted, how many are passed over, and the four that are given then.
+const VALUED: [(&str, &str, u64, &str); 7] = [
+    ("high", "x:asc", 0, "40 23 6 49 of 20"),
+    ("high", "x:asc", 17, "51 34 17 of 20"),
+    ("high", "x:desc", 0, "17 34 51 8 of 20"),
+    ("low", "x:asc", 0, "0 43 26 9 of 41"),
+    ("low", "x:desc", 0, "57 14 31 48 of 41"),
+    ("low", "x:asc", 39, "57 60 of 41"),
+    ("low", "x:desc", 39, "0 60 of 41"),
+];
+
+#[test]
+fn values_of_other_documents_are_passed(rt: HostRuntime) {
+    let alloc = rt.alloc();
+    let body = valued(&rt, alloc);
+    let mut index = filled(&rt, alloc, body.as_str());
+    check_patched(&rt, alloc, &mut index, "{\"sortableAttributes\":[\"x\"]}");
+    for (q, sort, offset, wanted) in &VALUED {
+        let mut call = call(&rt, alloc, q, *offset, 4);
+        let criterion = criterion(&rt, alloc, sort);
+        call.sort.push(criterion).expect(&rt, "memory");
+        check_told(&rt, alloc, &index, &call, wanted, sort);
+    }
+}
+
 #[test]
 fn removed_documents_come_again_behind_the_others(rt: HostRuntime) {
     let alloc = rt.alloc();

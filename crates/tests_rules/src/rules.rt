@@ -7,7 +7,6 @@ use doc_sets::DocSet;
 use list_search::find;
 use rule_buckets::{RuleSource, Rules};
 use search_base::{CostKey, DocId, Graph, NoMemory, PathId, Rule, SortKey, Steps, Word};
-use sort_rule::First;
 use std::alloc::Global;
 use std::test::Fail;
 
@@ -70,14 +69,14 @@ impl RuleSource for Bare {
         Err(NoMemory)
     }
 
-    fn first_of(
+    fn ordered(
         &self,
         alloc: Global,
         path: PathId,
         up: bool,
         universe: &DocSet,
-    ) -> Result<First, NoMemory> {
-        Ok(First::Unknown)
+    ) -> Result<Option<Vec<Bucket>>, NoMemory> {
+        Ok(None)
     }
 }
 
