@@ -6,8 +6,9 @@ pub mod RowLemmas
 pub mod RangeLemmas
 pub mod EndLemmas
 pub mod SortLemmas
-pub mod NextLemmas
+pub mod HeldLemmas
 pub mod StepLemmas
 pub mod SortDocLemmas
 pub mod SortRowLemmas
+pub mod NextLemmas
 pub mod CountedLemmas

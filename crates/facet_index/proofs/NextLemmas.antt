@@ -5,7 +5,7 @@ use Rattle.std.proofs.lemmas.Cmp.{ranked}
 use Rattle.std.specs.declared.cmp.Ordering.{Ordering}
 use Rattle.std.specs.declared.cmp.Ordering.TheVariants.{Less, Equal, Greater}
 use Rattle.std.specs.List.{filter, filter_map, cons_option, list_any, AllByRecursion}
-use Rattle.std.specs.Option.{option_map}
+use Rattle.std.specs.Option.{option_map, is_some}
 use Rattle.std.specs.Str.{bytes_eq}
 use Rattle.std.proofs.lemmas.Bool.{eq-eqb, eqb-true}
 use Rattle.search_base.specs.declared.cost_key.CostKey.{CostKey}
@@ -16,23 +16,26 @@ use Rattle.search_base.specs.declared.value.FacetValue.TheVariants as facet
 use Rattle.search_base.specs.CostOrder.{before, IsStrictOrder}
 use Rattle.search_base.specs.SortKeys.{leaves_under, sooner, first_by}
 use Rattle.bucket_sort.specs.Classes.{same}
-use Rattle.sort_rule.specs.Rows.{is_after, next_of}
+use Rattle.sort_rule.specs.Rows.{is_after, next_of, is_under}
 use Rattle.postings.specs.Dictionary.{PostingsView, word_cmp, list_at, some_list}
 use Rattle.facet_keys.specs.Keys.{Facet, leaf, mark, least, greatest, counted, spelling, key_bytes, facet_bytes, IsNarrowValue, IsNarrowFacet, IsNarrow}
-use Rattle.facet_keys.specs.Values.{end_value, end_under}
+use Rattle.facet_keys.specs.Values.{end_value, end_under, is_end_of}
 use Rattle.facet_keys.specs.Laws.{AreApart, AreInOrder}
+use Rattle.facet_keys.proofs.ValueLemmas.{end_of_is}
 use Rattle.facet_index.specs.declared.sorts.Start.{Start}
 use Rattle.facet_index.specs.LeavesView.{LeavesView}
+use Rattle.facet_index.specs.Batches.{document_at}
 use Rattle.facet_index.specs.Ends.{value_before, values_under, first_value, end_facet, ends_of}
 use Rattle.facet_index.specs.Counted.{counted_of}
 use Rattle.facet_index.specs.Places.{leaf_facets, mark_facets, facets_of, key_of, IsNarrowDocument, IsIndexOf, has_document}
-use Rattle.facet_index.specs.Sorts.{sort_entry, sort_keys}
-use Rattle.facet_index.specs.Starts.{entry_of, start_of, word_order, is_from, IsNext, HasNoneFrom}
+use Rattle.facet_index.specs.Sorts.{sort_entry, entry_at, sort_key, sort_keys_of}
+use Rattle.facet_index.specs.Starts.{entry_of, start_of, word_order, is_from, is_had, IsNext, HasNoneFrom}
 use Rattle.facet_index.proofs.TestLemmas.{both, any_map}
-use Rattle.facet_index.proofs.KeyLemmas.{has_key, has_at, facet_key, is_facet, facet_itself, bytes_same, value_itself, same_value}
+use Rattle.facet_index.proofs.KeyLemmas.{has_key, has_at, bytes_same, value_itself}
 use Rattle.facet_index.proofs.RangeLemmas.{leaves_narrow, first_part, facet_between}
-use Rattle.facet_index.proofs.EndLemmas.{is_that, end_says}
 use Rattle.facet_index.proofs.SortLemmas.{entry_is, entries_before, entries_same, keys_up_to, key_from, after_is, if_from}
+use Rattle.facet_index.proofs.SortDocLemmas.{has_entry}
+use Rattle.facet_index.proofs.SortRowLemmas.{entry_same}
 
 -- ---- lists
 
@@ -118,11 +121,10 @@ kept_any : {X : Type 0} (f : X → Option CostKey) (q p : CostKey → Bool) (xs 
 kept_any f q p xs x k in_xs is passes wanted =
     kept_says f q p xs ∙ in_xs (λ y. if_both q p (f y)) (ap (if_both q p) is ∙ ap₂ (λ a b. a && b) passes wanted)
 
-kept_all : {X : Type 0} (Q : X → Type 0) (P : CostKey → Type 0) (f : X → Option CostKey) (q : CostKey → Bool) (xs : List X) → AllByRecursion Q xs
-    → ((x : X) (k : CostKey) → Q x → Stands x xs → f x ≡ Some k → q k ≡ true → P k) → AllByRecursion P (filter q (filter_map f xs))
-kept_all Q P f q [] all each = tt
-kept_all {X} Q P f q (x ∷ xs) all each =
-    one (f x) refl (kept_all Q P f q xs all.1 (λ y k good in_xs. each y k good (stands_later y x xs in_xs)))
+kept_all : {X : Type 0} (P : CostKey → Type 0) (f : X → Option CostKey) (q : CostKey → Bool) (xs : List X)
+    → ((x : X) (k : CostKey) → Stands x xs → f x ≡ Some k → q k ≡ true → P k) → AllByRecursion P (filter q (filter_map f xs))
+kept_all P f q [] each = tt
+kept_all {X} P f q (x ∷ xs) each = one (f x) refl (kept_all P f q xs (λ y k in_xs. each y k (stands_later y x xs in_xs)))
   where
     one : (o : Option CostKey) → o ≡ f x → AllByRecursion P (filter q (filter_map f xs))
         → AllByRecursion P (filter q (cons_option o (filter_map f xs)))
@@ -130,12 +132,12 @@ kept_all {X} Q P f q (x ∷ xs) all each =
     one (Some j) s later = by (q j) refl
       where
         by : (b : Bool) → b ≡ q j → AllByRecursion P (cond b (j ∷ filter q (filter_map f xs)) (filter q (filter_map f xs)))
-        by true t = (each x j all.0 (stands_first x xs) (sym s) (sym t), later)
+        by true t = (each x j (stands_first x xs) (sym s) (sym t), later)
         by false t = later
 
-none_kept : {X : Type 0} (Q : X → Type 0) (f : X → Option CostKey) (q : CostKey → Bool) (xs : List X) → AllByRecursion Q xs
-    → ((x : X) (k : CostKey) → Q x → Stands x xs → f x ≡ Some k → q k ≡ true → ⊥) → None ≡ first_by before (filter q (filter_map f xs))
-none_kept Q f q xs all never = by (filter q (filter_map f xs)) (kept_all Q (λ k. ⊥) f q xs all never)
+none_kept : {X : Type 0} (f : X → Option CostKey) (q : CostKey → Bool) (xs : List X)
+    → ((x : X) (k : CostKey) → Stands x xs → f x ≡ Some k → q k ≡ true → ⊥) → None ≡ first_by before (filter q (filter_map f xs))
+none_kept f q xs never = by (filter q (filter_map f xs)) (kept_all (λ k. ⊥) f q xs never)
   where
     by : (ks : List CostKey) → AllByRecursion (λ k. ⊥) ks → None ≡ first_by before ks
     by [] h = refl
@@ -163,60 +165,30 @@ first_narrow up path document v narrow is = end_narrow up
     end_narrow true h = h
     end_narrow false h = h
 
--- the list of a key that a document has is not empty
-has_list : (view : PostingsView) (documents : List LeavesView) (key : List ℕ) (x : LeavesView) → IsIndexOf view documents → Stands x documents
-    → has_key key x ≡ true → (list : List ℕ) × (some_list (list_at key view) ≡ Some list)
-has_list view documents key x index in_documents has =
-    by (list_at key view) (has_at view documents key x.id index
-    ∙ in_documents (λ y. (y.id == x.id) && has_key key y) (ap₂ (λ a b. a && b) (eq-eqb x.id x.id refl) has))
-  where
-    by : (entries : List ℕ) → has_document x.id entries ≡ true → (list : List ℕ) × (some_list entries ≡ Some list)
-    by [] h = absurd (cc)
-    by (e ∷ es) h = (e ∷ es, refl)
-
 -- a word with a list is a key of a facet of a document
-record OfDocument (documents : List LeavesView) (word : List ℕ) : Type 0 where
-  document : LeavesView
-  narrow : IsNarrowDocument document
-  stands : Stands document documents
+record OfFacet (word : List ℕ) : Type 0 where
   facet : ℕ × Facet
   fits : IsNarrow facet.0 facet.1
-  among : Stands facet (facets_of document)
   key : key_of facet ≡ word
 
-of_document : (view : PostingsView) (documents : List LeavesView) (word list : List ℕ) → IsIndexOf view documents → some_list (list_at word view) ≡ Some list
-    → OfDocument documents word
-of_document view documents word list index here = by (list_at word view) refl here
+of_facet : (view : PostingsView) (documents : List LeavesView) (word list : List ℕ) → IsIndexOf view documents → some_list (list_at word view) ≡ Some list
+    → OfFacet word
+of_facet view documents word list index here = by (list_at word view) refl here
   where
-    made : Found IsNarrowDocument (has_key word) documents → OfDocument documents word
-    made x =
+    made : (id : ℕ) → Found IsNarrowDocument (λ x. (x.id == id) && has_key word x) documents → OfFacet word
+    made id x =
         let f = found_in (λ f. IsNarrow f.0 f.1) (λ f. bytes_eq (key_of f) word) (facets_of x.0) x.1.0
-        (sym (any_map key_of (λ k. bytes_eq k word) (facets_of x.0)) ∙ x.1.1) in
-        record {
-          document = x.0;
-          narrow = x.1.0;
-          stands = x.1.2;
-          facet = f.0;
-          fits = f.1.0;
-          among = f.1.2;
-          key = bytes_same (key_of f.0) word f.1.1;
-        }
+        (sym (any_map key_of (λ k. bytes_eq k word) (facets_of x.0)) ∙ (both (x.0.id == id) (has_key word x.0) x.1.1).1) in
+        record { facet = f.0; fits = f.1.0; key = bytes_same (key_of f.0) word f.1.1 }
 
-    weaker : (id : ℕ) → Found IsNarrowDocument (λ x. (x.id == id) && has_key word x) documents → Found IsNarrowDocument (has_key word) documents
-    weaker id x = (x.0, (x.1.0, (both (x.0.id == id) (has_key word x.0) x.1.1).1, x.1.2))
-
-    by : (entries : List ℕ) → entries ≡ list_at word view → some_list entries ≡ Some list → OfDocument documents word
+    by : (entries : List ℕ) → entries ≡ list_at word view → some_list entries ≡ Some list → OfFacet word
     by [] s h = absurd (cc)
-    by (e ∷ es) s h = made (weaker (e / 2 ^ 32) (found_in IsNarrowDocument (λ x. (x.id == e / 2 ^ 32) && has_key word x) documents index.narrow
+    by (e ∷ es) s h = made (e / 2 ^ 32) (found_in IsNarrowDocument (λ x. (x.id == e / 2 ^ 32) && has_key word x) documents index.narrow
         (sym (has_at view documents word (e / 2 ^ 32) index)
         ∙ ap (has_document (e / 2 ^ 32)) (sym s)
-        ∙ ap (λ b. b || has_document (e / 2 ^ 32) es) (eq-eqb (e / 2 ^ 32) (e / 2 ^ 32) refl))))
+        ∙ ap (λ b. b || has_document (e / 2 ^ 32) es) (eq-eqb (e / 2 ^ 32) (e / 2 ^ 32) refl)))
 
 -- ---- the key of the value of a document
-
-that_value : (v : FacetValue) (o : Option FacetValue) → is_that v o ≡ true → o ≡ Some v
-that_value v None h = absurd (cc)
-that_value v (Some w) h = ap Some (sym (same_value v w h))
 
 entry_some : (up : Bool) (path : ℕ) (leaves : List Leaf) (k : CostKey) → sort_entry up path leaves ≡ Some k
     → (v : FacetValue) × (first_value up path leaves ≡ Some v) × (k ≡ entry_of up v)
@@ -227,33 +199,47 @@ entry_some up path leaves k h = by (first_value up path leaves) refl (sym (entry
     by None s h = absurd (cc)
     by (Some v) s h = (v, sym s, let e : entry_of up v ≡ k = cc in sym e)
 
--- what is known of an entry that comes after another
-record Comes (up : Bool) (path : ℕ) (start : Start) (view : PostingsView) (k : CostKey) : Type 0 where
+-- the value of an entry that a document has
+record OfValue (up : Bool) (k : CostKey) : Type 0 where
+  value : FacetValue
+  fits : IsNarrowFacet (end_facet up value)
+  is : k ≡ entry_of up value
+
+of_value : (up : Bool) (path : ℕ) (documents : List LeavesView) (d : ℕ) (k : CostKey) → AllByRecursion IsNarrowDocument documents
+    → sort_key up path documents d ≡ Some k → OfValue up k
+of_value up path [] d k narrow is = absurd (cc)
+of_value up path (x ∷ xs) d k narrow is = by (x.id == d) is (of_value up path xs d k narrow.1)
+  where
+    by : (b : Bool) → entry_at up path (cond b (Some x) (document_at d xs)) ≡ Some k → (sort_key up path xs d ≡ Some k → OfValue up k) → OfValue up k
+    by true is later =
+        let v = entry_some up path x.leaves k is in
+        record { value = v.0; fits = first_narrow up path x v.0 narrow.0 v.1; is = v.2 }
+    by false is later = later is
+
+-- what is known of an entry of a document of the universe that comes after another
+record Comes (up : Bool) (path : ℕ) (start : Start) (view : PostingsView) (universe : List ℕ) (k : CostKey) : Type 0 where
   value : FacetValue
   fits : IsNarrow path (end_facet up value)
   is : k ≡ entry_of up value
-  list : List ℕ
-  here : some_list (list_at (key_bytes path (end_facet up value)) view) ≡ Some list
+  had : is_had universe view (key_bytes path (end_facet up value)) ≡ true
   from : is_from up start.behind (key_bytes path (end_facet up start.value)) (key_bytes path (end_facet up value)) ≡ true
 
-comes : AreApart → AreInOrder → (up : Bool) (path : ℕ) (last : Option CostKey) (start : Start) (view : PostingsView) (documents : List LeavesView)
+comes : AreApart → AreInOrder → (up : Bool) (path : ℕ) (last : Option CostKey) (start : Start) (view : PostingsView) (documents : List LeavesView) (universe : List ℕ)
     → IsNarrow path (end_facet up start.value) → Some start ≡ start_of up last → IsIndexOf view documents
-    → (x : LeavesView) (k : CostKey) → IsNarrowDocument x → Stands x documents → sort_entry up path x.leaves ≡ Some k → is_after last k ≡ true
-    → Comes up path start view k
-comes apart order up path last start view documents fits begins index x k narrow in_documents is after =
-    let v = entry_some up path x.leaves k is in
-    let narrow_v : IsNarrow path (end_facet up v.0) = (fits.0, first_narrow up path x v.0 narrow v.1) in
-    let has = has_list view documents (key_bytes path (end_facet up v.0)) x index in_documents
-    (facet_key apart path (end_facet up v.0) x narrow_v narrow ∙ end_says up path v.0 x ∙ ap (is_that v.0) v.1 ∙ value_itself v.0) in
+    → (d : ℕ) (k : CostKey) → Stands d universe → sort_key up path documents d ≡ Some k → is_after last k ≡ true → Comes up path start view universe k
+comes apart order up path last start view documents universe fits begins index d k in_universe is after =
+    let v = of_value up path documents d k index.narrow is in
+    let narrow_v : IsNarrow path (end_facet up v.value) = (fits.0, v.fits) in
     record {
-      value = v.0;
+      value = v.value;
       fits = narrow_v;
-      is = v.2;
-      list = has.0;
-      here = has.1;
-      from = key_from order up path start v.0 fits narrow_v
-          ∙ ap (λ o. if_from up o v.0) begins ∙ sym (after_is up last v.0 narrow_v.1)
-          ∙ ap (is_after last) (sym v.2) ∙ after;
+      is = v.is;
+      had = in_universe (λ e. has_document e (list_at (key_bytes path (end_facet up v.value)) view))
+          (has_entry apart up view documents path v.value d narrow_v index
+          ∙ ap (is_under (entry_of up v.value)) (is ∙ ap Some v.is) ∙ entries_same up v.value v.value ∙ value_itself v.value);
+      from = key_from order up path start v.value fits narrow_v
+          ∙ ap (λ o. if_from up o v.value) begins ∙ sym (after_is up last v.value v.fits)
+          ∙ ap (is_after last) (sym v.is) ∙ after;
     }
 
 -- ---- between two keys of values that come first
@@ -382,107 +368,129 @@ from_le : (up behind : Bool) (start word : List ℕ) → is_from up behind start
 from_le up true start word h = lt_le (word_order up start word) h
 from_le up false start word h = h
 
+differ : false ≡ true → ⊥
+differ h = cc
+
 not_false : (b : Bool) → not b ≡ true → b ≡ false
 not_false true h = absurd (cc)
 not_false false h = refl
 
+-- a document of the universe that has the key of a value has its entry
+record Has (up : Bool) (path : ℕ) (documents : List LeavesView) (universe : List ℕ) (v : FacetValue) : Type 0 where
+  document : ℕ
+  stands : Stands document universe
+  entry : sort_key up path documents document ≡ Some (entry_of up v)
+
+has_value : AreApart → IsStrictOrder before → (up : Bool) (path : ℕ) (view : PostingsView) (documents : List LeavesView) (universe : List ℕ) (v : FacetValue)
+    → IsNarrow path (end_facet up v) → IsIndexOf view documents → is_had universe view (key_bytes path (end_facet up v)) ≡ true → Has up path documents universe v
+has_value apart strict up path view documents universe v fits index had =
+    let d = found_in (λ e. Unit {0}) (λ e. has_document e (list_at (key_bytes path (end_facet up v)) view)) universe (all_known universe) had in
+    record {
+      document = d.0;
+      stands = d.1.2;
+      entry = by (sort_key up path documents d.0) (sym (has_entry apart up view documents path v d.0 fits index) ∙ d.1.1);
+    }
+  where
+    all_known : (xs : List ℕ) → AllByRecursion (λ e. Unit {0}) xs
+    all_known [] = tt
+    all_known (x ∷ xs) = (tt, all_known xs)
+
+    by : (o : Option CostKey) → is_under (entry_of up v) o ≡ true → o ≡ Some (entry_of up v)
+    by None h = absurd (cc)
+    by (Some k) h = ap Some (entry_same strict k (entry_of up v) h)
+
 found_value : AreApart → AreInOrder → IsStrictOrder before → (up : Bool) (path : ℕ) (last : Option CostKey) (start : Start) (view : PostingsView)
-    (documents : List LeavesView) (word : List ℕ) (v : FacetValue) (d : OfDocument documents word) → IsNarrow path (end_facet up start.value)
-    → Some start ≡ start_of up last → IsIndexOf view documents → IsNext up start.behind (key_bytes path (end_facet up start.value)) view word
-    → d.facet.0 ≡ path → d.facet.1 ≡ end_facet up v → Some (entry_of up v) ≡ next_of (sort_keys up path documents) last
-found_value apart order strict up path last start view documents word v d fits begins index next at is =
+    (documents : List LeavesView) (universe word : List ℕ) (v : FacetValue) → IsNarrow path (end_facet up start.value) → IsNarrow path (end_facet up v)
+    → Some start ≡ start_of up last → IsIndexOf view documents → IsNext up start.behind path (key_bytes path (end_facet up start.value)) universe view word
+    → word ≡ key_bytes path (end_facet up v) → is_had universe view word ≡ true → Some (entry_of up v) ≡ next_of (sort_keys_of up path documents universe) last
+found_value apart order strict up path last start view documents universe word v fits narrow begins index next word_is had =
+    let x = has_value apart strict up path view documents universe v narrow index (ap (is_had universe view) (sym word_is) ∙ had) in
     sym (first_of_all strict _ (entry_of up v)
-    (kept_any (λ x. sort_entry up path x.leaves) (is_after last) (same before (entry_of up v)) documents d.document (entry_of up v) d.stands entry after
+    (kept_any (sort_key up path documents) (is_after last) (same before (entry_of up v)) universe x.document (entry_of up v) x.stands x.entry after
     (entries_same up v v ∙ value_itself v))
-    (kept_all IsNarrowDocument (λ j. before j (entry_of up v) ≡ false) (λ x. sort_entry up path x.leaves) (is_after last) documents index.narrow
-    (λ x k narrow in_documents has later.
-    let c = comes apart order up path last start view documents fits begins index x k narrow in_documents has later in
+    (kept_all (λ j. before j (entry_of up v) ≡ false) (sort_key up path documents) (is_after last) universe
+    (λ d k in_universe has later.
+    let c = comes apart order up path last start view documents universe fits begins index d k in_universe has later in
     ap (λ j. before j (entry_of up v)) c.is ∙ entries_before up c.value v
     ∙ not_false (value_before up c.value v)
-    (sym (keys_up_to order up path v c.value narrow_v c.fits) ∙ ap (λ w. is_le (word_order up w (key_bytes path (end_facet up c.value)))) (sym word_is)
-    ∙ next.next (key_bytes path (end_facet up c.value)) c.list c.from c.here))))
+    (sym (keys_up_to order up path v c.value narrow c.fits) ∙ ap (λ w. is_le (word_order up w (key_bytes path (end_facet up c.value)))) (sym word_is)
+    ∙ next.next (key_bytes path (end_facet up c.value)) c.from c.had))))
   where
-    narrow_v : IsNarrow path (end_facet up v)
-    narrow_v = subst (λ (p : ℕ). IsNarrow p (end_facet up v)) at (subst (IsNarrow d.facet.0) is d.fits)
-
-    word_is : word ≡ key_bytes path (end_facet up v)
-    word_is = sym d.key ∙ ap₂ key_bytes at is
-
-    has : first_value up path d.document.leaves ≡ Some v
-    has = that_value v (first_value up path d.document.leaves)
-        (sym (end_says up path v d.document)
-        ∙ d.among (λ x. (x.0 == path) && is_facet (end_facet up v) x.1)
-        (ap₂ (λ a b. a && b) (eq-eqb d.facet.0 path at) (ap (is_facet (end_facet up v)) is ∙ facet_itself (end_facet up v))))
-
-    entry : sort_entry up path d.document.leaves ≡ Some (entry_of up v)
-    entry = entry_is up path d.document.leaves ∙ ap (option_map (entry_of up)) has
-
     after : is_after last (entry_of up v) ≡ true
-    after = after_is up last v narrow_v.1 ∙ ap (λ o. if_from up o v) (sym begins)
-        ∙ sym (key_from order up path start v fits narrow_v)
+    after = after_is up last v narrow.1 ∙ ap (λ o. if_from up o v) (sym begins)
+        ∙ sym (key_from order up path start v fits narrow)
         ∙ ap (is_from up start.behind (key_bytes path (end_facet up start.value))) (sym word_is) ∙ next.from
 
 no_word_between : AreApart → AreInOrder → (up : Bool) (path : ℕ) (last : Option CostKey) (start : Start) (view : PostingsView)
-    (documents : List LeavesView) (word : List ℕ) (d : OfDocument documents word) → IsNarrow path (end_facet up start.value)
-    → Some start ≡ start_of up last → IsIndexOf view documents → IsNext up start.behind (key_bytes path (end_facet up start.value)) view word
-    → ((d.facet.0 ≡ path) × IsValue up d.facet.1 → ⊥) → None ≡ next_of (sort_keys up path documents) last
-no_word_between apart order up path last start view documents word d fits begins index next never =
-    none_kept IsNarrowDocument (λ x. sort_entry up path x.leaves) (is_after last) documents index.narrow
-    (λ x k narrow in_documents has later.
-    let c = comes apart order up path last start view documents fits begins index x k narrow in_documents has later in
-    never (between order up path start.value c.value d.facet fits c.fits d.fits
-    (from_le up start.behind (key_bytes path (end_facet up start.value)) (key_of d.facet)
-    (ap (is_from up start.behind (key_bytes path (end_facet up start.value))) d.key ∙ next.from))
-    (ap (λ w. is_le (word_order up w (key_bytes path (end_facet up c.value)))) d.key
-    ∙ next.next (key_bytes path (end_facet up c.value)) c.list c.from c.here)))
+    (documents : List LeavesView) (universe word : List ℕ) (f : OfFacet word) → IsNarrow path (end_facet up start.value)
+    → Some start ≡ start_of up last → IsIndexOf view documents → IsNext up start.behind path (key_bytes path (end_facet up start.value)) universe view word
+    → ((f.facet.0 ≡ path) × IsValue up f.facet.1 → ⊥) → None ≡ next_of (sort_keys_of up path documents universe) last
+no_word_between apart order up path last start view documents universe word f fits begins index next never =
+    none_kept (sort_key up path documents) (is_after last) universe
+    (λ d k in_universe has later.
+    let c = comes apart order up path last start view documents universe fits begins index d k in_universe has later in
+    never (between order up path start.value c.value f.facet fits c.fits f.fits
+    (from_le up start.behind (key_bytes path (end_facet up start.value)) (key_of f.facet)
+    (ap (is_from up start.behind (key_bytes path (end_facet up start.value))) f.key ∙ next.from))
+    (ap (λ w. is_le (word_order up w (key_bytes path (end_facet up c.value)))) f.key
+    ∙ next.next (key_bytes path (end_facet up c.value)) c.from c.had)))
 
 -- what the key of a value says of each facet that it may be the key of
 abbrev pub IsEndOf : Bool → ℕ → List ℕ → Option FacetValue → Type 0
 IsEndOf up path word found = (other : ℕ) (facet : Facet) → IsNarrow other facet → word ≡ key_bytes other facet → found ≡ end_under up path other facet
 
 pub next_found : AreApart → AreInOrder → IsStrictOrder before → (up : Bool) (path : ℕ) (last : Option CostKey) (start : Start) (view : PostingsView)
-    (word : List ℕ) (found : Option FacetValue) → IsNarrow path (end_facet up start.value)
-    → Some start ≡ start_of up last → IsNext up start.behind (key_bytes path (end_facet up start.value)) view word → IsEndOf up path word found
-    → (documents : List LeavesView) → IsIndexOf view documents → option_map (entry_of up) found ≡ next_of (sort_keys up path documents) last
-next_found apart order strict up path last start view word found fits begins next is documents index =
-    let d = of_document view documents word next.list index next.here in
-    by d (d.facet.0 == path) refl (value_case up d.facet.1) (is d.facet.0 d.facet.1 d.fits (sym d.key))
+    (universe word : List ℕ) (found : Option FacetValue) → IsNarrow path (end_facet up start.value)
+    → Some start ≡ start_of up last → IsNext up start.behind path (key_bytes path (end_facet up start.value)) universe view word → IsEndOf up path word found
+    → (documents : List LeavesView) → IsIndexOf view documents → option_map (entry_of up) found ≡ next_of (sort_keys_of up path documents universe) last
+next_found apart order strict up path last start view universe word found fits begins next is documents index =
+    let f = of_facet view documents word next.list index next.here in
+    by f (f.facet.0 == path) refl (value_case up f.facet.1) (is f.facet.0 f.facet.1 f.fits (sym f.key))
   where
-    by : (d : OfDocument documents word) (here : Bool) → here ≡ (d.facet.0 == path)
-        → IsValue up d.facet.1 ⊎ ((end_value up d.facet.1 ≡ None) × (IsValue up d.facet.1 → ⊥))
-        → found ≡ end_under up path d.facet.0 d.facet.1 → option_map (entry_of up) found ≡ next_of (sort_keys up path documents) last
-    by d true s (inl v) e =
-        ap (option_map (entry_of up)) (e ∙ ap (λ b. cond b (end_value up d.facet.1) None) (sym s) ∙ ap (end_value up) v.1 ∙ end_value_is up v.0)
-        ∙ found_value apart order strict up path last start view documents word v.0 d fits begins index next (eqb-true d.facet.0 path (sym s)) v.1
-    by d true s (inr none) e =
-        ap (option_map (entry_of up)) (e ∙ ap (λ b. cond b (end_value up d.facet.1) None) (sym s) ∙ none.0)
-        ∙ no_word_between apart order up path last start view documents word d fits begins index next (λ h. none.1 h.1)
-    by d false s c e =
-        ap (option_map (entry_of up)) (e ∙ ap (λ b. cond b (end_value up d.facet.1) None) (sym s))
-        ∙ no_word_between apart order up path last start view documents word d fits begins index next
-        (λ h. absurd (cc (s ∙ eq-eqb d.facet.0 path h.0)))
+    -- a word at which the going ends though it is the key of a value is had
+    had : (a b : Bool) → (a || not b) ≡ true → b ≡ true → a ≡ true
+    had true b h e = refl
+    had false true h e = absurd (cc)
+    had false false h e = absurd (cc)
 
-pub next_nowhere : AreApart → AreInOrder → (up : Bool) (path : ℕ) (last : Option CostKey) (start : Start) (view : PostingsView)
+    by : (f : OfFacet word) (here : Bool) → here ≡ (f.facet.0 == path)
+        → IsValue up f.facet.1 ⊎ ((end_value up f.facet.1 ≡ None) × (IsValue up f.facet.1 → ⊥))
+        → found ≡ end_under up path f.facet.0 f.facet.1 → option_map (entry_of up) found ≡ next_of (sort_keys_of up path documents universe) last
+    by f true s (inl v) e =
+        ap (option_map (entry_of up)) (e ∙ under)
+        ∙ found_value apart order strict up path last start view documents universe word v.0 fits
+        (subst (λ (p : ℕ). IsNarrow p (end_facet up v.0)) at (subst (IsNarrow f.facet.0) v.1 f.fits)) begins index next
+        (sym f.key ∙ ap₂ key_bytes at v.1)
+        (had (is_had universe view word) (is_end_of up path word) next.stops
+        (ap (is_end_of up path) (sym f.key) ∙ end_of_is up path f.facet.0 f.facet.1 f.fits ∙ ap is_some under))
+      where
+        at : f.facet.0 ≡ path
+        at = eqb-true f.facet.0 path (sym s)
+
+        under : end_under up path f.facet.0 f.facet.1 ≡ Some v.0
+        under = ap (λ b. cond b (end_value up f.facet.1) None) (sym s) ∙ ap (end_value up) v.1 ∙ end_value_is up v.0
+    by f true s (inr none) e =
+        ap (option_map (entry_of up)) (e ∙ ap (λ b. cond b (end_value up f.facet.1) None) (sym s) ∙ none.0)
+        ∙ no_word_between apart order up path last start view documents universe word f fits begins index next (λ h. none.1 h.1)
+    by f false s c e =
+        ap (option_map (entry_of up)) (e ∙ ap (λ b. cond b (end_value up f.facet.1) None) (sym s))
+        ∙ no_word_between apart order up path last start view documents universe word f fits begins index next
+        (λ h. absurd (cc (s ∙ eq-eqb f.facet.0 path h.0)))
+
+pub next_nowhere : AreApart → AreInOrder → (up : Bool) (path : ℕ) (last : Option CostKey) (start : Start) (view : PostingsView) (universe : List ℕ)
     → IsNarrow path (end_facet up start.value) → Some start ≡ start_of up last
-    → HasNoneFrom up start.behind (key_bytes path (end_facet up start.value)) view
-    → (documents : List LeavesView) → IsIndexOf view documents → None ≡ next_of (sort_keys up path documents) last
-next_nowhere apart order up path last start view fits begins none documents index =
-    none_kept IsNarrowDocument (λ x. sort_entry up path x.leaves) (is_after last) documents index.narrow
-    (λ x k narrow in_documents has later.
-    let c = comes apart order up path last start view documents fits begins index x k narrow in_documents has later in
-    empty c.list (sym (ap some_list (none (key_bytes path (end_facet up c.value)) c.from)) ∙ c.here))
-  where
-    empty : (list : List ℕ) → None ≡ Some list → ⊥
-    empty list h = cc
+    → HasNoneFrom up start.behind (key_bytes path (end_facet up start.value)) universe view
+    → (documents : List LeavesView) → IsIndexOf view documents → None ≡ next_of (sort_keys_of up path documents universe) last
+next_nowhere apart order up path last start view universe fits begins none documents index =
+    none_kept (sort_key up path documents) (is_after last) universe
+    (λ d k in_universe has later.
+    let c = comes apart order up path last start view documents universe fits begins index d k in_universe has later in
+    differ (sym (none (key_bytes path (end_facet up c.value)) c.from) ∙ c.had))
 
-pub next_never : (up : Bool) (path : ℕ) (last : Option CostKey) (view : PostingsView) → None ≡ start_of up last
-    → (documents : List LeavesView) → IsIndexOf view documents → None ≡ next_of (sort_keys up path documents) last
-next_never up path last view begins documents index =
-    none_kept IsNarrowDocument (λ x. sort_entry up path x.leaves) (is_after last) documents index.narrow
-    (λ x k narrow in_documents has later.
-    let v = entry_some up path x.leaves k has in
-    let fits = first_narrow up path x v.0 narrow v.1 in
-    apart_true (ap (λ o. if_from up o v.0) begins ∙ sym (after_is up last v.0 fits) ∙ ap (is_after last) (sym v.2) ∙ later))
-  where
-    apart_true : false ≡ true → ⊥
-    apart_true h = cc
+pub next_never : (up : Bool) (path : ℕ) (last : Option CostKey) (view : PostingsView) (universe : List ℕ) → None ≡ start_of up last
+    → (documents : List LeavesView) → IsIndexOf view documents → None ≡ next_of (sort_keys_of up path documents universe) last
+next_never up path last view universe begins documents index =
+    none_kept (sort_key up path documents) (is_after last) universe
+    (λ d k in_universe has later.
+    let v = of_value up path documents d k index.narrow has in
+    differ (ap (λ o. if_from up o v.value) begins ∙ sym (after_is up last v.value v.fits) ∙ ap (is_after last) (sym v.is) ∙ later))

@@ -17,12 +17,12 @@ use Rattle.facet_keys.specs.Laws.{AreApart as KeysAreApart}
 use Rattle.facet_index.specs.LeavesView.{LeavesView}
 use Rattle.facet_index.specs.Documents.{passes_at}
 use Rattle.facet_index.specs.Ends.{first_value, end_facet}
-use Rattle.facet_index.specs.Places.{keyed, IsIndexOf, has_document}
+use Rattle.facet_index.specs.Places.{keyed, IsNarrowDocument, IsIndexOf, has_document}
 use Rattle.facet_index.specs.Batches.{has_id, AreApart, document_at}
 use Rattle.facet_index.specs.Sorts.{entry_at, sort_key}
 use Rattle.facet_index.specs.Starts.{entry_of, entry_value}
-use Rattle.facet_index.proofs.TestLemmas.{any_map, filter_same}
-use Rattle.facet_index.proofs.KeyLemmas.{documents_at_key, facet_key}
+use Rattle.facet_index.proofs.TestLemmas.{any_map, any_where, filter_same}
+use Rattle.facet_index.proofs.KeyLemmas.{has_at, facet_key}
 use Rattle.facet_index.proofs.EndLemmas.{is_that, end_says}
 use Rattle.facet_index.proofs.SortLemmas.{and_turned, entry_is, entries_same, value_of_entry, no_value}
 
@@ -64,21 +64,29 @@ under_is : (up : Bool) (v : FacetValue) (o : Option FacetValue) → is_that v o 
 under_is up v None = refl
 under_is up v (Some w) = sym (turned (entry_of up w) (entry_of up v) ∙ entries_same up v w)
 
+-- a document has the key of a value exactly where it has its entry
+pub has_entry : KeysAreApart → (up : Bool) (view : PostingsView) (documents : List LeavesView) (path : ℕ) (v : FacetValue) (d : ℕ)
+    → IsNarrow path (end_facet up v) → IsIndexOf view documents
+    → has_document d (list_at (key_bytes path (end_facet up v)) view) ≡ is_under (entry_of up v) (sort_key up path documents d)
+has_entry apart up view documents path v d asked index =
+    has_at view documents (key_bytes path (end_facet up v)) d index
+    ∙ any_where IsNarrowDocument _ (λ x. (x.id == d) && is_that v (first_value up path x.leaves)) documents index.narrow
+    (λ x narrow. ap (λ b. (x.id == d) && b) (facet_key apart path (end_facet up v) x asked narrow ∙ end_says up path v x))
+    ∙ passes_is (λ x. is_that v (first_value up path x.leaves)) d documents (documents_apart documents index.keys.apart)
+    ∙ one (document_at d documents)
+  where
+    one : (o : Option LeavesView) → if_passes (λ x. is_that v (first_value up path x.leaves)) o ≡ is_under (entry_of up v) (entry_at up path o)
+    one None = refl
+    one (Some x) = under_is up v (first_value up path x.leaves) ∙ ap (is_under (entry_of up v)) (sym (entry_is up path x.leaves))
+
 -- the documents of the key of a value have its entry
 pub sort_at_key : KeysAreApart → (up : Bool) (view : PostingsView) (documents : List LeavesView) (path : ℕ) (at : CostKey) (v : FacetValue) (universe key : List ℕ)
     → key ≡ key_bytes path (end_facet up v) → IsNarrow path (end_facet up v) → Some v ≡ entry_value up at → IsIndexOf view documents
     → filter (λ d. has_document d (list_at key view)) universe ≡ filter (λ d. is_under at (sort_key up path documents d)) universe
 sort_at_key apart up view documents path at v universe key is asked says index =
-    ap (λ k. filter (λ d. has_document d (list_at k view)) universe) is
-    ∙ documents_at_key view documents (key_bytes path (end_facet up v)) (λ x. is_that v (first_value up path x.leaves)) universe index
-    (λ x narrow. facet_key apart path (end_facet up v) x asked narrow ∙ end_says up path v x)
-    ∙ filter_same _ (λ d. is_under at (sort_key up path documents d)) universe
-    (λ d. passes_is (λ x. is_that v (first_value up path x.leaves)) d documents (documents_apart documents index.keys.apart)
-    ∙ one (document_at d documents) ∙ ap (λ k. is_under k (sort_key up path documents d)) (sym (value_of_entry up at v says)))
-  where
-    one : (o : Option LeavesView) → if_passes (λ x. is_that v (first_value up path x.leaves)) o ≡ is_under (entry_of up v) (entry_at up path o)
-    one None = refl
-    one (Some x) = under_is up v (first_value up path x.leaves) ∙ ap (is_under (entry_of up v)) (sym (entry_is up path x.leaves))
+    filter_same _ (λ d. is_under at (sort_key up path documents d)) universe
+    (λ d. ap (λ k. has_document d (list_at k view)) is ∙ has_entry apart up view documents path v d asked index
+    ∙ ap (λ k. is_under k (sort_key up path documents d)) (sym (value_of_entry up at v says)))
 
 -- no document has an entry that is not one of a value
 pub no_sort : (up : Bool) (documents : List LeavesView) (path : ℕ) (at : CostKey) (universe : List ℕ) → None ≡ entry_value up at

@@ -1,24 +1,29 @@
 -- Each document has one of the entries, or none.
-use Rattle.std.proofs.Common.{◌≡◌, ℕ, Bool, true, false, not, ◌&&◌, ◌||◌, ◌==◌, cond, List, [], ◌∷◌, Option, None, Some, refl, sym, ap, ◌∙◌, ◌⊎◌, inl, inr}
+use Rattle.std.proofs.Common.{◌≡◌, ℕ, Bool, true, false, not, ◌&&◌, ◌||◌, ◌==◌, cond, List, [], ◌∷◌, Option, None, Some, Result, Ok, Err, refl, sym, ap, ◌∙◌, ◌⊎◌, inl, inr}
 use Rattle.std.specs.List.{cons_option, list_any}
-use Rattle.std.specs.Option.{option_map}
+use Rattle.std.specs.Option.{option_map, IfSome, IfNone}
+use Rattle.std.specs.Result.{IfOk}
 use Rattle.search_base.specs.declared.cost_key.CostKey.{CostKey}
 use Rattle.search_base.specs.declared.value.FacetValue.{FacetValue}
 use Rattle.search_base.specs.declared.value.FacetValue.TheVariants as facet
 use Rattle.search_base.specs.CostOrder.{before, IsStrictOrder}
 use Rattle.bucket_sort.specs.Classes.{same}
+use Rattle.sort_rule.specs.Rows.{next_of, IsNextFor, HasNoneAfter}
+use Rattle.sort_rule.proofs.SortLemmas.{next-for}
+use Rattle.postings.specs.Dictionary.{PostingsView}
 use Rattle.facet_index.specs.LeavesView.{LeavesView}
 use Rattle.facet_index.specs.Batches.{document_at}
 use Rattle.facet_index.specs.Ends.{first_value}
-use Rattle.facet_index.specs.Sorts.{sort_entry, entry_at, sort_key, sort_keys, missing_entry, AreSortRows}
+use Rattle.facet_index.specs.Places.{IsIndexOf}
+use Rattle.facet_index.specs.Sorts.{sort_entry, entry_at, sort_key, sort_keys, sort_keys_of, missing_entry, AreSortRows}
 use Rattle.facet_index.specs.Starts.{entry_of}
 use Rattle.facet_index.proofs.SortLemmas.{entry_is}
 
 itself : IsStrictOrder before → (k : CostKey) → same before k k ≡ true
 itself order k = ap (λ b. not b && not b) (order.irreflexive k)
 
-one : IsStrictOrder before → (j k : CostKey) → same before j k ≡ true → j ≡ k
-one order j k h = by (order.total j k)
+pub entry_same : IsStrictOrder before → (j k : CostKey) → same before j k ≡ true → j ≡ k
+entry_same order j k h = by (order.total j k)
   where
     by : (j ≡ k) ⊎ ((before j k ≡ true) ⊎ (before k j ≡ true)) → j ≡ k
     by (inl e) = e
@@ -78,8 +83,19 @@ sooner order up path (x ∷ xs) k h = by (sort_entry up path x.leaves) (entry_is
     by (Some j) s h later = pick (same before k j) refl h
       where
         pick : (b : Bool) → b ≡ same before k j → (b || list_any (same before k) (sort_keys up path xs)) ≡ true → before k (missing_entry up) ≡ true
-        pick true t h = ap (λ i. before i (missing_entry up)) (one order k j (sym t)) ∙ first (first_value up path x.leaves) j s
+        pick true t h = ap (λ i. before i (missing_entry up)) (entry_same order k j (sym t)) ∙ first (first_value up path x.leaves) j s
         pick false t h = later h
 
 pub sort_rows : IsStrictOrder before → AreSortRows
 sort_rows order = λ up path documents. record { known = known order up path documents; sooner = sooner order up path documents }
+
+-- of the entries after another that documents of a universe have, the least is the next for it
+pub next_row : {E : Type 0} → IsStrictOrder before → (up : Bool) (path : ℕ) (view : PostingsView) (documents : List LeavesView) (universe : List ℕ) (last : Option CostKey)
+    (r : Result (Option CostKey) E)
+    → IfOk r (λ found. (documents : List LeavesView) → IsIndexOf view documents → found ≡ next_of (sort_keys_of up path documents universe) last)
+    → IsIndexOf view documents
+    → IfOk r (λ found. IfSome found (IsNextFor (sort_keys up path documents) (sort_key up path documents) universe last))
+    × IfOk r (λ found. IfNone found (HasNoneAfter (sort_key up path documents) universe last))
+next_row order up path view documents universe last (Ok found) is index =
+    next-for (sort_key up path documents) (sort_keys up path documents) (known order up path documents) universe last found (is documents index)
+next_row order up path view documents universe last (Err e) is index = (tt, tt)

@@ -34,6 +34,10 @@ sort_key up path documents id = entry_at up path (document_at id documents)
 abbrev pub sort_keys : Bool → ℕ → List LeavesView → List CostKey
 sort_keys up path documents = filter_map (λ document. sort_entry up path document.leaves) documents
 
+-- the entries that documents of a universe have
+abbrev pub sort_keys_of : Bool → ℕ → List LeavesView → List ℕ → List CostKey
+sort_keys_of up path documents universe = filter_map (sort_key up path documents) universe
+
 -- the entry of documents without one, which comes last
 abbrev pub missing_entry : Bool → CostKey
 missing_entry true = Up Missing

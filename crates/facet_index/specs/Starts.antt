@@ -1,5 +1,6 @@
 -- Where the keys of the values begin that come after an entry.
-use Rattle.std.specs.Prelude.{◌≡◌, ℕ, pos, negsuc, ◌-◌, ◌^◌, Bool, true, false, List, [], Option, Some, None, if◌then◌else◌}
+use Rattle.std.specs.Prelude.{◌≡◌, ℕ, pos, negsuc, ◌-◌, ◌^◌, Bool, true, false, not, ◌||◌, List, reverse, Option, Some, None, if◌then◌else◌}
+use Rattle.std.specs.List.{list_any}
 use Rattle.std.specs.declared.cmp.Ordering.{Ordering}
 use Rattle.std.specs.declared.ops.Bound.{Bound}
 use Rattle.std.specs.declared.ops.Bound.TheVariants.{Included, Excluded}
@@ -11,6 +12,8 @@ use Rattle.search_base.specs.declared.cost_key.SortKey.TheVariants as sort
 use Rattle.search_base.specs.declared.value.FacetValue.{FacetValue}
 use Rattle.search_base.specs.declared.value.FacetValue.TheVariants as facet
 use Rattle.postings.specs.Dictionary.{PostingsView, word_cmp, list_at, some_list}
+use Rattle.facet_keys.specs.Values.{is_end_of}
+use Rattle.facet_index.specs.Places.{has_document}
 use Rattle.facet_index.specs.declared.sorts.Start.{Start}
 
 -- a value as a sort key and as an entry, and back
@@ -68,14 +71,29 @@ abbrev pub bound_by : Bool → List ℕ → Bound (List ℕ)
 bound_by true word = Excluded word
 bound_by false word = Included word
 
--- the first of the words from a start on that have a list
-pub record IsNext (up behind : Bool) (start : List ℕ) (view : PostingsView) (word : List ℕ) : Type 0 where
+-- rows of words in the direction
+abbrev pub in_direction : Bool → List (List ℕ × List ℕ) → List (List ℕ × List ℕ)
+in_direction true rows = rows
+in_direction false rows = reverse rows
+
+-- whether a document of the universe has the word of a row, or that is no key of a value that comes first under the path
+abbrev pub stops_at : Bool → ℕ → List ℕ → List ℕ × List ℕ → Bool
+stops_at up path universe row = list_any (λ d. has_document d row.1) universe || not (is_end_of up path row.0)
+
+-- whether a document of the universe has the word
+abbrev pub is_had : List ℕ → PostingsView → List ℕ → Bool
+is_had universe view word = list_any (λ d. has_document d (list_at word view)) universe
+
+-- The first of the words from a start on that a document of the universe has, or that is no key of a value that comes
+-- first under the path.
+pub record IsNext (up behind : Bool) (path : ℕ) (start universe : List ℕ) (view : PostingsView) (word : List ℕ) : Type 0 where
   pub list : List ℕ
   pub here : some_list (list_at word view) ≡ Some list
   pub from : is_from up behind start word ≡ true
-  pub next : (other some : List ℕ) → is_from up behind start other ≡ true → some_list (list_at other view) ≡ Some some
+  pub stops : (is_had universe view word || not (is_end_of up path word)) ≡ true
+  pub next : (other : List ℕ) → is_from up behind start other ≡ true → is_had universe view other ≡ true
       → is_le (word_order up word other) ≡ true
 
--- no word from a start on has a list
-abbrev pub HasNoneFrom : Bool → Bool → List ℕ → PostingsView → Type 0
-HasNoneFrom up behind start view = (word : List ℕ) → is_from up behind start word ≡ true → list_at word view ≡ []
+-- no document of the universe has a word from a start on
+abbrev pub HasNoneFrom : Bool → Bool → List ℕ → List ℕ → PostingsView → Type 0
+HasNoneFrom up behind start universe view = (word : List ℕ) → is_from up behind start word ≡ true → is_had universe view word ≡ false

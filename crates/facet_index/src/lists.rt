@@ -29,7 +29,7 @@ pub(crate) fn add_documents(
 }
 
 // The document of an entry.
-fn document_of(entry: u64) -> DocId
+pub(crate) fn document_of(entry: u64) -> DocId
     ensures { result.0 ≡ entry / 2 ^ 32 }
 {
     DocId((entry >> 32) as u32)

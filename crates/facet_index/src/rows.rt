@@ -1,4 +1,4 @@
-ghost use Rattle.std.specs.Prelude.{◌≡◌, false};
+ghost use Rattle.std.specs.Prelude.{◌≡◌, false, IfOk};
 ghost use Rattle.facet_index.specs.Places.{IsIndexOf};
 ghost use Rattle.facet_index.specs.Sorts.{missing_entry, AreSortRows};
 
@@ -41,10 +41,11 @@ impl<'a, I: Indexed> OrderedRows for SortRows<'a, I> {
         &self,
         alloc: Global,
         after: Option<&CostKey>,
+        universe: &DocSet,
     ) -> Result<Option<CostKey>, NoMemory> {
         self.index
             .facets()
-            .next_sort(alloc, self.path, self.up, after)
+            .next_sort(alloc, self.path, self.up, after, universe)
     }
 
     fn docs_at(&self, alloc: Global, at: &CostKey, universe: &DocSet) -> Result<DocSet, NoMemory> {
@@ -59,23 +60,29 @@ impl<'a, I: Indexed> OrderedRows for SortRows<'a, I> {
     }
 }
 
-/// The documents of a universe by their entries under a path in a direction; those without one come last. Takes no
-/// memory, and asks for no entry yet.
+/// The documents of a universe by their entries under a path in a direction; those without one come last. Asks for no
+/// entry yet; an error says that there is no memory.
 pub fn sort_buckets<'a, I: Indexed>(
+    alloc: Global,
     index: &'a I,
     path: PathId,
     up: bool,
     universe: DocSet,
-) -> SortBuckets<SortRows<'a, I>>
-    ensures rows { result.rows.index ≡ index.entry }
-    ensures path { result.rows.path ≡ path }
-    ensures up { result.rows.up ≡ up }
-    ensures missing { result.missing ≡ missing_entry up }
-    ensures remaining { result.remaining ≡ universe.ids }
-    ensures failed { result.failed ≡ false }
+) -> Result<SortBuckets<SortRows<'a, I>>, NoMemory>
+    ensures rows { IfOk result (λ stream. stream.rows.index ≡ index.entry) }
+    ensures path { IfOk result (λ stream. stream.rows.path ≡ path) }
+    ensures up { IfOk result (λ stream. stream.rows.up ≡ up) }
+    ensures missing { IfOk result (λ stream. stream.missing ≡ missing_entry up) }
+    ensures remaining { IfOk result (λ stream. stream.remaining ≡ universe.ids) }
+    ensures failed { IfOk result (λ stream. stream.failed ≡ false) }
 {
     entries_are_in_rows();
-    SortBuckets::new(SortRows { index, path, up }, missing_of(up), universe)
+    SortBuckets::new(
+        alloc,
+        SortRows { index, path, up },
+        missing_of(up),
+        universe,
+    )
 }
 
 // The entry of documents without one.

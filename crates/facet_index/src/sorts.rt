@@ -1,34 +1,41 @@
-ghost use Rattle.std.specs.Prelude.{◌≡◌, ℕ, true, false, List, filter, IfOk, IfSome, IfNone};
-ghost use Rattle.std.specs.Option.{option_copied};
+ghost use Rattle.std.specs.Prelude.{◌≡◌, ℕ, List, [], ◌∷◌, None, filter, find, IfOk, IfSome, IfNone, if◌then◌else◌};
+ghost use Rattle.std.specs.List.{list_any};
+ghost use Rattle.std.specs.List.Sorted.{IsStrictlySortedBy};
+ghost use Rattle.std.specs.Map.{keys_of};
+ghost use Rattle.std.specs.Option.{option_copied, option_map};
 ghost use Rattle.std.specs.Range.Bound.{bound_map};
+ghost use Rattle.postings.specs.Dictionary.{word_cmp, value_at, list_at, some_list};
 ghost use Rattle.sort_rule.specs.Rows.{next_of, is_under};
 ghost use Rattle.facet_index.specs.LeavesView.{LeavesView};
-ghost use Rattle.facet_index.specs.Places.{IsIndexOf};
-ghost use Rattle.facet_index.specs.Sorts.{sort_key, sort_keys};
-ghost use Rattle.facet_index.specs.Starts.{entry_of as entry_of_value, entry_value, key_value, behind_key, first_start as first_start_in, start_of as start_after, bound_by, IsNext, HasNoneFrom};
+ghost use Rattle.facet_index.specs.Places.{IsIndexOf, has_document};
+ghost use Rattle.facet_index.specs.Sorts.{sort_key, sort_keys_of};
+ghost use Rattle.facet_index.specs.Starts.{entry_of as entry_of_value, entry_value, key_value, behind_key, first_start as first_start_in, start_of as start_after, bound_by, is_from, in_direction, stops_at, IsNext, HasNoneFrom};
 
 use crate::ends::end_key;
 use crate::facet_index::FacetIndex;
-use crate::lists::documents_at;
+use crate::lists::{document_of, documents_at};
 use doc_sets::DocSet;
-use facet_keys::{end_of_key, keys_are_in_order, keys_tell_facets_apart};
-use postings::Postings;
+use facet_keys::{end_of_key, is_end_key, keys_are_in_order, keys_tell_facets_apart};
+use postings::{Postings, WordLists};
 use search_base::{CostKey, FacetValue, NoMemory, PathId, SortKey, Word, keys_are_ordered};
+use sorted_pages::SortedPages;
 use std::alloc::Global;
 use std::ops::Bound;
 
 impl FacetIndex {
-    /// The least entry, in the order of the direction, that a document has under the path and that comes after the
-    /// given one, or the least of all without one. None exactly where no entry comes after it. Looks at no other key.
+    /// The least entry, in the order of the direction, that a document of the universe has under the path and that
+    /// comes after the given one, or the least of all without one. None exactly where no document of the universe has a
+    /// later entry. Passes the keys that no document of the universe has, and looks at none after the one it gives.
     pub fn next_sort(
         &self,
         alloc: Global,
         path: PathId,
         up: bool,
         after: Option<&CostKey>,
+        universe: &DocSet,
     ) -> Result<Option<CostKey>, NoMemory>
         ensures { IfOk result (λ found. (documents : List LeavesView) → IsIndexOf self.now documents
-            → found ≡ next_of (sort_keys up path.0 documents) (option_copied after.entry)) }
+            → found ≡ next_of (sort_keys_of up path.0 documents universe.now.ids) (option_copied after.entry)) }
     {
         keys_tell_facets_apart();
         keys_are_in_order();
@@ -37,7 +44,7 @@ impl FacetIndex {
             return Ok(None);
         };
         let first = end_key(alloc, path, up, &start.value)?;
-        let Some(word) = next_word(&self.keys, up, start.behind, &first) else {
+        let Some(word) = next_word(&self.keys, path, up, start.behind, &first, universe) else {
             return Ok(None);
         };
         match end_of_key(alloc, path, up, word)? {
@@ -154,39 +161,76 @@ fn first_start(up: bool) -> Start
     }
 }
 
-// The first word from a start on that has a list, in the direction.
-fn next_word<'a>(keys: &'a Postings, up: bool, behind: bool, start: &'a Word) -> Option<&'a Word>
-    ensures some { IfSome result (λ word. IsNext up behind start.now keys.now word.now) }
-    ensures none { IfNone result (HasNoneFrom up behind start.now keys.now) }
+// The first word from a start on, in the direction, that a document of the universe has, or that is no key of a value
+// that comes first under the path.
+fn next_word<'a>(
+    keys: &'a Postings,
+    path: PathId,
+    up: bool,
+    behind: bool,
+    start: &'a Word,
+    universe: &DocSet,
+) -> Option<&'a Word>
+    ensures some { IfSome result (λ word.
+        IsNext up behind path.0 start.now universe.now.ids keys.now word.now) }
+    ensures none { IfNone result (HasNoneFrom up behind start.now universe.now.ids keys.now) }
 {
+    let rows = words_on(keys, up, behind, start);
+    first_had(rows, path, up, universe)
+}
+
+// The words from a start on, in the direction.
+fn words_on<'a>(keys: &'a Postings, up: bool, behind: bool, start: &'a Word) -> WordLists<'a>
+    ensures lists { (word : List ℕ) → value_at word result
+        ≡ (if is_from up behind start.now word then some_list (list_at word keys.now) else None) }
+    ensures order { IsStrictlySortedBy word_cmp (keys_of result) }
+{
+    let bound = bound_at(behind, start);
     if up {
-        first_word(keys, behind, start)
+        keys.words_from(bound)
     } else {
-        last_word(keys, behind, start)
+        keys.words_up_to(bound)
     }
 }
 
-fn first_word<'a>(keys: &'a Postings, behind: bool, start: &'a Word) -> Option<&'a Word>
-    ensures some { IfSome result (λ word. IsNext true behind start.now keys.now word.now) }
-    ensures none { IfNone result (HasNoneFrom true behind start.now keys.now) }
+// The first of some words, in the direction, that a document of the universe has, or that is no key of a value that
+// comes first under the path.
+fn first_had<'a>(
+    mut rows: WordLists<'a>,
+    path: PathId,
+    up: bool,
+    universe: &DocSet,
+) -> Option<&'a Word>
+    ensures { option_copied result
+        ≡ option_map (λ row. row.0) (find (stops_at up path.0 universe.now.ids) (in_direction up rows.entry)) }
 {
-    let bound = bound_at(behind, start);
-    let mut rows = keys.words_from(bound);
-    match rows.next() {
-        Some((word, _list)) => Some(word),
-        None => None,
+    while let Some((word, list)) = step(&mut rows, up) {
+        if is_held(list, universe) || !is_end_key(path, up, word) {
+            return Some(word);
+        }
     }
+    None
 }
 
-fn last_word<'a>(keys: &'a Postings, behind: bool, start: &'a Word) -> Option<&'a Word>
-    ensures some { IfSome result (λ word. IsNext false behind start.now keys.now word.now) }
-    ensures none { IfNone result (HasNoneFrom false behind start.now keys.now) }
+// The next of the words that are left, in the direction, with its list, which is taken out of them.
+fn step<'a>(rows: &mut WordLists<'a>, up: bool) -> Option<(&'a Word, &'a SortedPages)>
+    ensures some { IfSome result (λ row.
+        in_direction up rows.old ≡ (row.0.now, row.1.now.entries) ∷ in_direction up rows.new) }
+    ensures none { IfNone result (in_direction up rows.old ≡ []) }
 {
-    let bound = bound_at(behind, start);
-    match keys.last_up_to(bound) {
-        Some((word, _list)) => Some(word),
-        None => None,
+    if up { rows.next() } else { rows.next_back() }
+}
+
+// Whether a document of the universe has a place in the list.
+fn is_held(list: &SortedPages, universe: &DocSet) -> bool
+    ensures { result ≡ list_any (λ d. has_document d list.now.entries) universe.now.ids }
+{
+    for entry in list.iter() {
+        if universe.contains(document_of(entry)) {
+            return true;
+        }
     }
+    false
 }
 
 // The bound at a word, or behind it.

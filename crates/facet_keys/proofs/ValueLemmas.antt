@@ -1,8 +1,9 @@
 -- The value of a key is that of its facet.
-use Rattle.std.proofs.Common.{◌≡◌, ◌≢◌, Result, Ok, Err, drop-cons, ℕ, ℤ, pos, negsuc, zero, suc, ◌+◌, ◌*◌, ◌/◌, ◌%◌, ◌^◌, ◌<◌, ◌≤◌, ◌==◌, Bool, true, false, cond, List, [], ◌∷◌, length, drop, get_or, Option, None, Some, refl, sym, ap, ap₂, subst, ◌∙◌, arith}
+use Rattle.std.proofs.Common.{◌≡◌, ◌≢◌, Result, Ok, Err, drop-cons, ℕ, ℤ, pos, negsuc, zero, suc, ◌+◌, ◌*◌, ◌/◌, ◌%◌, ◌^◌, ◌<◌, ◌≤◌, ◌==◌, ◌&&◌, Bool, true, false, cond, List, [], ◌∷◌, ◌++◌, length, drop, get_or, Option, None, Some, refl, sym, ap, ap₂, subst, ◌∙◌, arith}
 use Rattle.std.specs.Int.{w128}
 use Rattle.std.specs.Int.RustNames.{FitsSigned}
 use Rattle.std.specs.Str.{IsUtf8, is_utf8}
+use Rattle.std.specs.Option.{is_some}
 use Rattle.std.specs.Result.{IfOk}
 use Rattle.std.proofs.lemmas.Bool.{eq-eqb, eqb-true}
 use Rattle.std.proofs.lemmas.Bool.Decides.{nat_tests}
@@ -13,7 +14,7 @@ use Rattle.search_base.specs.declared.document.MarkKind.TheVariants.{Exists, Nul
 use Rattle.search_base.specs.declared.value.FacetValue.{FacetValue}
 use Rattle.search_base.specs.declared.value.FacetValue.TheVariants as facet
 use Rattle.facet_keys.specs.Keys.{Facet, mark, leaf, least, greatest, counted, spelling, digits, from_least, number_bytes, facet_bytes, key_bytes, IsNarrowFacet, IsNarrow}
-use Rattle.facet_keys.specs.Values.{end_value, end_under, number_behind, above_least, value_read, path_read}
+use Rattle.facet_keys.specs.Values.{end_value, end_under, is_end_kind, is_end_of, number_behind, above_least, value_read, path_read}
 
 -- ---- digits
 
@@ -196,6 +197,60 @@ long_key other (greatest (facet.Number n)) = omega arith
 long_key other (greatest (facet.Text text)) = omega arith
 long_key other (counted text) = omega arith
 long_key other (spelling text shown) = omega arith
+
+-- ---- whether it is a value that comes first
+
+kind_first : (f : Facet) → facet_bytes f ≡ head (facet_bytes f) ∷ tail (facet_bytes f)
+unfolding head tail
+kind_first (mark Exists) = refl
+kind_first (mark Null) = refl
+kind_first (mark Empty) = refl
+kind_first (leaf (facet.Number n)) = refl
+kind_first (leaf (facet.Text text)) = refl
+kind_first (least (facet.Number n)) = refl
+kind_first (least (facet.Text text)) = refl
+kind_first (greatest (facet.Number n)) = refl
+kind_first (greatest (facet.Text text)) = refl
+kind_first (counted text) = refl
+kind_first (spelling text shown) = refl
+
+kind_told : (up : Bool) (f : Facet) → is_end_kind up (head (facet_bytes f)) ≡ is_some (end_value up f)
+unfolding head
+kind_told true (mark Exists) = refl
+kind_told true (mark Null) = refl
+kind_told true (mark Empty) = refl
+kind_told true (leaf (facet.Number n)) = refl
+kind_told true (leaf (facet.Text text)) = refl
+kind_told true (least (facet.Number n)) = refl
+kind_told true (least (facet.Text text)) = refl
+kind_told true (greatest (facet.Number n)) = refl
+kind_told true (greatest (facet.Text text)) = refl
+kind_told true (counted text) = refl
+kind_told true (spelling text shown) = refl
+kind_told false (mark Exists) = refl
+kind_told false (mark Null) = refl
+kind_told false (mark Empty) = refl
+kind_told false (leaf (facet.Number n)) = refl
+kind_told false (leaf (facet.Text text)) = refl
+kind_told false (least (facet.Number n)) = refl
+kind_told false (least (facet.Text text)) = refl
+kind_told false (greatest (facet.Number n)) = refl
+kind_told false (greatest (facet.Text text)) = refl
+kind_told false (counted text) = refl
+kind_told false (spelling text shown) = refl
+
+-- a key begins as one of a value that comes first exactly where its facet is such a value
+pub end_of_is : (up : Bool) (path other : ℕ) (f : Facet) → IsNarrow other f
+    → is_end_of up path (key_bytes other f) ≡ is_some (end_under up path other f)
+unfolding digits
+end_of_is up path other f narrow =
+    ap (λ bytes. is_end_of up path (digits 3 other ++ bytes)) (kind_first f)
+    ∙ ap₂ (λ (p : ℕ) (told : Bool). (p == path) && told) (path_same other narrow.0) (kind_told up f)
+    ∙ by (other == path) (end_value up f)
+  where
+    by : (b : Bool) (o : Option FacetValue) → (b && is_some o) ≡ is_some (cond b o None)
+    by true o = refl
+    by false o = refl
 
 -- ---- what was read
 

@@ -1,5 +1,5 @@
 -- What a key says of the value that it was made of.
-use Rattle.std.specs.Prelude.{ℕ, ℤ, pos, negsuc, suc, ◌+◌, ◌-◌, ◌*◌, ◌%◌, ◌^◌, ◌==◌, nat_lt, Bool, true, false, List, [], ◌∷◌, Option, None, Some, if◌then◌else◌}
+use Rattle.std.specs.Prelude.{ℕ, ℤ, pos, negsuc, suc, ◌+◌, ◌-◌, ◌*◌, ◌%◌, ◌^◌, ◌==◌, nat_lt, ◌&&◌, ◌||◌, Bool, true, false, List, [], ◌∷◌, Option, None, Some, if◌then◌else◌}
 use Rattle.std.specs.Str.{is_utf8}
 use Rattle.search_base.specs.declared.value.FacetValue.{FacetValue}
 use Rattle.search_base.specs.declared.value.FacetValue.TheVariants as facet
@@ -16,6 +16,11 @@ abbrev pub end_under : Bool → ℕ → ℕ → Facet → Option FacetValue
 end_under up path other facet = if other == path then end_value up facet else None
 
 -- ---- bytes
+
+-- whether a kind is that of a least value, or of a greatest one
+abbrev pub is_end_kind : Bool → ℕ → Bool
+is_end_kind true kind = (kind == 5) || (kind == 6)
+is_end_kind false kind = (kind == 8) || (kind == 7)
 
 -- the number of these digits to the base 128, behind those of another number, within 128 bits
 unfoldable pub number_behind : ℕ → List ℕ → ℕ
@@ -35,3 +40,8 @@ value_read number_kind text_kind kind bytes =
 -- the path of three digits
 abbrev pub path_read : ℕ → ℕ → ℕ → ℕ
 path_read high middle low = (high * 128 + middle) * 128 + low
+
+-- whether the path and the kind with which a key begins are those of a least value under the path, or of a greatest one
+abbrev pub is_end_of : Bool → ℕ → List ℕ → Bool
+is_end_of up path (high ∷ middle ∷ low ∷ kind ∷ rest) = (path_read high middle low == path) && is_end_kind up kind
+is_end_of up path _ = false

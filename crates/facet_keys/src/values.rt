@@ -1,6 +1,6 @@
 ghost use Rattle.std.specs.Prelude.{◌≡◌, ℕ, IfOk};
 ghost use Rattle.facet_keys.specs.Keys.{Facet, key_bytes, IsNarrow};
-ghost use Rattle.facet_keys.specs.Values.{end_under, number_behind, above_least, value_read, path_read};
+ghost use Rattle.facet_keys.specs.Values.{end_under, is_end_of, is_end_kind, number_behind, above_least, value_read, path_read};
 
 use search_base::{FacetValue, NoMemory, PathId, Word};
 use std::alloc::Global;
@@ -29,6 +29,28 @@ pub fn end_of_key(
         value_of(alloc, 5, 6, *kind, rest)
     } else {
         value_of(alloc, 8, 7, *kind, rest)
+    }
+}
+
+/// Whether a key begins as one of `least_key`, or of `greatest_key` where values descend, that was made under the path.
+/// Takes no memory.
+pub fn is_end_key(path: PathId, up: bool, key: &Word) -> bool
+    ensures { result ≡ is_end_of up path.0 key.now }
+{
+    let [high, middle, low, kind, ..] = key.as_str().as_bytes() else {
+        return false;
+    };
+    path_of(*high, *middle, *low) == u32::from(path.0) && is_end_kind(up, *kind)
+}
+
+// Whether a kind is one of values that come first.
+fn is_end_kind(up: bool, kind: u8) -> bool
+    ensures { result ≡ is_end_kind up kind }
+{
+    if up {
+        kind == 5 || kind == 6
+    } else {
+        kind == 8 || kind == 7
     }
 }
 

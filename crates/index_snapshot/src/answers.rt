@@ -1,11 +1,11 @@
-ghost use Rattle.std.specs.Prelude.{◌≡◌, ◌==◌, ◌<◌, ℕ, map, filter, reverse, IfOk};
+ghost use Rattle.std.specs.Prelude.{◌≡◌, ◌==◌, ◌<◌, ℕ, map, filter, reverse, IfOk, IfSome, IfNone};
 ghost use Rattle.std.specs.List.{AllByRecursion};
 ghost use Rattle.std.specs.Option.{option_copied};
 ghost use Rattle.search_base.specs.Whole.{whole_cost};
 ghost use Rattle.condition_graph.specs.Meets.{meets, IsRanked};
 ghost use Rattle.condition_graph.specs.Promise.{IsCondition};
 ghost use Rattle.sort_rule.specs.Ordered.{AreOrdered};
-ghost use Rattle.sort_rule.specs.Rows.{next_of, is_under};
+ghost use Rattle.sort_rule.specs.Rows.{is_under, IsNextFor, HasNoneAfter};
 ghost use Rattle.facet_index.specs.Sorts.{sort_keys};
 ghost use Rattle.rule_buckets.specs.Entries.{sort_entry};
 ghost use Rattle.row_index.specs.Standing.{faceted};
@@ -19,6 +19,11 @@ use list_conditions::meeting;
 use search_base::{CostKey, NoMemory, PathId, Word};
 use std::alloc::Global;
 use whole_words::documents_at_whole_cost;
+
+// The documents of a universe are few where they are at most one of so many. Putting one of them in order costs about as
+// much as passing three entries. Going through the entries to twenty hits passes some three hundred where one document of
+// sixteen is in the universe, and nearly all where those stand late in the order.
+const ONE_OF_FEW: u64 = 16;
 
 /// A number above each rank of the rows of any id.
 pub(crate) fn above_ranks<I: IndexedRows>(rows: &I) -> u16
@@ -65,20 +70,26 @@ pub(crate) fn documents_at_cost<I: IndexedRows>(
     Ok(docs)
 }
 
-/// The least entry of a path after another, or the least of all.
+/// The least entry that a document of the universe has under a path after another, or the least of all.
 pub(crate) fn next_entry<I: IndexedRows>(
     alloc: Global,
     rows: &I,
     path: PathId,
     up: bool,
     after: Option<&CostKey>,
+    universe: &DocSet,
 ) -> Result<Option<CostKey>, NoMemory>
-    ensures { IfOk result (λ found. found
-        ≡ next_of (sort_keys up path.0 (map faceted (I.documents rows.now))) (option_copied after.entry)) }
+    ensures some { IfOk result (λ found. IfSome found (λ next.
+        IsNextFor (sort_keys up path.0 (map faceted (I.documents rows.now)))
+        (λ d. sort_entry up path.0 (rows_at (I.documents rows.now) d).leaves)
+        universe.now.ids (option_copied after.entry) next)) }
+    ensures none { IfOk result (λ found. IfNone found
+        (HasNoneAfter (λ d. sort_entry up path.0 (rows_at (I.documents rows.now) d).leaves) universe.now.ids
+        (option_copied after.entry))) }
 {
     let index = rows.index();
     let facets = index.facets();
-    let found = facets.next_sort(alloc, path, up, after)?;
+    let found = facets.next_sort(alloc, path, up, after, universe)?;
     Ok(found)
 }
 
@@ -100,19 +111,24 @@ pub(crate) fn documents_under<I: IndexedRows>(
     Ok(docs)
 }
 
-/// The documents of the universe in buckets by their entries under a path, that of the least entry last.
+/// The documents of the universe in buckets by their entries under a path, that of the least entry last, where they are
+/// few of all documents, and else none, as of many the entries are sooner gone through.
 pub(crate) fn ordered_under<I: IndexedRows>(
     alloc: Global,
     rows: &I,
     path: PathId,
     up: bool,
     universe: &DocSet,
-) -> Result<Vec<Bucket>, NoMemory>
-    ensures { IfOk result (λ buckets. AreOrdered (λ d. sort_entry up path.0 (rows_at (I.documents rows.now) d).leaves)
-        universe.now.ids (reverse buckets.items)) }
+) -> Result<Option<Vec<Bucket>>, NoMemory>
+    ensures { IfOk result (λ found. IfSome found (λ buckets.
+        AreOrdered (λ d. sort_entry up path.0 (rows_at (I.documents rows.now) d).leaves)
+        universe.now.ids (reverse buckets.items))) }
 {
     let index = rows.index();
+    if universe.len() > index.ids().len() / ONE_OF_FEW {
+        return Ok(None);
+    }
     let leaves = index.leaves();
     let buckets = leaves.ordered(alloc, path, up, universe)?;
-    Ok(buckets)
+    Ok(Some(buckets))
 }

@@ -82,8 +82,9 @@ impl<'a, I: IndexedRows> RuleSource for Snapshot<'a, I> {
         path: PathId,
         up: bool,
         after: Option<&CostKey>,
+        universe: &DocSet,
     ) -> Result<Option<CostKey>, NoMemory> {
-        next_entry(alloc, self.rows, path, up, after)
+        next_entry(alloc, self.rows, path, up, after, universe)
     }
 
     fn docs_at(
@@ -104,7 +105,6 @@ impl<'a, I: IndexedRows> RuleSource for Snapshot<'a, I> {
         up: bool,
         universe: &DocSet,
     ) -> Result<Option<Vec<Bucket>>, NoMemory> {
-        let buckets = ordered_under(alloc, self.rows, path, up, universe)?;
-        Ok(Some(buckets))
+        ordered_under(alloc, self.rows, path, up, universe)
     }
 }

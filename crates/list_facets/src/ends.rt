@@ -51,7 +51,7 @@ fn end_number<I: Indexed>(
     ensures { IfOk result (λ number. (rows : ℕ → RowsView) → AreRowsOf rows (I.documents index.now)
         → number ≡ first_by (comes_first up) (numbers (leaves_at path.0 (map rows matching.now.ids)))) }
 {
-    let mut buckets = sort_buckets(index, path, up, matching.clone()?);
+    let mut buckets = sort_buckets(alloc, index, path, up, matching.clone()?)?;
     let mut opened: Steps<Opened> = Steps::new();
     match buckets.next_bucket(alloc, &mut opened)? {
         Some(bucket) => Ok(number_of(&bucket.key)),

@@ -1,8 +1,8 @@
-ghost use Rattle.std.specs.Prelude.{◌≡◌, ℕ, List, [], not, ◌&&◌, ◌||◌, IfOk, IfSome, IfNone, MatchResult, None, nat_eq, if◌then◌else◌};
+ghost use Rattle.std.specs.Prelude.{◌≡◌, ℕ, List, [], not, ◌&&◌, ◌||◌, IfOk, MatchResult, None, nat_eq, if◌then◌else◌};
 ghost use Rattle.std.specs.List.{starts_with};
 ghost use Rattle.std.specs.List.Sorted.{IsStrictlySortedBy};
 ghost use Rattle.std.specs.Map.{keys_of};
-ghost use Rattle.std.specs.BTreeMap.Range.{is_from_start};
+ghost use Rattle.std.specs.BTreeMap.Range.{is_from_start, is_past_end};
 ghost use Rattle.std.specs.Range.Bound.{bound_map};
 ghost use Rattle.std.specs.Option.{option_map};
 ghost use Rattle.sorted_pages.specs.Entries.{has};
@@ -12,13 +12,12 @@ ghost use Rattle.postings.specs.Changes.{named, IsChangeOf, IsPreparedOf};
 ghost use Rattle.postings.specs.declared.change.Side.TheVariants.{Goes, Comes};
 ghost use Rattle.postings.specs.Fresh.{StandsFor};
 ghost use Rattle.postings.specs.Prefixes.{rows_left};
-ghost use Rattle.postings.specs.Words.{IsLast, HasNone};
 
 use crate::change::{Change, Prepared};
 use crate::dictionary::{Lists, change_words, drop_all_spent, reserve_words};
 use crate::prefix::PrefixLists;
 use crate::settled::settle;
-use crate::words::{WordLists, last_shown};
+use crate::words::WordLists;
 use search_base::{NoMemory, Word};
 use sorted_pages::SortedPages;
 use std::alloc::Global;
@@ -92,16 +91,18 @@ impl Postings {
         }
     }
 
-    /// The last word up to a bound that has a place, with the list of its places. Takes no memory, and looks at no
-    /// word that has a place after the bound or before that word.
-    pub fn last_up_to<'a>(&'a self, high: Bound<&'a Word>) -> Option<(&'a Word, &'a SortedPages)>
-        ensures some { IfSome result (λ row.
-            IsLast (bound_map (λ w. w.now) high.entry) self.now row.0.now row.1.now.entries) }
-        ensures none { IfNone result (HasNone (bound_map (λ w. w.now) high.entry) self.now) }
+    /// The words up to a bound, in order, each with the list of its places. Takes no memory, and
+    /// looks at no word behind the bound.
+    pub fn words_up_to<'a>(&'a self, high: Bound<&'a Word>) -> WordLists<'a>
+        ensures lists { (word : List ℕ) → value_at word result
+            ≡ (if is_past_end word_cmp (bound_map (λ w. w.now) high.entry) word then None
+            else some_list (list_at word self.now)) }
+        ensures order { IsStrictlySortedBy word_cmp (keys_of result) }
     {
         let _words = self.lists.len();
-        let mut lists = self.lists.range((Bound::Unbounded, high));
-        last_shown(&mut lists)
+        WordLists {
+            lists: self.lists.range((Bound::Unbounded, high)),
+        }
     }
 
     /// Takes all memory that the change needs, in proportion to the change. What goes and comes is

@@ -7,7 +7,7 @@ use sorted_pages::SortedPages;
 use std::collections::btree_map::Range;
 use std::marker::Model;
 
-/// The words that are left of those from a bound on, in order, each with its list.
+/// The words that are left of those from a bound on, or up to one, in order, each with its list.
 #[derive(Drop)]
 pub struct WordLists<'a> {
     pub(crate) lists: Range<'a, Word, SortedPages>,
@@ -34,6 +34,16 @@ impl<'a> Iterator for WordLists<'a> {
     }
 }
 
+impl<'a> WordLists<'a> {
+    /// The last of the words that are left, with its list, which is taken out of them. Takes no memory.
+    pub fn next_back(&mut self) -> Option<(&'a Word, &'a SortedPages)>
+        ensures some { IfSome result (λ row. self.old ≡ self.new ++ (row.0.now, row.1.now.entries) ∷ []) }
+        ensures none { IfNone result (self.old ≡ []) }
+    {
+        last_shown(&mut self.lists)
+    }
+}
+
 // The next word of the dictionary that has a place. Those with an empty list are passed over.
 fn next_shown<'a>(lists: &mut Range<'a, Word, SortedPages>) -> Option<(&'a Word, &'a SortedPages)>
     ensures some { IfSome result (λ row. shown_rows lists.old
@@ -48,10 +58,8 @@ fn next_shown<'a>(lists: &mut Range<'a, Word, SortedPages>) -> Option<(&'a Word,
     None
 }
 
-/// The last word of the dictionary that has a place. Those with an empty list are passed over.
-pub(crate) fn last_shown<'a>(
-    lists: &mut Range<'a, Word, SortedPages>,
-) -> Option<(&'a Word, &'a SortedPages)>
+// The last word of the dictionary that has a place. Those with an empty list are passed over.
+fn last_shown<'a>(lists: &mut Range<'a, Word, SortedPages>) -> Option<(&'a Word, &'a SortedPages)>
     ensures some { IfSome result (λ row. shown_rows lists.old
         ≡ shown_rows lists.new ++ (row.0.now, row.1.now.entries) ∷ []) }
     ensures none { IfNone result (shown_rows lists.old ≡ []) }

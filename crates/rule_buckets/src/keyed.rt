@@ -31,11 +31,12 @@ impl<'a, S: RuleSource> OrderedRows for KeyedRows<'a, S> {
         &self,
         alloc: Global,
         after: Option<&CostKey>,
+        universe: &DocSet,
     ) -> Result<Option<CostKey>, NoMemory> {
         let source = self.query.source;
         match key_kind(self.query.rule) {
             KeyKind::Whole => Ok(next_whole(after)),
-            KeyKind::Values { path, up } => source.next_key(alloc, path, up, after),
+            KeyKind::Values { path, up } => source.next_key(alloc, path, up, after, universe),
             KeyKind::Nothing => Ok(None),
         }
     }
@@ -167,14 +168,15 @@ impl<'a, S: RuleSource> Model for KeyedBuckets<'a, S> {
         → key_or (key_in S.rows s.rows.query) s.missing d ≡ entry_in S.rows k.query d) };
 }
 
-/// The documents of a universe by their entries; those without a key come last.
+/// The documents of a universe by their entries; those without a key come last. An error says that there is no memory.
 pub(crate) fn keyed_buckets<'a, S: RuleSource>(
+    alloc: Global,
     query: RuleQuery<'a, S>,
     universe: DocSet,
-) -> KeyedBuckets<'a, S>
+) -> Result<KeyedBuckets<'a, S>, NoMemory>
     requires { is_keyed query.graph.levels query.rule ≡ true }
-    ensures query { result.query ≡ query.entry }
-    ensures remaining { result.remaining ≡ universe.ids }
+    ensures query { IfOk result (λ buckets. buckets.query ≡ query.entry) }
+    ensures remaining { IfOk result (λ buckets. buckets.remaining ≡ universe.ids) }
 {
     let missing = missing_of(query.rule);
     let rows = KeyedRows {
@@ -184,10 +186,11 @@ pub(crate) fn keyed_buckets<'a, S: RuleSource>(
             rule: query.rule,
         },
     };
-    KeyedBuckets {
+    let stream = SortBuckets::new(alloc, rows, missing, universe)?;
+    Ok(KeyedBuckets {
         query,
-        stream: Some(SortBuckets::new(rows, missing, universe)),
-    }
+        stream: Some(stream),
+    })
 }
 
 impl<'a, S: RuleSource> BucketStream for KeyedBuckets<'a, S> {

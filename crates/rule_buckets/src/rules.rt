@@ -117,7 +117,7 @@ impl<'a, S: RuleSource> RuleSet for Rules<'a, S> {
         };
         if is_keyed(self.graph, query.rule) {
             return Ok(RuleBuckets {
-                kind: Kind::Keyed(keyed_buckets(query, universe)),
+                kind: Kind::Keyed(keyed_buckets(alloc, query, universe)?),
             });
         }
         let sets = sets_of(alloc, self, &universe)?;

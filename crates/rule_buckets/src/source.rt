@@ -1,4 +1,4 @@
-ghost use Rattle.std.specs.Prelude.{◌≡◌, ◌==◌, ◌<◌, ℕ, Bool, List, filter, reverse, IfOk, IfSome};
+ghost use Rattle.std.specs.Prelude.{◌≡◌, ◌==◌, ◌<◌, ℕ, Bool, List, filter, reverse, IfOk, IfSome, IfNone};
 ghost use Rattle.std.specs.List.{AllByRecursion};
 ghost use Rattle.std.specs.Option.{option_copied};
 ghost use Rattle.search_base.specs.RowsView.{RowsView};
@@ -6,7 +6,7 @@ ghost use Rattle.search_base.specs.Whole.{whole_cost};
 ghost use Rattle.search_base.specs.declared.cost_key.CostKey.{CostKey as Key};
 ghost use Rattle.condition_graph.specs.Meets.{meets, IsRanked};
 ghost use Rattle.condition_graph.specs.Promise.{IsCondition};
-ghost use Rattle.sort_rule.specs.Rows.{AreRows, next_of, is_under};
+ghost use Rattle.sort_rule.specs.Rows.{AreRows, is_under, IsNextFor, HasNoneAfter};
 ghost use Rattle.sort_rule.specs.Ordered.{AreOrdered};
 ghost use Rattle.rule_buckets.specs.Entries.{sort_entry, missing_entry};
 
@@ -53,16 +53,22 @@ pub trait RuleSource {
         ensures { IfOk result (λ set.
             set.ids ≡ filter (λ d. whole_cost (rows self.now d).places words.now == cost) universe.now.ids) };
 
-    /// The least entry of the path after the given one, or the least of all without one; none exactly where no entry
-    /// comes after it.
+    /// An entry of the path after the given one, or any without one, such that no document of the universe has an entry
+    /// between; none where no document of the universe has a later one.
     fn next_key(
         &self,
         alloc: Global,
         path: PathId,
         up: bool,
         after: Option<&CostKey>,
+        universe: &DocSet,
     ) -> Result<Option<CostKey>, NoMemory>
-        ensures { IfOk result (λ found. found ≡ next_of (keys self.now up path.0) (option_copied after.entry)) };
+        ensures some { IfOk result (λ found. IfSome found (λ next.
+            IsNextFor (keys self.now up path.0) (λ d. sort_entry up path.0 (rows self.now d).leaves)
+            universe.now.ids (option_copied after.entry) next)) }
+        ensures none { IfOk result (λ found. IfNone found
+            (HasNoneAfter (λ d. sort_entry up path.0 (rows self.now d).leaves) universe.now.ids
+            (option_copied after.entry))) };
 
     /// The documents of the universe that have this entry under the path.
     fn docs_at(
@@ -76,9 +82,8 @@ pub trait RuleSource {
         ensures { IfOk result (λ set.
             set.ids ≡ filter (λ d. is_under at.now (sort_entry up path.0 (rows self.now d).leaves)) universe.now.ids) };
 
-    /// The documents of the universe in buckets by their entries under the path, that of the least entry last, where
-    /// the source knows the entry of each document, and none where it does not. Documents without an entry stand in no
-    /// bucket.
+    /// The documents of the universe in buckets by their entries under the path, that of the least entry last, where that
+    /// is sooner done than going through the entries, and else none. Documents without an entry stand in no bucket.
     fn ordered(
         &self,
         alloc: Global,

@@ -1,17 +1,14 @@
 -- Rows of one key, as tests have them.
-use Rattle.std.proofs.Common.{◌≡◌, ℕ, pos, Bool, true, false, not, ◌&&◌, ◌||◌, cond, List, [], ◌∷◌, ◌<◌, length, filter, Option, Some, None, refl, sym, ap, ap₂, ◌∙◌, subst}
-use Rattle.std.specs.List.{list_any}
+use Rattle.std.proofs.Common.{◌≡◌, ℕ, pos, Bool, true, false, not, ◌&&◌, ◌||◌, cond, List, [], ◌∷◌, ◌<◌, length, filter, Option, Some, None, refl, sym, ap, ap₂, ◌∙◌}
 use Rattle.search_base.specs.declared.cost_key.CostKey.{CostKey}
 use Rattle.search_base.specs.declared.cost_key.CostKey.TheVariants as cost
 use Rattle.search_base.specs.declared.cost_key.SortKey.TheVariants as sort
 use Rattle.search_base.specs.CostOrder.{before}
-use Rattle.search_base.specs.SortKeys.{first_by}
-use Rattle.search_base.proofs.CostOrderLemmas.{before-alike}
 use Rattle.doc_sets.specs.Sets.{has, intersection, difference}
 use Rattle.doc_sets.proofs.SetLemmas.{has-filter}
 use Rattle.bucket_sort.specs.Classes.{same}
 use Rattle.bucket_sort.specs.declared.bucket.Bucket.{Bucket}
-use Rattle.sort_rule.specs.Rows.{next_of, is_under, AreRows}
+use Rattle.sort_rule.specs.Rows.{is_under}
 use Rattle.sort_rule.specs.Ordered.{AreOrdered}
 
 abbrev pub the_key : CostKey
@@ -19,12 +16,6 @@ the_key = cost.Up (sort.Number (pos 2))
 
 abbrev pub key_in : List ℕ → ℕ → Option CostKey
 key_in docs d = cond (has docs d) (Some the_key) None
-
-pub key-after : (last : CostKey) → before last the_key ≡ true → Some the_key ≡ next_of (the_key ∷ []) (Some last)
-key-after last e = sym (ap (λ c. first_by before (cond c (the_key ∷ []) [])) e)
-
-pub none-after : (last : CostKey) → before last the_key ≡ false → None ≡ next_of (the_key ∷ []) (Some last)
-none-after last e = sym (ap (λ c. first_by before (cond c (the_key ∷ []) [])) e)
 
 filter-same : (p q : ℕ → Bool) (xs : List ℕ) → ((d : ℕ) → p d ≡ q d) → filter p xs ≡ filter q xs
 filter-same p q [] e = refl
@@ -98,24 +89,3 @@ one-ordered docs universe bucket key_is docs_are some = (
         tests a false e f = key-none docs d f
         tests true true e f = absurd (let no = ap₂ (λ x y. x && not (x && y)) (sym e) (sym f) ∙ out in cc)
         tests false true e f = absurd (let no = ap₂ (λ x y. x && not (x && y)) (sym e) (sym f) ∙ out in cc)
-
-pub are-rows : (docs : List ℕ) → AreRows (the_key ∷ []) (key_in docs) (cost.Up sort.Missing)
-are-rows docs = record {
-  known = λ d k e. known d k (has docs d) refl e;
-  sooner = λ k h. subst (λ x. before x (cost.Up sort.Missing) ≡ true) (is k h) refl;
-}
-  where
-    known : (d : ℕ) (k : CostKey) (b : Bool) → has docs d ≡ b → key_in docs d ≡ Some k → list_any (same before k) (the_key ∷ []) ≡ true
-    known d k true f e =
-        let both : Some the_key ≡ Some k = ap (λ b. cond b (Some the_key) None) (sym f) ∙ e in
-        let it : the_key ≡ k = cc in
-        subst (λ x. list_any (same before x) (the_key ∷ []) ≡ true) it refl
-    known d k false f e = absurd (let none : None ≡ Some k = ap (λ b. cond b (Some the_key) None) (sym f) ∙ e in cc)
-
-    is : (k : CostKey) → (same before k the_key || false) ≡ true → the_key ≡ k
-    is k h = sym (parts (before k the_key) (before the_key k) refl refl h)
-      where
-        parts : (a b : Bool) → before k the_key ≡ a → before the_key k ≡ b → (same before k the_key || false) ≡ true → k ≡ the_key
-        parts false false e f h = before-alike k the_key e f
-        parts true b e f h = absurd (let no = ap₂ (λ x y. (not x && not y) || false) e f in cc)
-        parts false true e f h = absurd (let no = ap₂ (λ x y. (not x && not y) || false) e f in cc)

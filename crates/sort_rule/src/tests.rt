@@ -49,6 +49,7 @@ impl OrderedRows for OneKey {
         &self,
         alloc: Global,
         after: Option<&CostKey>,
+        universe: &DocSet,
     ) -> Result<Option<CostKey>, NoMemory> {
         if self.refuses {
             return Err(NoMemory);
@@ -84,9 +85,15 @@ impl OrderedRows for OneKey {
 }
 
 // The documents of a universe, some of them under the key 2, and the others last.
-fn buckets(docs: DocSet, refuses: bool, universe: DocSet) -> SortBuckets<OneKey> {
+fn buckets(
+    rt: &impl Abort,
+    alloc: Global,
+    docs: DocSet,
+    refuses: bool,
+    universe: DocSet,
+) -> SortBuckets<OneKey> {
     let missing = CostKey::Up(SortKey::Missing);
-    SortBuckets::new(OneKey { docs, refuses }, missing, universe)
+    SortBuckets::new(alloc, OneKey { docs, refuses }, missing, universe).expect(rt, "memory")
 }
 
 fn set(rt: &impl Abort, alloc: Global, ids: &[u32]) -> DocSet {
@@ -123,7 +130,7 @@ fn check_told(rt: &impl Abort, alloc: Global, stream: &mut SortBuckets<OneKey>, 
 }
 
 // The documents that have the key 2, those of the universe, and the buckets of these: the rows put two documents in
-// order, and of more the key is gone through, once or after one was passed in vain.
+// order, and of more the key is gone through.
 const ROWS: [(&[u32], &[u32], &str); 5] = [
     (&[1, 3, 9], &[0, 1, 2, 3], "2: 1 3; last: 0 2; "),
     (&[1, 9], &[0, 9], "2: 9; last: 0; "),
@@ -140,7 +147,13 @@ const ROWS: [(&[u32], &[u32], &str); 5] = [
 fn documents_without_a_key_come_last(rt: HostRuntime) {
     let alloc = rt.alloc();
     for (docs, universe, wanted) in &ROWS {
-        let mut stream = buckets(set(&rt, alloc, docs), false, set(&rt, alloc, universe));
+        let mut stream = buckets(
+            &rt,
+            alloc,
+            set(&rt, alloc, docs),
+            false,
+            set(&rt, alloc, universe),
+        );
         check_told(&rt, alloc, &mut stream, wanted);
     }
 }
@@ -154,7 +167,13 @@ fn check_refused(rt: &impl Abort, alloc: Global, stream: &mut SortBuckets<OneKey
 #[test]
 fn a_stream_that_found_no_memory_says_so_from_then_on(rt: HostRuntime) {
     let alloc = rt.alloc();
-    let mut stream = buckets(set(&rt, alloc, &[1]), true, set(&rt, alloc, &[1]));
+    let mut stream = buckets(
+        &rt,
+        alloc,
+        set(&rt, alloc, &[1]),
+        true,
+        set(&rt, alloc, &[1]),
+    );
     check_refused(&rt, alloc, &mut stream);
     check_refused(&rt, alloc, &mut stream);
 }

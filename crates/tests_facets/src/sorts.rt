@@ -118,7 +118,7 @@ fn keys_in_both_directions(rt: HostRuntime) {
         let mut last: Option<&CostKey> = None;
         for (key, id) in keys.iter().zip(ids.iter()) {
             let next = index
-                .next_sort(alloc, *path, *up, last)
+                .next_sort(alloc, *path, *up, last, &all)
                 .expect(&rt, "memory");
             assert!(rt; next.as_ref() == Some(key));
             let docs = index
@@ -129,10 +129,35 @@ fn keys_in_both_directions(rt: HostRuntime) {
         }
         assert!(rt;
             index
-                .next_sort(alloc, *path, *up, last)
+                .next_sort(alloc, *path, *up, last, &all)
                 .expect(&rt, "memory")
                 .is_none()
         );
+    }
+}
+
+#[test]
+fn keys_that_no_document_of_the_universe_has_are_passed(rt: HostRuntime) {
+    let alloc = rt.alloc();
+    let index = index(&rt, alloc);
+    // The documents of the universe, a direction, a key and the one that comes first after it.
+    for (ids, up, after, next) in [
+        ([1].as_slice(), true, None, Some(number(true, 2005))),
+        ([1].as_slice(), true, Some(number(true, 2005)), None),
+        (
+            [1, 3].as_slice(),
+            false,
+            Some(number(false, 2012)),
+            Some(number(false, 2005)),
+        ),
+        ([3].as_slice(), false, None, Some(number(false, 2002))),
+        ([].as_slice(), true, None, None),
+    ] {
+        let universe = set(&rt, alloc, ids);
+        let found = index
+            .next_sort(alloc, YEAR, up, after.as_ref(), &universe)
+            .expect(&rt, "memory");
+        assert!(rt; found == next);
     }
 }
 
@@ -166,7 +191,7 @@ fn texts_and_what_is_missing(rt: HostRuntime) {
         ),
     ] {
         let found = index
-            .next_sort(alloc, GENRES, up, after.as_ref())
+            .next_sort(alloc, GENRES, up, after.as_ref(), &all)
             .expect(&rt, "memory");
         assert!(rt; found == next);
     }

@@ -31,22 +31,22 @@ fn are_same<'a>(one: &'a Postings, other: &'a Postings) -> bool {
     others.next().is_none()
 }
 
-// Whether they have them from the last word back, by looking up each.
+// Whether they have them from the last word back.
 fn are_same_back<'a>(one: &'a Postings, other: &'a Postings) -> bool {
-    let mut high = Bound::Unbounded;
+    let mut ones = one.words_up_to(Bound::Unbounded);
+    let mut others = other.words_up_to(Bound::Unbounded);
     for _ in one.words_from(Bound::Unbounded) {
-        let Some((word, list)) = one.last_up_to(high) else {
+        let Some((word, list)) = ones.next_back() else {
             return false;
         };
-        let Some((same, entries)) = other.last_up_to(high) else {
+        let Some((same, entries)) = others.next_back() else {
             return false;
         };
         if word.as_str() != same.as_str() || !is_same_list(list, entries) {
             return false;
         }
-        high = Bound::Excluded(word);
     }
-    one.last_up_to(high).is_none() && other.last_up_to(high).is_none()
+    ones.next_back().is_none() && others.next_back().is_none()
 }
 
 fn are_same_both_ways(one: &Postings, other: &Postings) -> bool {

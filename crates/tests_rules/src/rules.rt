@@ -54,6 +54,7 @@ impl RuleSource for Bare {
         path: PathId,
         up: bool,
         after: Option<&CostKey>,
+        universe: &DocSet,
     ) -> Result<Option<CostKey>, NoMemory> {
         Ok(None)
     }

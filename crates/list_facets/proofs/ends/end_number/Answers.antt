@@ -8,8 +8,8 @@ use Rattle.list_facets.proofs.ends.end_number.Goals as goal
 
 pub returns-in-Some : goal.returns-in-Some
 returns-in-Some g c = λ rows are.
-    let made = c.sort_buckets-buckets.ensures in
-    let its = c.sort_buckets-buckets.result in
+    let made = c.in_ok-buckets.ensures in
+    let its = c.in_ok-buckets.buckets in
     c.number_of.ensures ∙ bucket_answer c.args.up its.rows.up c.args.path.0 its.rows.path.0 (g.I.Indexed.documents c.args.index.now)
     (g.I.Indexed.documents its.rows.index.now) its.missing rows are c.args.matching.now.ids its.remaining c.next_bucket.new.self.remaining
     c.in-Some.bucket.key c.in-Some.bucket.docs.ids

@@ -23,5 +23,5 @@ invariant_of-result g c = λ d.
     let rows = g.S.RuleSource.rows in
     let q : QueryView g.row.S.Denot = record { source = c.query.inside.source.now; graph = c.query.inside.graph.now; rule = c.query.inside.rule } in
     let is = ap (λ (v : QueryView g.row.S.Denot). is_keyed v.graph.levels v.rule) c.query.view_is ∙ c.requires in
-    ap₂ (λ (r : KeyedRows g.row.S.Denot) (m : CostKey). key_or (key_in rows r.query) m d) c.new.ensures.rows (c.new.ensures.missing ∙ c.missing_of-missing.ensures)
+    ap₂ (λ (r : KeyedRows g.row.S.Denot) (m : CostKey). key_or (key_in rows r.query) m d) c.in_ok-stream.ensures.rows (c.in_ok-stream.ensures.missing ∙ c.missing_of-missing.ensures)
     ∙ keyed-entry (rows q.source d) q.graph q.rule is ∙ ap (λ (v : QueryView g.row.S.Denot). entry_in rows v d) c.query.view_is
