@@ -1,14 +1,17 @@
 //! A program for bench/facets.py: it fills a facet index with documents of three leaves, counts the values of one
-//! attribute over some of them as often as it is told, and prints how many there were last.
+//! attribute over some of them as often as it is told, or finds those that have a value of a range, and prints how many
+//! there were last.
 //!
 //! Its words are what to do, how many thousands of documents there are, and how often. `many` counts the 300 brands of
 //! 71 of each 100 documents, `few` those of 7 of each 1,000, `prices` the 300 prices of the many, and `ids` the first
-//! hundred of as many values as there are documents, of the few; `leaves` only makes the leaves. It stands on
-//! `facet_shelf` and `list_facets`.
+//! hundred of as many values as there are documents, of the few; `narrow` finds the documents of a hundred of these
+//! values, and `wide` those of half of the prices; `leaves` only makes the leaves. It stands on `facet_shelf`,
+//! `facet_index` and `list_facets`.
 #![tactic(auto)]
 
 use doc_sets::{DocSet, DocSetBuilder};
 use facet_counts::FacetPath;
+use facet_index::Indexed;
 use facet_shelf::Shelf;
 use list_facets::counts;
 use search_base::{DocId, FacetValue, Leaf, NoMemory, PathId, Word};
@@ -75,6 +78,22 @@ fn some_of(alloc: Global, size: u32, share: u32) -> Result<DocSet, NoMemory> {
     some.finish(alloc)
 }
 
+// The documents of all that have a number of a path up to the last one.
+fn found_up_to(
+    alloc: Global,
+    shelf: &Shelf,
+    all: &DocSet,
+    (path, last): (u16, i128),
+    rounds: u32,
+) -> Result<u64, NoMemory> {
+    let mut found = 0;
+    for _round in 0..rounds {
+        let docs = shelf.facets().range(alloc, PathId(path), 0, last, all)?;
+        found = docs.len();
+    }
+    Ok(found)
+}
+
 fn done(rt: &HostRuntime, what: &str, thousands: u32, rounds: u32) -> Result<u64, NoMemory> {
     let alloc = rt.alloc();
     let size = thousands.saturating_mul(1_000);
@@ -83,6 +102,13 @@ fn done(rt: &HostRuntime, what: &str, thousands: u32, rounds: u32) -> Result<u64
         return Ok(leaves.len() as u64);
     }
     let shelf = Shelf::of(alloc, leaves)?;
+    let all = some_of(alloc, size, 1_000)?;
+    if what == "narrow" {
+        return found_up_to(alloc, &shelf, &all, (2, 99), rounds);
+    }
+    if what == "wide" {
+        return found_up_to(alloc, &shelf, &all, (1, 149), rounds);
+    }
     let (share, path, most) = match what {
         "many" => (710, 0, 1_000),
         "few" => (7, 0, 1_000),

@@ -90,8 +90,8 @@ impl BucketLog for RecordLog {
     }
 }
 
-/// A log that answers `NoMemory` from its call number `at` on, counted from 0; before that it
-/// records, and it tells its list.
+/// A log that records and tells what it has, until its call number `at`, counted from 0: from that
+/// one on it answers `NoMemory`.
 #[derive(Drop)]
 pub struct RefuseLog {
     record: RecordLog,

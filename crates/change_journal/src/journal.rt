@@ -36,10 +36,10 @@ impl Journal {
     /// Adds a change to the journal on the active disk, behind those that are there, in a journal
     /// that has an image; it takes no memory. The record has the number of changes held before.
     ///
-    /// A crash at any moment since the start of the call leaves the stored pair from before, or
-    /// that one with the new payload last; after `Ok` every crash leaves the latter, and nothing is
-    /// pending. `Failed`: a disk's count of faults rose, and the journal stays as it was. A disk tells
-    /// its contents after the call exactly where it told them before.
+    /// A crash while the call runs or behind it leaves the pair that was stored, with the payload at
+    /// its end or without it; behind `Ok` always with it, and nothing is pending. `Failed`: a disk's
+    /// count of faults rose, and the journal stays as it was. A disk tells its contents after the call
+    /// exactly where it told them before.
     pub fn append<K: Disk>(
         &mut self,
         disk_a: &mut K,
@@ -81,8 +81,8 @@ impl Journal {
     /// of a state which counts the changes held. At generation 2^64 - 1 nothing is done, and the
     /// answer is `Ok`.
     ///
-    /// A crash at any moment since the start of the call leaves the stored pair from before, or the
-    /// image without changes; after `Ok` every crash leaves the latter, and nothing is pending.
+    /// A crash while the call runs or behind it leaves the pair that was stored, or the image without
+    /// changes; behind `Ok` always the latter, and nothing is pending.
     /// `Failed`: a disk's count of faults rose, and the journal stays as it was.
     pub fn checkpoint<K: Disk>(
         &mut self,

@@ -53,7 +53,7 @@ whole_change bytes = do
 
 -- ---- damage
 
--- where a field that is cut off or not allowed begins, and the byte there, if there is one
+-- where a bad field begins, and the byte there, if there is one
 pub record Spot : Type 0 where
   pub place : ℕ
   pub found : Option ℕ

@@ -1,5 +1,5 @@
--- Fields that are read from left to right. A field that is read is its value and the bytes behind it. A fault is the
--- number of bytes from the first field that is cut off or not allowed to the end.
+-- Fields that are read from left to right. A field that is read is its value and the bytes behind it. A fault is how
+-- many bytes there are from the beginning of the first bad field to the end.
 use Rattle.std.specs.Prelude.{ℕ, ◌+◌, zero, suc, List, [], ◌∷◌, length, take, drop, nat_lt, ◌&&◌, not, if◌then◌else◌, Option, Some, None, option_and_then, Result, Ok, Err}
 use Rattle.std.specs.Int.{Width, w32, byte_len, from_le_bytes}
 use Rattle.std.specs.Str.{is_utf8, bytes_eq}

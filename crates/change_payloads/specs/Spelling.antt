@@ -12,7 +12,7 @@ use Rattle.doc_values.specs.Changes.{KindData, create, drop_index, replace, upda
 abbrev pub text : List ℕ → List ℕ
 text bytes = to_le_bytes w32 (length bytes) ++ bytes
 
--- a byte 0, or a byte 1 and the text
+-- one byte, 0 where there is no text, and 1 before a text
 abbrev pub optional : Option (List ℕ) → List ℕ
 optional None = 0 ∷ []
 optional (Some bytes) = 1 ∷ text bytes

@@ -13,8 +13,8 @@ use std::alloc::Global;
 
 /// The change that a payload spells: a kind, the uid of the index, and what the kind has.
 ///
-/// Where the bytes spell none, the fault names the first field that is cut off or not allowed, also a byte behind the
-/// last field. A text is two fields, its length and its bytes; a length that passes the end is damage at that length.
+/// Where the bytes spell none, the fault is at the first byte of the field that ends too early or says what it may not,
+/// or behind the last field. Of a text the length is such a field where it leads past the end, and else its bytes are.
 /// A float in a patch has no text of its own: it is damage at the text of the patch.
 pub fn decode_change(alloc: Global, bytes: &[u8]) -> Result<Change, ImageFault>
     ensures exact { Decodes change_view result (change_at bytes.now) }

@@ -8,8 +8,8 @@ use std::alloc::{AllocError, AllocFailed};
 /// Why bytes give no change or no state.
 #[derive(Debug, Drop)]
 pub enum ImageFault {
-    /// The first field that is cut off or not allowed begins at `place`, where the byte `found` stands; at the end of
-    /// the bytes there is none.
+    /// The first field that ends too early or says what it may not begins at `place`, where the byte `found` stands; at
+    /// the end of the bytes there is none.
     Damaged { place: u64, found: Option<u8> },
     /// Memory ran out.
     NoMemory,

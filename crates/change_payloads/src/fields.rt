@@ -67,8 +67,8 @@ fn word_of(alloc: Global, bytes: &[u8]) -> Result<Option<Word>, NoMemory>
     }
 }
 
-/// The text, or none, that the bytes begin with, and the bytes behind it: a byte 0, or a byte 1 and a text. Another byte,
-/// or none, is damage there; a text fails as `text` does.
+/// The text, or none, that the bytes begin with, and the bytes behind it. The first byte tells: 0 that there is none, 1
+/// that it follows. Another byte, or no byte, is damage there; a text fails as `text` does.
 #[tactic(auto, unfolding(crate::specs::Fields::optional_at))]
 pub fn optional(alloc: Global, bytes: &[u8]) -> Result<(Option<Word>, &[u8]), ReadFault>
     ensures { Gives (λ x. (x.0, x.1.now)) result (optional_at bytes.now) }

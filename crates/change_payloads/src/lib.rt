@@ -1,7 +1,7 @@
 //! Changes of indexes as bytes: the payloads of the journal, and the fields of which images are made too.
 //!
 //! Promises that what is encoded is the one spelling of a change, that exactly spellings are decoded, to what was
-//! spelled, and that damage is named at the first field that is cut off or not allowed.
+//! spelled, and that damage is told by the place where the first bad field begins.
 //! Contracts see a `Change` through `change_view`, and bytes as lists of numbers; what reads a field answers, by `Gives` of
 //! specs/Answers.antt, what specs/Fields.antt reads there, unless memory ran out.
 //! Stands on `search_base` for words, on `doc_values` for changes and documents, and on `serde_json` for JSON.

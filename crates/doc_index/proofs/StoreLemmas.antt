@@ -7,7 +7,7 @@ use Rattle.std.proofs.lemmas.Bool.{cond-true, cond-false, true≢false}
 use Rattle.doc_rows.specs.declared.path_use.PathUse.{PathUse}
 use Rattle.doc_store.specs.declared.rows.StoreRow.{StoreRow}
 use Rattle.doc_store.specs.Store.{Row, Store, row, put, stored, all_stored, id_of, id_given, ids_given, externals, row_at}
-use Rattle.doc_store.specs.Sound.{IsSound, Increase}
+use Rattle.doc_store.specs.Sound.{Increase}
 use Rattle.doc_store.specs.Sound as sound
 use Rattle.doc_store.proofs.LawLemmas.{given-low}
 use Rattle.doc_store.proofs.NameLemmas.{same_bytes, bytes_same, bytes_eq-turned}

@@ -13,10 +13,9 @@ use std::alloc::Global;
 /// `uses` says: the words of the paths that have a rank, and the leaves and marks of those that are faceted, path
 /// by path in the registry's order. A path that is not in the registry is left out. The document is read once.
 ///
-/// The words of a path are the tokens of its leaves in the order of the walk, where a number counts as its decimal
-/// text and a truth value as `true` or `false`, and come in order of their positions. The first word of a path has
-/// position 0, and the first word of a later leaf the position of the word before it plus eight. A word past
-/// position 65,535 is left out.
+/// A path has the words of its leaves, leaf after leaf as the walk finds them: those of a text, of the digits of a
+/// number, or of `true` and `false`. Their positions grow from 0, as those of one text do, and by eight from the last
+/// word of a leaf to the first one of the next. No word has a position above 65,535.
 ///
 /// The leaves of a path come in the order of the walk, each as the number, or as the normal form of its text, with
 /// its spelling. A mark of a path comes once: that it has a value, that one is null, that one is an empty text,

@@ -72,8 +72,8 @@ impl Model for Admission {
     ghost view = { λ a. record { ids = map (λ id. id.0) a.ids.items; added = a.added.items } };
 }
 
-/// What documents that are staged take of a store, for which all memory is there. A plan is for the store as it was
-/// when the plan was made.
+/// What documents that are staged take of a store, for which all memory is there. It can be carried out on the store
+/// that it was made for, while nothing else changes that.
 #[derive(Drop)]
 pub struct StorePlan {
     ids: Vec<DocId>,
@@ -203,7 +203,7 @@ impl DocStore {
         self.slots.len() as u32
     }
 
-    /// The paths of the registry in order of arrival. A path's number is its place, from 0.
+    /// The paths of the registry in the order in which they came, by which they are numbered, from 0.
     pub fn paths(&self) -> &[Word]
         ensures { result.now ≡ self.now.content.paths }
     {

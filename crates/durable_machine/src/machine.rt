@@ -86,10 +86,10 @@ impl DurableMachine {
         }
     }
 
-    /// Answers one request. An accepted change is recorded before its reply is given, and where the journal is long by
-    /// then a checkpoint is made; one that finds no memory is passed over. `fetches` counts the stored documents that
-    /// are read: at most those that the request needs. The log is told each bucket that the request opens, and
-    /// `openings` counts them.
+    /// Answers one request. A change that is accepted stands in the journal before there is a reply; where the journal
+    /// is long by then it is followed by a checkpoint, unless memory is wanting for that. `fetches` counts the stored
+    /// documents that are read: at most those that the request needs. The log is told each bucket that the request
+    /// opens, and `openings` counts them.
     ///
     /// `Failed`: a disk's count of faults rose, and whatever a crash leaves on the disks holds the machine as it was,
     /// or as it is.

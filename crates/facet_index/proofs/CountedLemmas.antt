@@ -1,5 +1,5 @@
 -- The keys of the texts as which a document's values are counted.
-use Rattle.std.proofs.Common.{◌≡◌, ℕ, ◌+◌, ◌<◌, Bool, true, false, not, ◌&&◌, ◌||◌, ◌==◌, cond, zero, suc, List, [], ◌∷◌, ◌++◌, take, drop, length, get_or, refl, sym, ap, ap₂, ◌∙◌, arith}
+use Rattle.std.proofs.Common.{◌≡◌, ℕ, ◌+◌, Bool, true, false, not, ◌&&◌, ◌||◌, ◌==◌, cond, List, [], ◌∷◌, ◌++◌, refl, sym, ap, ap₂, ◌∙◌}
 use Rattle.std.specs.BTreeSet.{BTreeSet, contains}
 use Rattle.std.specs.List.{filter, list_any}
 use Rattle.std.specs.Str.{bytes_eq}
@@ -211,26 +211,6 @@ spelled_key apart path text shown document asked narrow =
 
 -- ---- one leaf more
 
-pub taken_one : (leaves : List Leaf) (i : ℕ) (x d : Leaf) → i < length leaves → x ≡ get_or leaves i d → take (i + 1) leaves ≡ take i leaves ++ x ∷ []
-taken_one leaves i x d inside is = let next : i + 1 ≡ suc i = omega arith in ap (λ n. take n leaves) next ∙ taken leaves i inside is
-  where
-    taken : (ls : List Leaf) (n : ℕ) → n < length ls → x ≡ get_or ls n d → take (suc n) ls ≡ take n ls ++ x ∷ []
-    taken [] n h e = absurd (omega arith)
-    taken (l ∷ ls) zero h e = ap (λ y. y ∷ []) (sym e)
-    taken (l ∷ ls) (suc n) h e = ap (λ ys. l ∷ ys) (taken ls n (omega arith) e)
-
-pub one_counted : (leaves : List Leaf) (i : ℕ) (x d : Leaf) → i < length leaves → x ≡ get_or leaves i d
-    → new_counted (take i leaves) x ++ counted_from (take (i + 1) leaves) (drop (i + 1) leaves) ≡ counted_from (take i leaves) (drop i leaves)
-one_counted leaves i x d inside is =
-    let next : i + 1 ≡ suc i = omega arith in
-    ap₂ (λ xs n. new_counted (take i leaves) x ++ counted_from xs (drop n leaves)) (taken_one leaves i x d inside is) next
-    ∙ ap (counted_from (take i leaves)) (left leaves i inside is)
-  where
-    left : (ls : List Leaf) (n : ℕ) → n < length ls → x ≡ get_or ls n d → x ∷ drop (suc n) ls ≡ drop n ls
-    left [] n h e = absurd (omega arith)
-    left (l ∷ ls) zero h e = ap (λ y. y ∷ ls) e
-    left (l ∷ ls) (suc n) h e = left ls n (omega arith) e
-
 -- the keys that were seen, and one more
 pub seen_more : AreApart → (old new : BTreeSet (List ℕ)) (key text : List ℕ) (x : Leaf) → text ≡ text_of x.value → key ≡ key_bytes x.path.0 (counted text)
     → IsNarrow x.path.0 (counted text)
@@ -252,13 +232,6 @@ seen_more apart old new key text x of is narrow made before seen = λ path asked
         ap (λ k. is_eq (word_cmp k (key_bytes path (counted asked)))) is ∙ is_eq-slice_cmp (key_bytes x.path.0 (counted text)) (key_bytes path (counted asked))
         ∙ facet_test apart (x.path.0, counted text) path (counted asked) narrow wanted
         ∙ ap (λ t. (x.path.0 == path) && bytes_eq t asked) of
-
--- whether the key of a leaf was seen
-pub was_seen : (seen : BTreeSet (List ℕ)) (key text : List ℕ) (x : Leaf) → text ≡ text_of x.value → key ≡ key_bytes x.path.0 (counted text)
-    → IsNarrow x.path.0 (counted text) → (before : List Leaf) → HasSeen seen before
-    → contains word_cmp seen key ≡ has_text x.path.0 (text_of x.value) before
-was_seen seen key text x of is narrow before has =
-    ap (contains word_cmp seen) is ∙ has x.path.0 text narrow ∙ ap (λ t. has_text x.path.0 t before) of
 
 -- a test of leaves under a path
 pub any_under : (p : Leaf → Bool) (path : ℕ) (leaves : List Leaf) → list_any (λ x. (x.path.0 == path) && p x) leaves ≡ list_any p (leaves_under path leaves)

@@ -1,21 +1,18 @@
 -- The values that come first under the paths of a document.
-use Rattle.std.proofs.Common.{◌≡◌, ℕ, Bool, true, false, ◌&&◌, ◌||◌, ◌==◌, cond, List, [], ◌∷◌, ◌++◌, Option, None, Some, map, flat_map, append_assoc, refl, sym, ap, ap₂, subst, ◌∙◌}
+use Rattle.std.proofs.Common.{◌≡◌, ℕ, Bool, true, false, ◌&&◌, ◌||◌, ◌==◌, cond, List, [], ◌∷◌, Option, None, Some, map, flat_map, refl, sym, ap, ap₂, ◌∙◌}
 use Rattle.std.specs.List.{list_any}
 use Rattle.std.proofs.lemmas.Bool.{eqb-true}
-use Rattle.std.proofs.lemmas.List.{map-append}
 use Rattle.std.proofs.lemmas.List.Folds.{list_any-append}
 use Rattle.search_base.specs.declared.document.Leaf.{Leaf}
 use Rattle.search_base.specs.declared.document.MarkKind.{MarkKind}
-use Rattle.search_base.specs.declared.document.Place.{Place}
 use Rattle.search_base.specs.declared.value.FacetValue.{FacetValue}
 use Rattle.search_base.specs.SortKeys.{leaves_under, sooner, first_by}
 use Rattle.facet_keys.specs.Keys.{Facet, leaf, mark, counted, spelling}
 use Rattle.facet_index.specs.LeavesView.{LeavesView}
 use Rattle.facet_index.specs.Documents.{is_same}
-use Rattle.facet_index.specs.Ends.{value_before, first_value, end_facet, if_end, end_at, ends_at, ends_of, new_ends, has_path, paths_of}
-use Rattle.facet_index.specs.Places.{key_of, place_of, places_of, AreNarrow}
+use Rattle.facet_index.specs.Ends.{value_before, first_value, end_facet, if_end, end_at, ends_at, ends_of, has_path, paths_of}
 use Rattle.facet_index.proofs.TestLemmas.{any_and, any_same}
-use Rattle.facet_index.proofs.KeyLemmas.{all_both, any_flat, any_never, counted_none, and_false, or_false, has_facet, is_facet, facets_say}
+use Rattle.facet_index.proofs.KeyLemmas.{any_flat, any_never, counted_none, and_false, or_false, has_facet, is_facet, facets_say}
 
 -- ---- one leaf more
 
@@ -35,46 +32,11 @@ first_here up path x xs whole known next here is before so =
     ∙ sym (first_more up path x xs ∙ ap (λ b. cond b (Some (sooner (value_before up) x.value (first_value up path xs))) (first_value up path xs)) here)
     ∙ ap (first_value up path) is
 
-pub first_other : (up : Bool) (path : ℕ) (x : Leaf) (xs whole : List Leaf) (known : Option FacetValue) → (x.path.0 == path) ≡ false → x ∷ xs ≡ whole
-    → known ≡ first_value up path xs → known ≡ first_value up path whole
-first_other up path x xs whole known other is before =
-    before
-    ∙ sym (first_more up path x xs ∙ ap (λ b. cond b (Some (sooner (value_before up) x.value (first_value up path xs))) (first_value up path xs)) other)
-    ∙ ap (first_value up path) is
-
 -- ---- places
-
-pub places_append : (xs ys : List (ℕ × Facet)) → places_of (xs ++ ys) ≡ places_of xs ++ places_of ys
-places_append xs ys = map-append (λ x. place_of (key_of x)) xs ys
-
-pub two_added : (old mid new : List Place) (xs ys : List (ℕ × Facet)) → mid ≡ old ++ places_of xs → new ≡ mid ++ places_of ys → new ≡ old ++ places_of (xs ++ ys)
-two_added old mid new xs ys first second =
-    second ∙ ap (λ ps. ps ++ places_of ys) first ∙ append_assoc old (places_of xs) (places_of ys) ∙ ap (λ ps. old ++ ps) (sym (places_append xs ys))
 
 -- the ends at the paths of some leaves
 abbrev pub ends_left : List Leaf → List Leaf → List (ℕ × Facet)
 ends_left leaves rest = flat_map (ends_at leaves) (paths_of rest)
-
-pub ends_more : (leaves : List Leaf) (x : Leaf) (xs : List Leaf) → new_ends leaves x.path.0 xs ++ ends_left leaves xs ≡ ends_left leaves (x ∷ xs)
-ends_more leaves x xs = by (has_path x.path.0 xs)
-  where
-    by : (b : Bool) → cond b [] (ends_at leaves x.path.0) ++ ends_left leaves xs ≡ flat_map (ends_at leaves) (cond b (paths_of xs) (x.path.0 ∷ paths_of xs))
-    by true = refl
-    by false = refl
-
-pub more_places : (leaves : List Leaf) (x : Leaf) (xs rest : List Leaf) (old new whole : List Place) → rest ≡ x ∷ xs
-    → new ≡ old ++ places_of (new_ends leaves x.path.0 xs) → old ++ places_of (ends_left leaves rest) ≡ whole
-    → new ++ places_of (ends_left leaves xs) ≡ whole
-more_places leaves x xs rest old new whole is added so =
-    two_added old new (new ++ places_of (ends_left leaves xs)) (new_ends leaves x.path.0 xs) (ends_left leaves xs) added refl
-    ∙ ap (λ es. old ++ places_of es) (ends_more leaves x xs ∙ ap (ends_left leaves) (sym is))
-    ∙ so
-
-pub more_narrow : (leaves : List Leaf) (x : Leaf) (xs rest : List Leaf) → rest ≡ x ∷ xs → AreNarrow (new_ends leaves x.path.0 xs)
-    → (AreNarrow (ends_left leaves rest) → AreNarrow (ends_of leaves)) → AreNarrow (ends_left leaves xs) → AreNarrow (ends_of leaves)
-more_narrow leaves x xs rest is added so later =
-    so (subst AreNarrow (ends_more leaves x xs ∙ ap (ends_left leaves) (sym is))
-    (all_both _ (new_ends leaves x.path.0 xs) (ends_left leaves xs) added later))
 
 -- ---- which values come first
 

@@ -23,9 +23,9 @@ use std::alloc::Global;
 use std::ops::Bound;
 
 impl FacetIndex {
-    /// The least entry, in the order of the direction, that a document of the universe has under the path and that
-    /// comes after the given one, or the least of all without one. None exactly where no document of the universe has a
-    /// later entry. Passes the keys that no document of the universe has, and looks at none after the one it gives.
+    /// The entry that comes next in the direction: of those that a document of the universe has under the path, the
+    /// first behind the given one, or simply the first where none is given. None exactly where there is none. Passes
+    /// the keys that no document of the universe has, and looks at none behind the one that it gives.
     pub fn next_sort(
         &self,
         alloc: Global,

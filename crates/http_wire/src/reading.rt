@@ -18,8 +18,8 @@ use std::alloc::Global;
 /// Why no request was read.
 #[derive(Clone, Copy, Debug, PartialEq, Eq)]
 pub enum WireEnd {
-    /// The input ended between two requests: at most line ends, of fewer than 16,384 bytes
-    /// together, are left.
+    /// The input ended where a request may begin: what is left are line ends, or nothing, and less
+    /// than 16,384 bytes.
     End,
     /// The input ended inside a request, `rest` bytes, above 0, after the last whole one.
     CutShort { rest: u64 },
@@ -36,8 +36,8 @@ pub struct Wire {
     pub method: Word,
     pub target: Word,
     pub body: Vec<u8>,
-    /// Whether the request asks to close the link: its version is 1.0, or a `Connection` header
-    /// lists `close`.
+    /// Whether the link is to be closed behind the reply: the request has version 1.0, or `close` in
+    /// the list of a `Connection` header.
     pub closes: bool,
 }
 

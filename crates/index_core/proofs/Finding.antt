@@ -278,13 +278,6 @@ hit-some index call id document costs found costs_are = by (row_at id index.stor
         let same : document ≡ r.document = cc in
         ap (λ (o : Option (List CostKey)). Some (record { document = document; costs = o })) costs_are ∙ ap (λ d. Some (record { document = d; costs = costs_shown index call d })) same
 
-pub hit-none : (index : Index) (call : SearchView) (id : ℕ) → None ≡ option_map (λ (r : Row). r.document) (row_at id index.store.rows) → None ≡ hit_at index call id
-hit-none index call id found = by (row_at id index.store.rows) found
-  where
-    by : (o : Option Row) → None ≡ option_map (λ (r : Row). r.document) o → None ≡ option_map (hit_under index call) o
-    by None e = refl
-    by (Some r) e = absurd (cc)
-
 -- the costs of a document as it is ranked
 pub costs-ranked : (index : Index) (call : SearchView) (ranking : Ranking) (document : Data) → IsRankingOf ranking index call → call.costs ≡ true
     → tuple (rows_of document index.store.paths ranking.uses.items) ranking.query ranking.rules.items ≡ costs_shown index call document

@@ -5,7 +5,7 @@ use Rattle.std.specs.List.{filter}
 use Rattle.std.proofs.lemmas.Bool.{cond_both, cond-true, cond-false}
 use Rattle.doc_rows.specs.declared.path_use.PathUse.{PathUse}
 use Rattle.doc_index.specs.Documents.{documents_of}
-use Rattle.doc_index.specs.Left.{without_named, without_all}
+use Rattle.doc_index.specs.Left.{without_named}
 use Rattle.doc_index.specs.Named.{is_named}
 use Rattle.doc_store.specs.declared.rows.StoreRow.{StoreRow}
 use Rattle.doc_store.specs.Store.{Row, Store, id_of, all_stored}
@@ -108,13 +108,6 @@ left-indexed (Err e) st ids s now uses rows h is done stays stands tight = subst
   stands = subst (λ (t : Store). StandsFor rows (documents_of t.paths (uses_from st 0 s.paths) t.rows)) stays (subst (λ us. StandsFor rows (documents_of now.paths us now.rows)) is stands);
   tight = tight;
   sound = h;
-})
-
-pub cleared-indexed : (st : SettingsView) (s now : Store) (rows : RowIndexView) → IsSound s → now ≡ without_all s → StandsFor rows [] → IsTight rows → IsIndexed rows st now
-cleared-indexed st s now rows h done stands tight = subst (IsIndexed rows st) (sym done) (record {
-  stands = stands;
-  tight = tight;
-  sound = record { increase = omega arith; apart = tt; once = h.once; cover = tt; ids_within = h.ids_within; paths_within = h.paths_within };
 })
 
 -- ---- other settings

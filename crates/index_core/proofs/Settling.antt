@@ -1,18 +1,15 @@
 -- Settings that use paths alike.
-use Rattle.std.proofs.Common.{◌≡◌, ℕ, ◌+◌, true, List, [], ◌∷◌, Option, None, refl, sym, ap, ◌∙◌}
+use Rattle.std.proofs.Common.{◌≡◌, ℕ, ◌+◌, true, List, [], ◌∷◌, Option, None, refl, ap, ◌∙◌}
 use Rattle.std.specs.Prelude.{codes}
-use Rattle.std.specs.List.{filter_map, flat_map}
 use Rattle.serde_json.specs.Data.{Data}
 use Rattle.serde_json.specs.Find.{get}
-use Rattle.token_words.specs.Tokens.{tokens}
-use Rattle.index_settings.specs.View.{SynonymView, SettingsView}
-use Rattle.index_settings.specs.Values.{texts_in, synonyms_in}
+use Rattle.index_settings.specs.View.{SettingsView}
+use Rattle.index_settings.specs.Values.{texts_in}
 use Rattle.index_settings.specs.Table.{defaults}
 use Rattle.index_settings.specs.Patch.{chosen, patched}
 use Rattle.search_settings.proofs.UseLemmas.{alike-uses}
 use Rattle.search_settings.specs.Uses.{use_alike, use_of, uses_from}
-use Rattle.index_core.specs.Fetches.{LeavesUses, LeavesWords}
-use Rattle.search_settings.specs.QueryWords.{only_word, words_of, rows_under, each_once, QueryWordsView, AreWordsOf}
+use Rattle.index_core.specs.Fetches.{LeavesUses}
 
 -- ---- a patch that leaves the uses of paths, and the words for queries
 
@@ -52,9 +49,3 @@ uses-patched old d h paths =
 
 pub alike-patched : (old : SettingsView) (d : Data) → LeavesUses d → (paths : List (List ℕ)) → use_alike (patched defaults old d) old paths ≡ true
 alike-patched old d h paths = alike-uses (uses_from (patched defaults old d) 0 paths) (uses_from old 0 paths) (uses-patched old d h paths)
-
-pub words-patched : (old : SettingsView) (d : Data) (words : QueryWordsView) → LeavesWords d → AreWordsOf words old → AreWordsOf words (patched defaults old d)
-words-patched old d words h are = record {
-  stop_words = are.stop_words ∙ sym (ap (filter_map (λ entry. only_word (tokens entry))) (stays old.stop_words defaults.stop_words texts_in (get (codes "stopWords") d) h.stop_words));
-  synonyms = are.synonyms ∙ sym (ap (λ lists. each_once (flat_map (λ (list : SynonymView). rows_under (words_of list.key) list.texts) lists)) (stays old.synonyms defaults.synonyms synonyms_in (get (codes "synonyms") d) h.synonyms));
-}

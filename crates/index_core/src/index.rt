@@ -148,7 +148,7 @@ impl IndexCore {
     ///
     /// Where ids or paths are spent, ids are named first. Documents that come or go read each stored document that they
     /// name once, and new settings read each document once where they use some path otherwise; no other change reads
-    /// one. What a patch does not name is not looked at, and shares its list with the settings before.
+    /// one. What a patch does not name is not looked at, and stays as it was.
     pub fn apply<F>(
         &mut self,
         alloc: Global,

@@ -19,8 +19,8 @@ const MAX_INDEXES: u32 = 1000;
 
 /// The state that an image spells, version 1.
 ///
-/// Where the bytes spell none, the fault names the first field that is cut off or not allowed, also a byte behind the
-/// last field. A text is two fields, its length and its bytes; a length that passes the end is damage at that length.
+/// Where the bytes spell none, the fault is at the first byte of the field that ends too early or says what it may not,
+/// or behind the last field. Of a text the length is such a field where it leads past the end, and else its bytes are.
 pub fn decode(alloc: Global, bytes: &[u8]) -> Result<ImageRows, ImageFault>
     ensures exact { Decodes image_view result (state_at bytes.now) }
     ensures only { (s : ImageData) → IsState s → HasImage s → bytes.now ≡ image_bytes s → Decodes image_view result (Ok s) }

@@ -1,7 +1,7 @@
 //! States of indexes as bytes: the image.
 //!
 //! Promises that what is encoded is the one spelling of a state, that exactly spellings are decoded, to what was
-//! spelled, and that damage is named at the first field that is cut off or not allowed.
+//! spelled, and that damage is told by the place where the first bad field begins.
 //! Contracts see `ImageRows` through `image_view`, and bytes as lists of numbers.
 //! Stands on `change_payloads` for the fields that changes have too, on `search_base` for words, on `doc_values` for
 //! documents, on `index_settings` for settings, and on `serde_json` for JSON.

@@ -3,13 +3,12 @@ use Rattle.std.proofs.Common.{◌≡◌, ℕ, ◌&&◌, ◌||◌, Bool, true, fa
 use Rattle.std.specs.Prelude.{is_some, nat_le}
 use Rattle.std.specs.Str.{bytes_eq}
 use Rattle.std.proofs.lemmas.Bool.{true≢false}
-use Rattle.serde_json.specs.Data.{Num, unsigned, negative, float, Data, null, boolean, number, string, array, object, Items, no_items, item, Members, no_members, member}
+use Rattle.serde_json.specs.Data.{unsigned, negative, float, Data, null, boolean, number, string, array, object, Items, no_items, item, Members, no_members, member}
 use Rattle.serde_json.specs.Find.{as_str}
 use Rattle.serde_json.specs.Written.{has_float, items_have_float, members_have_float}
 use Rattle.search_base.specs.Trying.{first_of}
 use Rattle.index_settings.specs.declared.shape.Shape.{Shape}
 use Rattle.index_settings.specs.declared.shape.Shape.TheVariants as shape
-use Rattle.index_settings.specs.declared.fault.SettingsRefusal.{SettingsRefusal}
 use Rattle.index_settings.specs.declared.fault.SettingsRefusal.TheVariants.{UnknownMember, WrongShape}
 use Rattle.index_settings.specs.Table.{shape_of, wrong_unless, inner_fault, first_inner, nested_fault, shape_fault, fault_at, member_fault, first_fault, patch_fault}
 use Rattle.index_settings.specs.Values.{is_null, is_number_up_to, items_are_texts, are_texts, are_texts_up_to, entries_in, texts_in, members_are_texts, are_synonyms}

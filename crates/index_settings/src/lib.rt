@@ -1,7 +1,7 @@
 //! The settings of an index: their defaults, how a patch changes them, and how they are printed.
 //!
-//! Promises that a patch and what is printed are their definition, that a refusal names the first member in byte order
-//! that is not acceptable, and that what is printed of settings, taken as a patch, gives them back.
+//! Promises that a patch and what is printed are their definition, that of the members which cannot be taken a refusal
+//! names the first in byte order, and that what is printed of settings, taken as a patch, gives them back.
 //! Contracts see `Settings` as a `SettingsView`: lists of texts, numbers, and synonyms in byte order of their keys.
 //! Stands on `search_base` for words and on `serde_json` for JSON as RFC 8259 has it.
 #![tactic(auto)]

@@ -20,7 +20,7 @@ use std::rc::RcSlice;
 
 /// The settings after a patch: a JSON object that names the members to be changed.
 ///
-/// A member that is not named stays, and shares its list with `old`; null gives a member its default. The first member
+/// A member that is not named stays as it was in `old`; null gives a member its default. The first member
 /// in byte order of names that is not acceptable decides which fault it is. `old` stays as it was.
 pub fn patch(alloc: Global, old: &Settings, members: &Value) -> Result<Settings, SettingsFault>
     ensures { Gives (λ settings. settings) result (patch_of old.now (data_of members.now)) }

@@ -4,8 +4,7 @@ use borrow.Author.Count.{below_more}
 use Rattle.std.specs.Global.{Global}
 use Rattle.std.proofs.lemmas.Bool.{eqb-true}
 use Rattle.std.proofs.lemmas.Bool.Decides.{nat_tests}
-use Rattle.std.proofs.lemmas.Grind.{common_steps}
-use Rattle.std.proofs.lemmas.List.{get_or-set_same, get_or-set_other, get_or_past, get_or_default, map-set, map-append, reverse-append, reverse-reverse, length-reverse, get_or-reverse, length-set, take_more, length-map}
+use Rattle.std.proofs.lemmas.List.{get_or-set_same, get_or-set_other, get_or_past, get_or_default, map-set, map-append, reverse-append, length-reverse, get_or-reverse, length-set, take_more, length-map}
 use Rattle.search_base.specs.declared.document.DocId.{DocId}
 use Rattle.search_base.specs.declared.document.Leaf.{Leaf}
 use Rattle.doc_sets.specs.Sets.{has}
@@ -89,12 +88,6 @@ none_goes ids i d start rows more told past id =
     unset true h = h refl
     unset false h = refl
 
--- ---- a row more
-
--- an empty row behind the others
-pub kept_behind : (id : ℕ) (rows : List (Option (Vec Leaf Global))) → kept_in id (rows ++ None ∷ []) ≡ kept_in id rows
-kept_behind id rows = grind (arith, common_steps)
-
 -- ---- what is left of documents
 
 is_any : (id : ℕ) (documents : List LeavesView) → has (map (λ document. document.id) documents) id ≡ has_id id documents
@@ -174,11 +167,6 @@ all_of_reversed rows n below k d less =
     let back : length rows - 1 - (length rows - 1 - k) ≡ k = omega arith in
     let e = get_or-reverse rows (length rows - 1 - k) d (omega arith) ∙ ap (λ j. get_or rows j d) back in
     subst (λ (row : RowView). row.id < n) e (below (length rows - 1 - k) d (omega (arith, l)))
-
-pub all_reversed : (rows : List RowView) (n : ℕ) → ((k : ℕ) (d : RowView) → k < length rows → (get_or rows k d).id < n)
-    → (k : ℕ) (d : RowView) → k < length (reverse rows) → (get_or (reverse rows) k d).id < n
-all_reversed rows n below =
-    all_of_reversed (reverse rows) n (subst (λ all. (k : ℕ) (d : RowView) → k < length all → (get_or all k d).id < n) (sym (reverse-reverse rows)) below)
 
 -- ---- one turn of the loop over rows that come
 

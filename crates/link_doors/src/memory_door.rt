@@ -46,7 +46,7 @@ impl Model for MemoryDoor {
 
 impl MemoryDoor {
     /// A closed door that gives these links in this order, and fails at the calls of these numbers,
-    /// counted over `open` and `next` together from 0. It takes the room for all links that come
+    /// counted over `open` and `next` together from 0. There is room in it for each link to come
     /// back.
     pub fn new(
         alloc: Global,

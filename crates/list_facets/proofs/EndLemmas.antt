@@ -202,10 +202,5 @@ bucket_answer up its_up path its_path documents its_documents missing rows are i
     (subst (λ p. IsBucket before (key_or (sort_key up p its_documents) missing) remaining left least docs) b
     (subst (λ u. IsBucket before (key_or (sort_key u its_path its_documents) missing) remaining left least docs) a bucket)))))
 
--- no document, no number
-pub empty_number : (up : Bool) (path : ℕ) (rows : ℕ → RowsView) (ids : List ℕ) → ids ≡ []
-    → None ≡ first_by (comes_first up) (numbers (leaves_at path (map rows ids)))
-empty_number up path rows ids h = sym (ap (λ xs. first_by (comes_first up) (numbers (leaves_at path (map rows xs)))) h)
-
 pub if_there_is : {X : Type 0} (P : X → Type 0) (o : Option X) (x : X) → o ≡ Some x → IfSome o P → P x
 if_there_is P o x is h = subst (λ p. IfSome p P) is h

@@ -1,5 +1,5 @@
 -- The documents of a list that are in a set, from either of the two.
-use Rattle.std.proofs.Common.{◌≡◌, ℕ, suc, ◌+◌, ◌*◌, ◌/◌, ◌^◌, ◌<◌, Bool, true, false, ◌&&◌, ◌||◌, ◌==◌, cond, List, [], ◌∷◌, ◌++◌, length, None, Some, Result, Ok, Err, IfOk, refl, sym, ap, subst, ◌∙◌, arith}
+use Rattle.std.proofs.Common.{◌≡◌, ℕ, suc, ◌+◌, ◌*◌, ◌/◌, ◌^◌, ◌<◌, Bool, true, false, ◌&&◌, ◌||◌, ◌==◌, List, [], ◌∷◌, ◌++◌, length, None, Some, Result, Ok, Err, IfOk, refl, sym, ap, subst, ◌∙◌, arith}
 use Rattle.std.specs.List.{filter, slice_get}
 use Rattle.std.proofs.lemmas.Bool.{eq-eqb}
 use Rattle.doc_sets.specs.Sets.{has, with_id, AreAbove, IsIncreasing}
@@ -87,27 +87,9 @@ pub one_more : (ids : List ℕ) (id : ℕ) → length (ids ++ id ∷ []) ≡ len
 one_more [] id = refl
 one_more (x ∷ xs) id = let e : suc (length xs + 1) ≡ suc (length xs) + 1 = omega arith in ap suc (one_more xs id) ∙ e
 
--- the first stays the first
-pub first_stays : (ids : List ℕ) (id d : ℕ) → slice_get ids 0 ≡ Some d → slice_get (ids ++ id ∷ []) 0 ≡ Some d
-first_stays [] id d h = absurd (cc)
-first_stays (x ∷ xs) id d h = h
-
 pub new_first : (ids : List ℕ) (id : ℕ) → slice_get ids 0 ≡ None → slice_get (ids ++ id ∷ []) 0 ≡ Some id
 new_first [] id h = refl
 new_first (x ∷ xs) id h = absurd (cc)
-
--- what passes of a list with one more in front
-pub passes_more : (p : ℕ → Bool) (d : ℕ) (done rest : List ℕ) (whole : List ℕ) → p d ≡ true → done ++ filter p (d ∷ rest) ≡ whole
-    → (done ++ d ∷ []) ++ filter p rest ≡ whole
-passes_more p d done rest whole passes so = assoc done ∙ ap (λ b. done ++ cond b (d ∷ filter p rest) (filter p rest)) (sym passes) ∙ so
-  where
-    assoc : (xs : List ℕ) → (xs ++ d ∷ []) ++ filter p rest ≡ xs ++ d ∷ filter p rest
-    assoc [] = refl
-    assoc (x ∷ xs) = ap (λ ys. x ∷ ys) (assoc xs)
-
-pub passes_not : (p : ℕ → Bool) (d : ℕ) (done rest : List ℕ) (whole : List ℕ) → p d ≡ false → done ++ filter p (d ∷ rest) ≡ whole
-    → done ++ filter p rest ≡ whole
-passes_not p d done rest whole fails so = ap (λ b. done ++ cond b (d ∷ filter p rest) (filter p rest)) (sym fails) ∙ so
 
 -- one bit more
 pub bit_more : AreByMembers → (bits new rest : List ℕ) (id d : ℕ) → new ≡ with_id id bits → (has rest d || has new d) ≡ (has (id ∷ rest) d || has bits d)

@@ -9,9 +9,6 @@ pub run_push : (s : Contents) (calls : List Kept) (call : Kept) → run s (calls
 run_push s [] call = refl
 run_push s (c ∷ calls) call = run_push (step c s) calls call
 
-pub elapses_same : (first : List ℕ) (calls : List Kept) → Elapses (length calls) (length calls) (LeftSince first calls) (LeftSince first calls) (Some (run (fresh first) calls))
-elapses_same first calls = record { later = omega arith; nothing_else = λ t c le left. inl left; keeps = λ t c le left. left }
-
 module _ (first : List ℕ) (calls : List Kept) (call : Kept) where
   abbrev more : List Kept
   more = calls ++ call ∷ []

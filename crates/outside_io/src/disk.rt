@@ -7,11 +7,12 @@ use crate::Failed;
 
 /// A row of bytes that outlives the process: what it holds, and what a crash may leave of it.
 ///
-/// A disk may tell what it holds; whether it does never changes. After a crash the length is one
-/// that the disk had since its last sync that succeeded. Below the least of these lengths each byte
-/// that no write touched since stands as it was; every other byte may be anything. A write or a cut
-/// that failed had no effect, or counts as made here. A disk keeps a clock that never goes back,
-/// and a count of faults, which never falls and stays at 2^64 - 1 once it is there.
+/// A disk may tell what it holds; whether it does never changes. After a crash it is as long as it
+/// was at some time since its last sync that succeeded, or something between the least and the
+/// greatest of these lengths. Below the least each byte that was not written since is unharmed, and
+/// of all others nothing is known. A write or a cut that failed had no effect, or counts as made
+/// here. A disk keeps a clock that never goes back, and a count of faults, which never falls and
+/// stays at 2^64 - 1 once it is there.
 pub trait Disk {
     /// What a read gives and what a crash may leave, where the disk tells it.
     ghost contents: { Self → Option Contents };

@@ -24,8 +24,8 @@ pub trait Link {
     /// How many writes failed.
     ghost write_faults: { Self → ℕ };
 
-    /// Reads into the front of a slice that is not empty, and answers how many bytes came: 0 is
-    /// the end of input, and where the bytes are told it comes exactly where none is left.
+    /// Reads into the front of a slice of at least one byte, and answers how many bytes came. That is 0
+    /// at the end of input: where the bytes are told, exactly where none is left.
     /// `Failed`: the count of read faults rose, and the bytes that are left stay as they were.
     fn read(&mut self, into: &mut [u8]) -> Result<usize, Failed>
         requires { 0 < length into.old }
@@ -34,7 +34,7 @@ pub trait Link {
         ensures told { told self.new ≡ told self.old }
         ensures write_faults { write_faults self.new ≡ write_faults self.old };
 
-    /// Writes the front of a piece that is not empty, and answers how many bytes of it, at least 1.
+    /// Writes the front of a piece, at least one byte of it, and answers how many bytes those were.
     /// `Failed`: the count of write faults rose, and none of the piece was written.
     fn write(&mut self, piece: &[u8]) -> Result<usize, Failed>
         requires { 0 < length piece.now }

@@ -1,7 +1,7 @@
 //! The costs of a condition graph's paths, cost after cost, with the documents that have each.
 //!
-//! `PathCosts::next_cost` promises the least cost that a remaining document has, with exactly the
-//! documents that have it. A document's cost is the least sum of a path whose conditions it meets.
+//! `PathCosts::next_cost` promises the documents that are cheapest of those that remain, all of
+//! them, and their cost. A document costs the least sum of a path whose conditions it meets.
 //! Contracts see a stream as the cost of each document, the documents that remain, and whether
 //! memory ran out. The crate stands on `search_base`, `condition_graph` and `doc_sets`.
 #![tactic(auto)]

@@ -46,7 +46,7 @@ impl<R: Resolve + Drop> Model for PathCosts<R> {
         × (p.failed ≡ false → IsLive (R.meets p.source) p.links p.remaining.ids p.next p.found) };
 }
 
-// Goes on to the least cost that a remaining document has, and takes out those that have it.
+// Goes on to the cheapest of the documents that remain, and takes them out.
 fn advance<R: Resolve>(
     alloc: Global,
     links: &Links,
@@ -113,9 +113,9 @@ impl<R: Resolve + Drop> PathCosts<R> {
         })
     }
 
-    /// The least cost that a remaining document has, with the documents that have it, which remain
-    /// no longer; or none where no remaining document meets a path, and then they all remain. Once
-    /// memory has run out it is the answer from then on.
+    /// The least cost of all documents that remain, and the documents of that cost, which it takes
+    /// out; none where no document that remains meets a path. Once memory has run out it is the
+    /// answer from then on.
     pub fn next_cost(&mut self, alloc: Global) -> Result<Option<(u32, DocSet)>, NoMemory>
         ensures some { IfOk result (λ given.
             IfSome given (λ (cost, docs). IsBucket

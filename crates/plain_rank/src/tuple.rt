@@ -98,7 +98,7 @@ fn path_entry(
     Ok(CostKey::Number(cost))
 }
 
-// The least sum over the matching readings of the level with this number, 0 where there is none.
+// What the cheapest matching reading of the level with this number costs, 0 where there is none.
 fn path_cost(
     alloc: Global,
     rule: Rule,

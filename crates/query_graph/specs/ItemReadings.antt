@@ -24,8 +24,8 @@ block_of part kind term = record { span = length part; term = term; kind = kind 
 abbrev pub term_of : Bool → List (List ℕ) → TermView
 term_of prefix words = record { words = words; prefix = prefix }
 
--- the blocks of one item: a phrase is its words in a row; a word is itself, and the prefix word is any word that begins
--- with it too
+-- the blocks of one item: the words of a phrase, one behind the other; a word, and for the prefix word also the words
+-- that it begins
 abbrev pub single : ItemView → List Block
 single item =
     if item.phrase then block_of (item ∷ []) Phrase (term_of false item.words) ∷ []

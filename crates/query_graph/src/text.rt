@@ -13,12 +13,12 @@ const MOST_ITEMS: usize = 10;
 
 /// The items of the query text `q`, ten at most.
 ///
-/// Each double quote opens or closes a phrase, and one that is not closed runs to the end. The
-/// parts between quotes are cut into words apart. Outside quotes each word is an item; inside, the
-/// words together are one, where there are any. Of all items the first ten are read. The last word
-/// of the text is the prefix word where it is read, stands outside quotes and its segment ends
-/// where the text does. Then each word that is one of `stop_words`, which are in normal form, is
-/// left out unless it is the prefix word; where that would leave no item, all stay.
+/// Double quotes open and close phrases by turns, and the last may lack its end. A quote ends a word
+/// as well. What stands in quotes is one item, unless it has no word; each word beside them is one.
+/// Only the first ten items are read. A word that is typed to the very end of the text, beside
+/// quotes, may be the beginning of another: where it is read it is the prefix word. Words of
+/// `stop_words`, which are in normal form, are left out then, but for the prefix word, and not where
+/// no item would stay.
 pub fn items(alloc: Global, q: &str, stop_words: &[Word]) -> Result<Items, NoMemory>
     ensures items { IfOk result (λ list. list ≡ items_of q.now stop_words.now) }
     ensures each { IfOk result AreItems }

@@ -178,7 +178,7 @@ with_value AttributesToRetrieve d draft =
 with_value MatchingStrategy d draft = strategy_in d >>= λ s. Ok (record draft { strategy = s })
 with_value ShowCosts d draft = costs_in d >>= λ b. Ok (record draft { costs = b })
 
--- a name that no member has is unknown, and a member of a later stage is not built, whatever the value
+-- a name that no member has is unknown, and a member that is not built is refused whatever its value
 abbrev pub with_named : List ℕ → Option Member → Data → Draft → Result Draft Refusal
 with_named name None d draft = Err (Unknown name)
 with_named name (Some Later) d draft = Err (NotBuilt name)

@@ -51,7 +51,7 @@ impl Draft {
         })
     }
 
-    /// The same with one member more. Refused is a name that no member has (`Unknown`), a member of a later stage
+    /// The same with one member more. Refused is a name that no member has (`Unknown`), a member that is not built yet
     /// (`NotBuilt`), and a value that is no value of the member. Its one other error is want of memory.
     pub(crate) fn with(
         self,

@@ -20,7 +20,7 @@ use std::alloc::Global;
 /// A search sorts by at most so many criteria.
 const MAX_CRITERIA: usize = 16;
 
-/// A member of a search: one that is built, or one of a later stage.
+/// A member of a search: one that is built, or one that is not built yet.
 #[derive(Clone, Copy, Debug, PartialEq, Eq)]
 pub(crate) enum Member {
     Built(SearchMember),

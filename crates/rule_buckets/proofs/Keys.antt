@@ -1,12 +1,10 @@
 -- Entries that are known by key.
-use Rattle.std.proofs.Common.{◌≡◌, ℕ, ◌<◌, ◌==◌, nat_lt, Bool, true, false, not, ◌&&◌, ◌||◌, List, [], ◌∷◌, filter, cond, refl, sym, ap, ap₂, subst, ◌∙◌, arith, Option, Some, None, unwrap_or}
+use Rattle.std.proofs.Common.{◌≡◌, ℕ, ◌==◌, nat_lt, Bool, true, false, not, List, [], ◌∷◌, cond, refl, sym, ap, ap₂, ◌∙◌, arith, Some, None, unwrap_or}
 use Rattle.std.specs.List.{list_any}
 use Rattle.search_base.specs.declared.cost_key.CostKey.{CostKey}
 use Rattle.search_base.specs.declared.cost_key.CostKey.TheVariants.{Number, Up as UpKey, Down as DownKey}
 use Rattle.search_base.specs.declared.cost_key.SortKey.{SortKey}
 use Rattle.search_base.specs.declared.cost_key.SortKey.TheVariants.{Number as NumberKey, Text, Missing}
-use Rattle.search_base.specs.declared.document.Leaf.{Leaf}
-use Rattle.search_base.specs.declared.document.PathId.{PathId}
 use Rattle.search_base.specs.declared.document.Place.{Place}
 use Rattle.search_base.specs.declared.rule.Rule.{Rule}
 use Rattle.search_base.specs.declared.rule.Rule.TheVariants.{Words, Proximity, Field, Position, Whole, Inexact, Up, Down}
@@ -14,16 +12,16 @@ use Rattle.search_base.specs.CostOrder.{before}
 use Rattle.search_base.specs.GraphView.{GraphView, LevelView}
 use Rattle.search_base.specs.RowsView.{RowsView}
 use Rattle.search_base.specs.SortKeys.{least_key, greatest_key, leaves_under}
-use Rattle.search_base.specs.Tuple.{whole_of, entry}
+use Rattle.search_base.specs.Tuple.{whole_of}
 use Rattle.search_base.specs.Whole.{whole_cost, is_whole, begins_so}
 use Rattle.bucket_sort.specs.Buckets.{IsBucket}
-use Rattle.bucket_sort.specs.Classes.{same, having}
+use Rattle.bucket_sort.specs.Classes.{same}
 use Rattle.path_costs.proofs.SetLemmas.{filter-agree}
 use Rattle.sort_rule.specs.Rows.{AreRows, is_under}
 use Rattle.rule_buckets.specs.declared.keyed.KeyKind.{KeyKind}
-use Rattle.rule_buckets.specs.declared.keyed.KeyKind.TheVariants.{Whole as ByWhole, Values, Nothing}
+use Rattle.rule_buckets.specs.declared.keyed.KeyKind.TheVariants.{Whole as ByWhole, Nothing}
 use Rattle.rule_buckets.specs.Entries.{entry_of, sort_entry, missing_entry, if_there}
-use Rattle.rule_buckets.specs.Keyed.{key_kind, known_cost, keys_by, keys_of, key_by, whole_key, whole_keys, missing_of}
+use Rattle.rule_buckets.specs.Keyed.{key_kind, known_cost, keys_of, key_by, whole_key, whole_keys, missing_of}
 use Rattle.rule_buckets.specs.Rules.{is_keyed}
 
 -- documents are asked for by an entry that is known

@@ -1,5 +1,5 @@
 -- Which level of a query matches a document first.
-use Rattle.std.proofs.Common.{◌≡◌, ℕ, zero, suc, ◌+◌, ◌<◌, ◌≤◌, ◌==◌, Bool, true, false, not, ◌&&◌, ◌||◌, cond, List, [], ◌∷◌, take, length, refl, sym, ap, subst, ◌∙◌, arith, Option, Some, None, is_some, IfSome, ap₂, ◌++◌, ◌⊎◌, inl, inr, length-append}
+use Rattle.std.proofs.Common.{◌≡◌, ℕ, zero, suc, ◌+◌, ◌<◌, ◌≤◌, Bool, true, false, not, ◌&&◌, ◌||◌, cond, List, [], ◌∷◌, take, length, refl, sym, ap, subst, ◌∙◌, arith, Option, Some, None, is_some, IfSome, ap₂, ◌++◌, ◌⊎◌, inl, inr, length-append}
 use Rattle.std.specs.List.{list_any, slice_get}
 use Rattle.std.proofs.lemmas.Option.{slice_get_within, get_or_from_slice_get}
 use Rattle.search_base.specs.declared.document.Place.{Place}

@@ -1,8 +1,7 @@
 -- Documents listed by their entries.
-use Rattle.std.proofs.Common.{◌≡◌, ◌⊎◌, inl, inr, ⊎_elim, ℕ, zero, suc, ◌+◌, ◌<◌, ◌≤◌, ◌^◌, ◌==◌, Bool, true, false, not, ◌&&◌, ◌||◌, List, [], ◌∷◌, map, drop, length, refl, sym, ap, ap₂, subst, ◌∙◌, arith, Option, Some, None, get_or, option_map}
+use Rattle.std.proofs.Common.{◌≡◌, ◌⊎◌, inl, inr, ℕ, zero, suc, ◌+◌, ◌<◌, ◌≤◌, ◌^◌, Bool, true, false, not, ◌&&◌, ◌||◌, List, [], ◌∷◌, map, drop, length, refl, sym, ap, subst, ◌∙◌, arith, Some}
 use Rattle.std.specs.List.{list_any, slice_get, slice_set}
 use Rattle.std.proofs.lemmas.List.{drop-set-lt}
-use Rattle.std.proofs.lemmas.Option.{slice_get_within}
 use Rattle.search_base.specs.declared.cost_key.CostKey.{CostKey}
 use Rattle.search_base.specs.declared.cost_key.CostKey.TheVariants.{Number}
 use Rattle.search_base.specs.CostOrder.{before}
@@ -14,7 +13,7 @@ use Rattle.bucket_sort.specs.Buckets.{IsBucket}
 use Rattle.path_costs.proofs.ListLemmas.{slice_get-set}
 use Rattle.rule_buckets.specs.Entries.{is_entry}
 use Rattle.rule_buckets.specs.Listed.{left_from, AreListed}
-use Rattle.rule_buckets.proofs.Members.{alike, bucket-of, has-union_all, any-where, slice_get-drop}
+use Rattle.rule_buckets.proofs.Members.{bucket-of, has-union_all, any-where, slice_get-drop}
 
 -- a document is left where one of the sets has it
 pub has-left : (at : ℕ) (sets : List SetView) (d : ℕ) → has (left_from at sets) d ≡ list_any (λ s. has s.ids d) (drop at sets)

@@ -1,5 +1,5 @@
 -- Buckets and unions of sets, told by their members.
-use Rattle.std.proofs.Common.{◌≡◌, ◌⊎◌, inl, inr, ℕ, zero, suc, ◌<◌, ◌≤◌, ◌==◌, nat_lt, Bool, true, false, not, ◌&&◌, ◌||◌, List, [], ◌∷◌, ◌++◌, map, flat_map, filter, length, refl, sym, ap, ap₂, ◌∙◌, arith, Option, Some, None}
+use Rattle.std.proofs.Common.{◌≡◌, ℕ, zero, suc, ◌<◌, ◌≤◌, ◌==◌, Bool, true, false, not, ◌&&◌, ◌||◌, List, [], ◌∷◌, ◌++◌, filter, length, refl, sym, ap, ◌∙◌, arith, Option, Some, None}
 use Rattle.std.specs.List.{list_any, slice_get}
 use Rattle.std.proofs.Common.{◌+◌, get_or, take, drop, subst, IfSome}
 use Rattle.std.proofs.lemmas.List.{take_more}
@@ -10,7 +10,6 @@ use Rattle.search_base.specs.declared.cost_key.CostKey.{CostKey}
 use Rattle.search_base.specs.declared.cost_key.CostKey.TheVariants.{Number, Up, Down}
 use Rattle.search_base.specs.CostOrder.{before}
 use Rattle.doc_sets.specs.Sets.{has, IsIncreasing, union_all}
-use Rattle.doc_sets.specs.SetView.{SetView}
 use Rattle.doc_sets.proofs.SetLemmas.{increasing-same, increasing-filter, has-filter, has-union}
 use Rattle.bucket_sort.specs.Buckets.{IsBucket}
 use Rattle.bucket_sort.specs.Classes.{same}

@@ -11,7 +11,7 @@ use Rattle.search_base.specs.RowsView.{RowsView}
 use Rattle.search_base.specs.Sums.{least_cost}
 use Rattle.search_base.specs.Least.{least_by, lesser}
 use Rattle.search_base.specs.Tuple.{cost_of, path_cost, entry}
-use Rattle.doc_sets.specs.Sets.{has, union, union_all, IsIncreasing}
+use Rattle.doc_sets.specs.Sets.{has, union, IsIncreasing}
 use Rattle.doc_sets.specs.SetView.{SetView}
 use Rattle.doc_sets.proofs.SetLemmas.{has-union, has-filter, increasing-or_all, increasing-same}
 use Rattle.condition_graph.specs.EdgesView.{EdgesView}
@@ -418,17 +418,6 @@ ahead-more {S} rows query rest ready new all old s t are left e is same any f = 
     three : (a b c : Bool) → ((a || b) || c) ≡ (a || (b || c))
     three true b c = refl
     three false b c = refl
-
--- a stream that has ended is passed over
-pub ahead-ended : {S : Type 0} (rows : S → ℕ → RowsView) (query : QueryView S) (rest ready all old : List (LevelCostsView S)) (s : LevelCostsView S)
-    → AllByRecursion (IsReady rows query) ready → AllByRecursion (IsStream rows query) old → old ≡ s ∷ rest
-    → ((d : ℕ) → is_member s d ≡ false) → ((d : ℕ) → (is_in_any ready d || is_in_any old d) ≡ is_in_any all d)
-    → AllByRecursion (IsReady rows query) ready × AllByRecursion (IsStream rows query) rest × ((d : ℕ) → (is_in_any ready d || is_in_any rest d) ≡ is_in_any all d)
-ahead-ended rows query rest ready all old s are left e none any = (
-  are,
-  (subst (λ l. AllByRecursion (IsStream rows query) l) e left).1,
-  λ d. ap (λ b. is_in_any ready d || (b || is_in_any rest d)) (sym (none d)) ∙ ap (λ l. is_in_any ready d || is_in_any l d) (sym e) ∙ any d,
-)
 
 pub ahead-end : {S : Type 0} (ready rest all given : List (LevelCostsView S)) → ((d : ℕ) → (is_in_any ready d || is_in_any rest d) ≡ is_in_any all d)
     → rest ≡ [] → all ≡ given → (d : ℕ) → is_in_any ready d ≡ is_in_any given d

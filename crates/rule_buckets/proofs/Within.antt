@@ -1,5 +1,5 @@
 -- The levels of a query inside a universe.
-use Rattle.std.proofs.Common.{◌≡◌, ℕ, ◌<◌, ◌≤◌, ◌^◌, Bool, true, false, ◌&&◌, List, [], ◌∷◌, map, length, refl, sym, ap, subst, ◌∙◌, ◌⊎◌, inl, inr, arith, Option, Some, None, option_map, unwrap_or, is_some}
+use Rattle.std.proofs.Common.{◌≡◌, ℕ, ◌<◌, ◌≤◌, ◌^◌, Bool, true, false, ◌&&◌, List, [], ◌∷◌, map, length, refl, sym, ap, ◌∙◌, ◌⊎◌, inl, inr, arith, Option, Some, None, option_map, unwrap_or}
 use Rattle.std.proofs.lemmas.List.{length-map}
 use Rattle.std.specs.List.{list_any, slice_get}
 use Rattle.std.proofs.lemmas.Option.{slice_get-map}
@@ -13,7 +13,7 @@ use Rattle.search_base.specs.RowsView.{RowsView}
 use Rattle.search_base.specs.Tuple.{cost_of, entry}
 use Rattle.search_base.proofs.AnyLemmas.{list_any-map, list_any-same, list_any-and}
 use Rattle.search_base.proofs.EmptyLemmas.{entry-empty}
-use Rattle.doc_sets.specs.Sets.{has, intersection, IsIncreasing, union_all}
+use Rattle.doc_sets.specs.Sets.{has, intersection, IsIncreasing}
 use Rattle.doc_sets.specs.SetView.{SetView}
 use Rattle.doc_sets.proofs.SetLemmas.{has-filter, increasing-same, increasing-or_all}
 use Rattle.bucket_sort.specs.Buckets.{AreAmong}

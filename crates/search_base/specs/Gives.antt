@@ -3,7 +3,7 @@ use Rattle.std.specs.Prelude.{◌≡◌, Option, Some, None, Result, Ok, Err, �
 use Rattle.search_base.specs.declared.fault.Fault.{Fault}
 use Rattle.search_base.specs.declared.fault.Fault.TheVariants.{Refused, NoMemory}
 
--- the refusal is that of the definition; want of memory may come at any point
+-- the refusal is that of the definition; of want of memory nothing is said
 abbrev pub Fails : {R Y : Type 0} → Fault R → Result Y R → Type 0
 Fails (Refused refusal) defined = defined ≡ Err refusal
 Fails NoMemory defined = Unit {0}

@@ -7,8 +7,8 @@ abbrev pub numbers : ℕ → ℕ → List ℕ
 numbers first zero = []
 numbers first (suc n) = first ∷ numbers (suc first) n
 
--- Whether a document with these costs stands before another: it has the earlier entry at the first place at which
--- their costs differ, or the same costs and the smaller internal id. (All costs of one search are equally many.)
+-- Whether a document with these costs stands before another: the first entries that are not the same decide, and where
+-- all are the same, whether its internal id is the smaller one. (All costs of one search are equally many.)
 abbrev pub costs_before : {K : Type 0} → (K → K → Bool) → List K → List K → Bool → Bool
 costs_before before [] [] smaller = smaller
 costs_before before [] (y ∷ ys) smaller = true

@@ -17,8 +17,8 @@ use Rattle.search_base.specs.SortKeys.{least_key, greatest_key, key_under}
 use Rattle.search_base.specs.Sums.{reading_cost}
 use Rattle.search_base.specs.Whole.{whole_cost}
 
--- the readings of each level, from the level that keeps every word to the one that keeps the fewest, and the words of all
--- items. A query without items has no level
+-- the readings of each level, from the level that keeps every word to the one that keeps the fewest, and the words of
+-- all items. Where there are no items there are no levels
 pub record Query : Type 0 where
   pub levels : List (List (List Block))
   pub whole : List (List ℕ)

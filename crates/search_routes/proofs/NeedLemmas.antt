@@ -113,7 +113,3 @@ named_most uid es i need before after is most = by (index_at uid es) is
     by : (o : Option Index) → or_refuse (NoIndex uid) o ≡ Ok i → after ≤ before + there_need o need
     by None is = absurd (cc)
     by (Some j) is = let same : i ≡ j = cc in subst (λ v. after ≤ before + need v) same most
-
-pub named_need : (uid : List ℕ) (es : Indexes) (i : Index) (need : Index → ℕ) (before after : ℕ) → index_named uid es ≡ Ok i
-    → after ≡ before + need i → after ≤ before + there_need (index_at uid es) need
-named_need uid es i need before after is count = named_most uid es i need before after is (omega (arith, count))

@@ -9,16 +9,6 @@ use Rattle.serde_json.specs.declared.value.Value.{Value}
 use Rattle.request_replies.specs.Replies.{index_data}
 use Rattle.search_routes.specs.Machine.{slice}
 
-pub passed_over : (skip room : ℕ) (x : Data) (rest : List Data) → 0 < skip → slice (skip - 1) room rest ≡ slice skip room (x ∷ rest)
-passed_over skip room x rest some =
-    let e : skip ≡ suc (skip - 1) = omega arith in
-    sym (ap (λ n. slice n room (x ∷ rest)) e)
-
-pub no_room : (skip room : ℕ) (x : Data) (rest : List Data) → room ≡ 0 → slice skip room rest ≡ slice skip room (x ∷ rest)
-no_room skip room x rest none =
-    let none_of : (xs : List Data) → take room xs ≡ [] = λ xs. ap (λ n. take n xs) none in
-    none_of (drop skip rest) ∙ sym (none_of (drop skip (x ∷ rest)))
-
 pub taken : (values : List Value) (value : Value) (skip room : ℕ) (x : Data) (rest : List Data) → view value ≡ x → skip ≡ 0 → 0 < room
     → map view (values ++ value ∷ []) ++ slice 0 (room - 1) rest ≡ map view values ++ slice skip room (x ∷ rest)
 taken values value skip room x rest is none some =

@@ -137,11 +137,6 @@ pub search_sent : (es : Indexes) (uid : List ℕ) (call : SearchView) (i : Index
     → index_named uid es ≡ Ok i → found i call ≡ Ok f → Sends (Ok (hits_answer call i.settings f)) result → Sends (answer_to es (search uid call)) result
 search_sent es uid call i f result at is sent = subst (λ a. Sends a result) (sym (answer_found es uid call i (Ok f) at is)) sent
 
--- or why its index refuses it
-pub search_refused : (es : Indexes) (uid : List ℕ) (call : SearchView) (i : Index) (why : SearchRefusal) (refusal : Refusal) → index_named uid es ≡ Ok i
-    → found i call ≡ Err why → refusal ≡ search_refusal why → answer_to es (search uid call) ≡ Err refusal
-search_refused es uid call i why refusal at is named = answer_found es uid call i (Err why) at is ∙ ap Err (sym named)
-
 -- ---- steps
 
 -- a change of the indexes, as a step
@@ -150,12 +145,6 @@ pub steps_changed : (s : State) (uid : List ℕ) (kind : KindData) (reply : Repl
     → Steps s (changed s uid kind) (Ok reply) (record { changes = s.changes + 1; indexes = es })
 steps_changed s uid kind reply es (is, sent) =
     (record { answer = accepted uid (type_of kind) s.changes; state = record { changes = s.changes + 1; indexes = es } }, rw is refl, sent, refl)
-
--- a change that is not made
-pub steps_unchanged : (s : State) (uid : List ℕ) (kind : KindData) (f : Fault Refusal) (es : Indexes)
-    → Grows (indexes_after s.changes s.indexes uid kind) (accepted uid (type_of kind) s.changes) s.indexes (Err f) es
-    → Steps s (changed s uid kind) (Err f) (record { changes = s.changes; indexes = es })
-steps_unchanged s uid kind f es (fails, same) = (fails_bind f (indexes_after s.changes s.indexes uid kind) _ fails, rw same refl)
 
 -- an answer that changes nothing, as a step
 pub steps_read : (s : State) (c : ReadData) (r : Result Reply (Fault Refusal)) → Sends (answer_to s.indexes c) r → Steps s (outcome s (read c)) r s

@@ -32,7 +32,7 @@ is_good_kind reset = true
 abbrev pub is_good : ChangeData → Bool
 is_good c = is_uid c.uid && is_good_kind c.kind
 
--- a change that the machine refuses is damage at the first byte of its payload
+-- where a payload begins: there a change is damaged that the machine does not take
 abbrev pub first_byte : List ℕ → Spot
 first_byte bytes = record { place = 0; found = slice_get bytes 0 }
 

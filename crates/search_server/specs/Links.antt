@@ -74,7 +74,7 @@ pub record Visited {L : Type 0} (at : L → Shared → LinkState) (old new : Doo
 abbrev pub AllTold : {L : Type 0} → DoorState L → DoorState L → List (Visit L) → Type 0
 AllTold old new visits = new.told ≡ append_known old.told (join (lines_from 1 visits))
 
--- all lines but the last are written, and of the last a part, which may be empty and is not the whole
+-- all lines but the last are written, and of the last not all bytes, maybe none
 pub record CutTold {L : Type 0} (old new : DoorState L) (visits : List (Visit L)) : Type 0 where
   pub front : List (List ℕ)
   pub last : List ℕ

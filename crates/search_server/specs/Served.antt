@@ -52,7 +52,7 @@ Outputs stream s events all =
     ⊎ ((kind : HeadKind) × (number : ℕ) × Ends stream (bad kind number)
     × (all ≡ replies most_requests s events ++ wire (refusal_answer kind) true ∷ []))
 
--- All replies but the last are written, and of the last a part, which may be empty and is not the whole.
+-- All replies but the last are written, and of the last not all bytes, maybe none.
 pub record CutAnswers (bytes : List ℕ) (old new : LinkState) (n : ℕ) : Type 0 where
   pub events : List Event
   pub went : Went old new n events

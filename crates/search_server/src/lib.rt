@@ -1,8 +1,8 @@
 //! The server: it opens the machine that two disks hold, serves a link from it, or the links of a door one after the
-//! other, and shows the demo, as the words of the command line ask.  The wire promise is the clause `promise` of
+//! other, and shows the demo, as the words of the command line ask. The wire promise is the clause `promise` of
 //! `serve_link`, and `pipe` of `run_search_server`: the bytes written on a link are the replies of the plain machine
 //! to the requests in the bytes read, by the status with which it ended (`specs/Served.antt`). The crash promise
-//! stands beside it: an accepted change is recorded before its reply is begun. So whatever a crash may now leave on
+//! stands beside it: no byte of a reply is written before the change stands on a disk. So whatever a crash may leave on
 //! the disks holds the state after all requests; where a disk failed, that state or the one before the last request,
 //! of whose reply no byte was written. The clause `serve` says that links are taken in the door's order, that each is
 //! served by these promises from what the one before left and given back once, and that a line for each is written to

@@ -6,8 +6,8 @@ use http_wire::HeadKind;
 /// How the program ended, or serving a link.
 #[derive(Clone, Copy, Debug, PartialEq, Eq)]
 pub enum Status {
-    /// The input ended between two requests, or a request asked to close; so many links as were asked were served, or
-    /// no more came; or the summary of the demo is written.
+    /// Nothing is left to do: the input ended where a request may begin, or the last request asked to close; as many
+    /// links as were asked for were served, or no more came; or the summary of the demo is written.
     Done,
     /// The words are none that the program knows. Serving a link never ends so.
     BadWords,
@@ -35,7 +35,7 @@ pub enum Status {
         kind: HeadKind,
         number: u64,
     },
-    /// 1,000,000 requests were served, and the last did not ask to close.
+    /// As many requests as one link may send, 1,000,000, were served, and it would go on.
     RequestsSpent,
     NoMemory,
 }

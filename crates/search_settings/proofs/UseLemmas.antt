@@ -9,7 +9,7 @@ use Rattle.std.proofs.lemmas.Bool.{cond_both, true≢false, eq-eqb, eqb-true}
 use Rattle.doc_rows.specs.declared.path_use.PathUse.{PathUse}
 use Rattle.index_settings.specs.View.{SettingsView}
 use Rattle.index_settings.specs.Paths.{first_place, covers}
-use Rattle.search_settings.specs.Uses.{same_rank, same_use, use_of, uses_from}
+use Rattle.search_settings.specs.Uses.{same_rank, same_use, uses_from}
 
 -- ---- the test of uses tells whether they are the same
 

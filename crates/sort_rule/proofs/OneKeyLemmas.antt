@@ -12,7 +12,7 @@ use Rattle.sort_rule.specs.Rows.{is_under}
 use Rattle.sort_rule.specs.Ordered.{AreOrdered}
 
 abbrev pub the_key : CostKey
-the_key = cost.Up (sort.Number (pos 2))
+the_key = cost.Up (sort.Number (pos 5))
 
 abbrev pub key_in : List ℕ → ℕ → Option CostKey
 key_in docs d = cond (has docs d) (Some the_key) None

@@ -21,16 +21,16 @@ struct OneKey {
     refuses: bool,
 }
 
-fn two() -> CostKey
-    ensures { result ≡ UpKey (NumberKey (pos 2)) }
+fn five() -> CostKey
+    ensures { result ≡ UpKey (NumberKey (pos 5)) }
 {
-    CostKey::Up(SortKey::Number(2))
+    CostKey::Up(SortKey::Number(5))
 }
 
 fn key_after(last: &CostKey) -> Option<CostKey>
-    ensures { result ≡ next_of (UpKey (NumberKey (pos 2)) ∷ []) (Some last.now) }
+    ensures { result ≡ next_of (UpKey (NumberKey (pos 5)) ∷ []) (Some last.now) }
 {
-    let key = two();
+    let key = five();
     if last.before(&key) { Some(key) } else { None }
 }
 
@@ -41,9 +41,9 @@ fn differ(key: &CostKey, other: &CostKey) -> bool
 }
 
 impl OrderedRows for OneKey {
-    ghost keys = { λ rows. UpKey (NumberKey (pos 2)) ∷ [] };
+    ghost keys = { λ rows. UpKey (NumberKey (pos 5)) ∷ [] };
 
-    ghost key = { λ rows d. if has rows.docs.ids d then Some (UpKey (NumberKey (pos 2))) else None };
+    ghost key = { λ rows d. if has rows.docs.ids d then Some (UpKey (NumberKey (pos 5))) else None };
 
     fn next_key(
         &self,
@@ -56,12 +56,12 @@ impl OrderedRows for OneKey {
         }
         match after {
             Some(last) => Ok(key_after(last)),
-            None => Ok(Some(two())),
+            None => Ok(Some(five())),
         }
     }
 
     fn docs_at(&self, alloc: Global, at: &CostKey, universe: &DocSet) -> Result<DocSet, NoMemory> {
-        let key = two();
+        let key = five();
         let other = differ(&key, at);
         if other {
             return Ok(DocSet::new(alloc));
@@ -79,12 +79,12 @@ impl OrderedRows for OneKey {
         if docs.is_empty() {
             return Ok(Some(buckets));
         }
-        buckets.push(Bucket { key: two(), docs })?;
+        buckets.push(Bucket { key: five(), docs })?;
         Ok(Some(buckets))
     }
 }
 
-// The documents of a universe, some of them under the key 2, and the others last.
+// The documents of a universe, some of them under the key 5, and the others last.
 fn buckets(
     rt: &impl Abort,
     alloc: Global,
@@ -106,7 +106,7 @@ fn set(rt: &impl Abort, alloc: Global, ids: &[u32]) -> DocSet {
 
 // Adds a bucket to what was told: its key and its documents.
 fn tell(rt: &impl Abort, bucket: &Bucket, told: &mut String) {
-    let key = if bucket.key == two() { "2" } else { "last" };
+    let key = if bucket.key == five() { "5" } else { "last" };
     write!(told, "{key}:").expect(rt, "memory");
     for id in bucket.docs.iter() {
         write!(told, " {}", id.0).expect(rt, "memory");
@@ -129,16 +129,17 @@ fn check_told(rt: &impl Abort, alloc: Global, stream: &mut SortBuckets<OneKey>, 
     assert!(rt; told.as_str() == wanted, "{wanted} {told}");
 }
 
-// The documents that have the key 2, those of the universe, and the buckets of these: the rows put two documents in
+// The documents that have the key 5, those of the universe, and the buckets of these: the rows put two documents in
 // order, and of more the key is gone through.
-const ROWS: [(&[u32], &[u32], &str); 5] = [
-    (&[1, 3, 9], &[0, 1, 2, 3], "2: 1 3; last: 0 2; "),
-    (&[1, 9], &[0, 9], "2: 9; last: 0; "),
+const ROWS: [(&[u32], &[u32], &str); 6] = [
+    (&[0, 2], &[0, 1, 2], "5: 0 2; last: 1; "),
+    (&[1, 3, 9], &[0, 1, 2, 3], "5: 1 3; last: 0 2; "),
+    (&[1, 9], &[0, 9], "5: 9; last: 0; "),
     (&[9], &[5, 6, 7], "last: 5 6 7; "),
     (
         &[1],
         &[0, 1, 2, 3, 4, 5, 6, 7, 8],
-        "2: 1; last: 0 2 3 4 5 6 7 8; ",
+        "5: 1; last: 0 2 3 4 5 6 7 8; ",
     ),
     (&[], &[], ""),
 ];

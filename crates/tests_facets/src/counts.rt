@@ -159,7 +159,7 @@ fn matches(rt: &impl Abort, alloc: Global, ids: &[u32], many: bool) -> DocSet {
     matching
 }
 
-fn asked(
+pub(crate) fn asked(
     rt: &impl Abort,
     alloc: Global,
     shelf: &Shelf,
@@ -176,7 +176,7 @@ fn asked(
     reply
 }
 
-fn told(rt: &impl Abort, alloc: Global, reply: &FacetReply) -> String {
+pub(crate) fn told(rt: &impl Abort, alloc: Global, reply: &FacetReply) -> String {
     let mut text = String::new(alloc);
     for row in &reply.rows {
         let (value, shown) = (row.value.as_str(), row.shown.as_str());

@@ -12,6 +12,8 @@ mod counts;
 #[cfg(test)]
 mod facets;
 #[cfg(test)]
+mod films;
+#[cfg(test)]
 mod filters;
 #[cfg(test)]
 mod sorts;

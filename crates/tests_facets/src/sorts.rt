@@ -12,7 +12,7 @@ const GENRES: PathId = PathId(1);
 
 const ALL: [u32; 5] = [0, 1, 2, 3, 9];
 
-// A document of these years and genres, which exist where there are some.
+// A document of these years and genres, which exist where there are some. Document 1 has an empty genre too, and 2 null.
 fn document(rt: &impl Abort, alloc: Global, id: u32, years: &[i128], genres: &[&str]) -> DocLeaves {
     let mut leaves = Vec::new(alloc);
     let mut marks = Vec::new(alloc);
@@ -37,6 +37,12 @@ fn document(rt: &impl Abort, alloc: Global, id: u32, years: &[i128], genres: &[&
     for (path, some) in [(YEAR, !years.is_empty()), (GENRES, !genres.is_empty())] {
         if some {
             let kind = MarkKind::Exists;
+            marks.push(Mark { path, kind }).expect(rt, "memory");
+        }
+    }
+    for (of, kind) in [(1, MarkKind::Empty), (2, MarkKind::Null)] {
+        if of == id {
+            let path = GENRES;
             marks.push(Mark { path, kind }).expect(rt, "memory");
         }
     }

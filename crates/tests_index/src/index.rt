@@ -452,21 +452,25 @@ fn several_criteria_and_values_of_two_kinds(rt: HostRuntime) {
 }
 
 // Sixty documents with a value of x each, in no order, and one without: those of the twenty greatest values are high, and
-// the others low.
+// the others low. The one without and two others are rare: so few of all are sorted by their own values.
 fn valued(rt: &impl Abort, alloc: Global) -> String {
     let mut body = String::new(alloc);
-    add(rt, &mut body, "[{\"id\":60,\"t\":\"low\"}");
+    add(rt, &mut body, "[{\"id\":60,\"t\":\"low rare\"}");
     for id in 0..60u32 {
         let x = id * 7 % 60;
         let name = if x < 40 { "low" } else { "high" };
-        write!(body, ",{{\"id\":{id},\"t\":\"{name}\",\"x\":{x}}}").expect(rt, "memory");
+        let rare = if id == 1 || id == 41 { " rare" } else { "" };
+        write!(body, ",{{\"id\":{id},\"t\":\"{name}{rare}\",\"x\":{x}}}").expect(rt, "memory");
     }
     add(rt, &mut body, "]");
     body
 }
 
 // A word, by what its documents are sorted, how many are passed over, and the four that are given then.
-const VALUED: [(&str, &str, u64, &str); 7] = [
+const VALUED: [(&str, &str, u64, &str); 10] = [
+    ("rare", "x:asc", 0, "1 41 60 of 3"),
+    ("rare", "x:desc", 0, "41 1 60 of 3"),
+    ("rare", "x:desc", 2, "60 of 3"),
     ("high", "x:asc", 0, "40 23 6 49 of 20"),
     ("high", "x:asc", 17, "51 34 17 of 20"),
     ("high", "x:desc", 0, "17 34 51 8 of 20"),

@@ -9,7 +9,7 @@ use Rattle.unicode_segmentation.specs.Word.{word_bounds}
 abbrev pub step : Bool → ℕ
 step hard = if hard then 8 else 1
 
--- the position of the word after one at `last`. The first word has position 0
+-- the position of the word after one at `last`. Positions begin at 0
 abbrev pub next_position : Option ℕ → Bool → ℕ
 next_position None hard = 0
 next_position (Some last) hard = last + step hard

@@ -11,7 +11,7 @@ use unicode_segmentation::UnicodeSegmentation;
 ///
 /// The segments of the text are those of UAX #29. One that holds a letter or a number (it is
 /// alphabetic, or of general category Nd, Nl or No) is a word, unless its normal form is empty;
-/// any other is a separator. The first word has position 0. Each next position is one more or,
+/// any other is a separator. Positions begin at 0. Each next position is one more or,
 /// where one of the separators between the two words holds one of `. ; , ! ? ( ) [ ] { } |`,
 /// eight more.
 pub fn tokens(alloc: Global, text: &str) -> Result<Vec<Token>, NoMemory>

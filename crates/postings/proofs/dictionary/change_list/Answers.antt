@@ -1,6 +1,6 @@
-use Rattle.std.proofs.Common.{◌≡◌, not, ◌&&◌, ◌||◌, Some, sym, ap, ap₂, ◌∙◌, rules}
+use Rattle.std.proofs.Common.{◌≡◌, not, ◌&&◌, ◌||◌, Some, ap, ap₂, ◌∙◌, rules}
 use Rattle.sorted_pages.specs.Entries.{has, union, difference}
-use Rattle.postings.specs.Dictionary.{value_at, entries_of}
+use Rattle.postings.specs.Dictionary.{entries_of}
 use Rattle.postings.proofs.WordLemmas.{written_here}
 use Rattle.postings.proofs.dictionary.change_list.Goals as goal
 

@@ -1,6 +1,5 @@
-use Rattle.std.proofs.Common.{◌≡◌, ℕ, ◌+◌, ◌<◌, ◌≤◌, false, List, ◌∷◌, ◌++◌, length, take, drop, get_or, None, sym, ap, subst, ◌∙◌, rules, arith}
+use Rattle.std.proofs.Common.{◌≡◌, ◌+◌, ◌<◌, false, length, take, drop, get_or, None, sym, subst, arith}
 use Rattle.std.specs.Ordering.{is_eq}
-use Rattle.postings.specs.declared.change.WordChange.{WordChange}
 use Rattle.postings.specs.Dictionary.{word_cmp, value_at, RoomAt, IsTight}
 use Rattle.postings.proofs.RowLemmas.{Told, told_none, told_more, take_one_more, rows_apart, absent_before}
 use Rattle.postings.proofs.TightLemmas.{tight_less, drop_one}

@@ -1,4 +1,4 @@
-use Rattle.std.proofs.Common.{◌≡◌, ℕ, ◌<◌, ◌≤◌, List, length, take, drop, get_or}
+use Rattle.std.proofs.Common.{ℕ, ◌<◌, ◌≤◌, List, length, take, drop, get_or}
 use Rattle.postings.specs.Dictionary.{value_at, RoomAt, IsTight}
 use Rattle.postings.specs.declared.change.WordChange.{WordChange}
 use Rattle.postings.proofs.RowLemmas.{Told}

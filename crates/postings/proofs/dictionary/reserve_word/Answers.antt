@@ -1,4 +1,4 @@
-use Rattle.std.proofs.Common.{◌≡◌, ℕ, List, None, Some, sym, ap, subst, ◌∙◌, rules}
+use Rattle.std.proofs.Common.{◌≡◌, None, Some, sym, ap, subst, ◌∙◌, rules}
 use Rattle.std.specs.BTreeMap.{get}
 use Rattle.postings.specs.Dictionary.{word_cmp, value_at, entries_of}
 use Rattle.postings.proofs.WordLemmas.{Written, read_alike, written_other}

@@ -1,4 +1,4 @@
-use Rattle.std.proofs.Common.{◌≡◌, ℕ, ◌<◌, ◌≤◌, List, None, length, get_or}
+use Rattle.std.proofs.Common.{◌≡◌, ℕ, ◌<◌, List, None, get_or}
 use Rattle.postings.specs.Dictionary.{value_at, entries_of, RoomAt}
 use Rattle.postings.specs.declared.change.WordChange.{WordChange}
 use Rattle.postings.proofs.dictionary.reserve_words.Given as goal

@@ -1,4 +1,4 @@
-use Rattle.std.proofs.Common.{◌≡◌, ◌==◌, ℕ, Some, None, List, filter, sym, ap, subst, ◌∙◌}
+use Rattle.std.proofs.Common.{◌≡◌, ◌==◌, filter, sym, ap, subst, ◌∙◌}
 use Rattle.search_base.specs.GraphView.{GraphView}
 use Rattle.search_base.specs.Whole.{whole_cost}
 use Rattle.sort_rule.specs.Rows.{is_under}

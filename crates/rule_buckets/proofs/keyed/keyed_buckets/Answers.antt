@@ -1,11 +1,10 @@
-use Rattle.std.proofs.Common.{◌≡◌, ℕ, true, List, Option, sym, ap, ap₂, ◌∙◌, subst}
+use Rattle.std.proofs.Common.{sym, ap, ap₂, ◌∙◌, subst}
 use Rattle.search_base.specs.declared.cost_key.CostKey.{CostKey}
-use Rattle.search_base.specs.declared.rule.Rule.{Rule}
 use Rattle.sort_rule.specs.Rows.{AreRows}
 use Rattle.sort_rule.specs.Buckets.{key_or}
 use Rattle.rule_buckets.specs.declared.keyed.KeyedRows.{KeyedRows}
 use Rattle.rule_buckets.specs.Entries.{QueryView, entry_in}
-use Rattle.rule_buckets.specs.Keyed.{keys_of, key_in, missing_of}
+use Rattle.rule_buckets.specs.Keyed.{keys_of, key_in}
 use Rattle.rule_buckets.specs.Rules.{is_keyed}
 use Rattle.rule_buckets.proofs.Keys.{keyed-entry, keyed-rows}
 use Rattle.rule_buckets.proofs.keyed.keyed_buckets.Goals as goal

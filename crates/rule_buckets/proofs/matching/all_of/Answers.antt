@@ -1,4 +1,4 @@
-use Rattle.std.proofs.Common.{◌≡◌, ℕ, ◌||◌, sym, ap, ◌∙◌}
+use Rattle.std.proofs.Common.{◌||◌, sym, ap, ◌∙◌}
 use Rattle.doc_sets.specs.Sets.{has}
 use Rattle.doc_sets.proofs.SetLemmas.{has-union}
 use Rattle.rule_buckets.proofs.Members.{any-more}

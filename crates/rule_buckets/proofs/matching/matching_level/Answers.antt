@@ -1,6 +1,5 @@
-use Rattle.std.proofs.Common.{◌≡◌, ℕ, Some, Option, None, IfSome, sym, ap, subst, ◌∙◌, ◌&&◌, true, IfNone}
+use Rattle.std.proofs.Common.{◌≡◌, ℕ, Option, None, ap, subst, ◌∙◌, ◌&&◌, true, IfNone}
 use Rattle.std.specs.List.{slice_get}
-use Rattle.search_base.specs.GraphView.{LevelView}
 use Rattle.search_base.specs.WordsCost.{level_matches}
 use Rattle.condition_graph.specs.Meets.{meets}
 use Rattle.condition_graph.specs.Promise.{GivesLeastCost}

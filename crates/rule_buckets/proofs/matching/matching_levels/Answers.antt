@@ -1,4 +1,4 @@
-use Rattle.std.proofs.Common.{◌≡◌, ◌<◌, ◌+◌, ◌++◌, ◌∷◌, [], ℕ, List, Some, length, refl, sym, ap, subst, ◌∙◌, ◌&&◌, arith}
+use Rattle.std.proofs.Common.{◌≡◌, ◌<◌, ◌+◌, ℕ, List, refl, sym, subst, ◌∙◌, ◌&&◌, arith}
 use Rattle.std.specs.List.{slice_get}
 use Rattle.search_base.specs.WordsCost.{level_matches}
 use Rattle.doc_sets.specs.Sets.{has}

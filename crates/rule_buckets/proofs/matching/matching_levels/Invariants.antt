@@ -1,7 +1,3 @@
-use Rattle.std.proofs.Common.{◌≡◌, ℕ, ◌&&◌, not, take, length}
-use Rattle.std.specs.List.{list_any}
-use Rattle.search_base.specs.WordsCost.{level_matches}
-use Rattle.doc_sets.specs.Sets.{has}
 use Rattle.rule_buckets.proofs.Levels.{AreFirst}
 use Rattle.rule_buckets.proofs.matching.matching_levels.Given as goal
 

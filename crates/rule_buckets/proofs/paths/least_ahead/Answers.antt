@@ -1,4 +1,4 @@
-use Rattle.std.proofs.Common.{◌≡◌, Some, sym, ap, ap₂, ◌∙◌, take, option_map}
+use Rattle.std.proofs.Common.{Some, sym, ap, ap₂, ◌∙◌, take, option_map}
 use Rattle.search_base.specs.Least.{lesser, least_by}
 use Rattle.search_base.proofs.LeastLemmas.{lesser-none}
 use Rattle.rule_buckets.specs.Streams.{next_cost}

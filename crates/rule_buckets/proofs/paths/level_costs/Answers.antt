@@ -1,4 +1,4 @@
-use Rattle.std.proofs.Common.{◌≡◌, ◌<◌, ℕ, Some, Option, true, length, sym, ap, subst, ◌∙◌}
+use Rattle.std.proofs.Common.{◌≡◌, ◌<◌, ℕ, Option, true, length, sym, ap, subst, ◌∙◌}
 use Rattle.search_base.specs.declared.cost_key.CostKey.TheVariants.{Number}
 use Rattle.search_base.specs.Tuple.{cost_of}
 use Rattle.doc_sets.specs.Sets.{has}

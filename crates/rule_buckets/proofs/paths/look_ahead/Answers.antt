@@ -1,13 +1,12 @@
-use Rattle.std.proofs.Common.{◌≡◌, ℕ, Some, Option, None, true, false, refl, sym, ap, subst, ◌∙◌, ◌||◌}
+use Rattle.std.proofs.Common.{ℕ, Option, None, refl, sym, ap, subst, ◌∙◌}
 use Rattle.condition_graph.specs.Meets.{meets}
-use Rattle.doc_sets.specs.Sets.{has}
 use Rattle.doc_sets.specs.SetView.{SetView}
 use Rattle.path_costs.specs.Costs.{cost_in, IsBucket}
 use Rattle.rule_buckets.specs.declared.source.Asked.{Asked}
 use Rattle.rule_buckets.specs.Entries.{entry_in}
 use Rattle.rule_buckets.specs.Streams.{LevelCostsView, IsStream, IsCosts, is_member, is_among}
 use Rattle.rule_buckets.proofs.Members.{told}
-use Rattle.rule_buckets.proofs.Streaming.{looked-ahead, looked-same, ended}
+use Rattle.rule_buckets.proofs.Streaming.{looked-ahead, looked-same}
 use Rattle.rule_buckets.proofs.paths.look_ahead.Goals as goal
 
 pub returns-in-Some-2-clause-ready : goal.returns-in-Some-2-clause-ready

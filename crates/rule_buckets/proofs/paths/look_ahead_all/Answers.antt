@@ -1,8 +1,8 @@
-use Rattle.std.proofs.Common.{◌≡◌, ℕ, false, sym, ap, ◌∙◌}
+use Rattle.std.proofs.Common.{◌≡◌, ℕ, sym, ◌∙◌}
 use Rattle.std.proofs.lemmas.List.{nil_from_length}
 use Rattle.rule_buckets.specs.Streams.{LevelCostsView, IsReady, is_member}
 use Rattle.rule_buckets.proofs.Members.{told}
-use Rattle.rule_buckets.proofs.Streaming.{ahead-more, ahead-ended, ahead-end}
+use Rattle.rule_buckets.proofs.Streaming.{ahead-more, ahead-end}
 use Rattle.rule_buckets.proofs.paths.look_ahead_all.Goals as goal
 
 pub loop-stream-preserved-in-Continue-branch-4 : goal.loop-stream-preserved-in-Continue-branch-4

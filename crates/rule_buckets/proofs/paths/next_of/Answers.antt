@@ -1,6 +1,5 @@
-use Rattle.std.proofs.Common.{◌≡◌, ℕ, List, Some, None, false, refl, sym, ap, subst, ◌∙◌, arith}
+use Rattle.std.proofs.Common.{List, Some, sym, ap, ◌∙◌, arith}
 use Rattle.search_base.specs.Least.{least_by}
-use Rattle.doc_sets.specs.Sets.{has}
 use Rattle.rule_buckets.specs.Streams.{LevelCostsView, next_cost, is_in_any, remaining_in}
 use Rattle.rule_buckets.proofs.Members.{no-members}
 use Rattle.rule_buckets.proofs.Streaming.{has-remaining, least-all, none-ready, next-bucket}

@@ -1,11 +1,7 @@
-use Rattle.std.proofs.Common.{◌≡◌, ◌||◌, ℕ, Some, List, true, refl, sym, ap, subst, ◌∙◌, arith, drop, flat_map, ◌∷◌, []}
+use Rattle.std.proofs.Common.{List, sym, ap, ◌∙◌}
 use Rattle.std.proofs.lemmas.List.{nil_from_length}
-use Rattle.std.specs.List.{list_any, slice_get}
-use Rattle.doc_sets.specs.Sets.{has}
+use Rattle.std.specs.List.{slice_get}
 use Rattle.doc_sets.specs.SetView.{SetView}
-use Rattle.doc_sets.proofs.SetLemmas.{increasing-same, increasing-or_all}
-use Rattle.rule_buckets.specs.Listed.{left_from}
-use Rattle.rule_buckets.specs.Streams.{LevelCostsView, is_in_any, ahead_ids}
 use Rattle.rule_buckets.proofs.Members.{first-left}
 use Rattle.rule_buckets.proofs.Streaming.{same-remaining, pushed-more}
 use Rattle.rule_buckets.proofs.paths.path_buckets.Goals as goal

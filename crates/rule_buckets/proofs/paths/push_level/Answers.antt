@@ -1,4 +1,4 @@
-use Rattle.std.proofs.Common.{◌≡◌, ℕ, ◌||◌, sym, ap, ◌∙◌}
+use Rattle.std.proofs.Common.{◌||◌, ap, ◌∙◌}
 use Rattle.rule_buckets.specs.Streams.{is_member, is_in_any}
 use Rattle.rule_buckets.proofs.Members.{any-pushed}
 use Rattle.rule_buckets.proofs.paths.push_level.Goals as goal

@@ -1,8 +1,6 @@
-use Rattle.std.proofs.Common.{◌≡◌, ℕ, ◌||◌, ◌&&◌, not, false, [], ◌∷◌, ◌++◌, List, length, refl, sym, ap, subst, ◌∙◌}
+use Rattle.std.proofs.Common.{[], ◌∷◌, ◌++◌, List, sym, ap, subst, ◌∙◌}
 use Rattle.std.proofs.lemmas.List.{nil_from_length}
-use Rattle.doc_sets.specs.Sets.{has}
-use Rattle.rule_buckets.specs.Entries.{entry_in, is_entry}
-use Rattle.rule_buckets.specs.Streams.{LevelCostsView, is_in_any, without}
+use Rattle.rule_buckets.specs.Streams.{LevelCostsView}
 use Rattle.rule_buckets.proofs.Streaming.{AreTaken, taken-more, taken-end}
 use Rattle.rule_buckets.proofs.paths.take_all.Goals as goal
 

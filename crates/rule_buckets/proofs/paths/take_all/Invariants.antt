@@ -1,8 +1,3 @@
-use Rattle.std.proofs.Common.{◌≡◌, ℕ, ◌||◌, ◌&&◌, not}
-use Rattle.std.specs.List.{AllByRecursion}
-use Rattle.doc_sets.specs.Sets.{has}
-use Rattle.rule_buckets.specs.Entries.{entry_in, is_entry}
-use Rattle.rule_buckets.specs.Streams.{IsStream, IsReady, ComesFrom, is_in_any}
 use Rattle.rule_buckets.proofs.Streaming.{AreTaken}
 use Rattle.rule_buckets.proofs.paths.take_all.Given as goal
 

@@ -1,8 +1,7 @@
-use Rattle.std.proofs.Common.{◌≡◌, ℕ, ◌||◌, Some, Option, None, refl, sym, ap, subst, ◌∙◌}
+use Rattle.std.proofs.Common.{◌≡◌, ◌||◌, Some, sym, ap, ◌∙◌}
 use Rattle.doc_sets.specs.Sets.{has}
-use Rattle.doc_sets.specs.SetView.{SetView}
 use Rattle.doc_sets.proofs.SetLemmas.{has-union}
-use Rattle.rule_buckets.specs.Streams.{LevelCostsView, taken_at, without}
+use Rattle.rule_buckets.specs.Streams.{LevelCostsView, without}
 use Rattle.rule_buckets.proofs.Streaming.{left-none, taken-all}
 use Rattle.rule_buckets.proofs.paths.take_from.Goals as goal
 

@@ -1,8 +1,6 @@
-use Rattle.std.proofs.Common.{◌≡◌, true, false, sym, ap, ◌∙◌, subst}
-use Rattle.search_base.specs.Graphs.{IsGraph}
-use Rattle.rule_buckets.specs.Entries.{QueryView, entry_in}
-use Rattle.rule_buckets.specs.Listed.{AreListed}
-use Rattle.rule_buckets.specs.Rules.{is_listed, is_keyed}
+use Rattle.std.proofs.Common.{true, false, sym, ap, ◌∙◌}
+use Rattle.rule_buckets.specs.Entries.{QueryView}
+use Rattle.rule_buckets.specs.Rules.{is_listed}
 use Rattle.rule_buckets.proofs.Within.{listed-entries, why-listed, path-rule, path-count}
 use Rattle.rule_buckets.proofs.rules.counted.Goals as goal
 

@@ -1,4 +1,4 @@
-use Rattle.std.proofs.Common.{◌≡◌, ℕ, length, map, sym, ap, subst, ◌∙◌}
+use Rattle.std.proofs.Common.{length, map, sym, ap, subst, ◌∙◌}
 use Rattle.doc_sets.specs.Sets.{has, intersection}
 use Rattle.doc_sets.specs.SetView.{SetView}
 use Rattle.bucket_sort.specs.Buckets.{AreAmong}

@@ -1,7 +1,7 @@
-use Rattle.std.proofs.Common.{◌≡◌, ◌∙◌, sym, ap, subst, refl, arith, ◌<◌, ◌≤◌, List, [], ◌∷◌}
+use Rattle.std.proofs.Common.{sym, subst, arith, List}
 use Rattle.condition_graph.specs.declared.graph.ConditionEdge.{ConditionEdge}
 use Rattle.condition_graph.specs.Promise.{IsConditionGraph}
-use Rattle.path_costs.proofs.TestLemmas.{IsShort, two-edges}
+use Rattle.path_costs.proofs.TestLemmas.{two-edges}
 use Rattle.tests_sets.proofs.paths.two_edges.Goals as goal
 
 pub returns : goal.returns

@@ -1,10 +1,10 @@
 use Rattle.std.specs.List.{starts_with}
-use Rattle.std.proofs.Common.{◌≡◌, List, None, nat_eq, if◌then◌else◌, sym, ap, subst, ◌∙◌, rules}
+use Rattle.std.proofs.Common.{None, nat_eq, if◌then◌else◌, sym, ap, subst, ◌∙◌, rules}
 use Rattle.std.specs.List.Sorted.{IsStrictlySortedBy}
 use Rattle.std.specs.Map.{keys_of}
 use Rattle.postings.specs.Dictionary.{word_cmp, value_at, list_at, some_list}
 use Rattle.postings.specs.Prefixes.{first_rows}
-use Rattle.postings.proofs.PrefixLemmas.{from_prefix, shows_all, rows_sorted}
+use Rattle.postings.proofs.PrefixLemmas.{shows_all, rows_sorted}
 use Rattle.postings.proofs.postings.Postings.with_prefix.Goals as goal
 
 pub returns-clause-lists : goal.returns-clause-lists

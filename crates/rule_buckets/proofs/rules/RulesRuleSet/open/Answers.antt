@@ -1,8 +1,4 @@
-use Rattle.std.proofs.Common.{◌≡◌, ℕ, List, sym, ap, ap₂, ◌∙◌, subst, get_or, unwrap_or}
-use Rattle.std.proofs.lemmas.Option.{unwrap_or-slice_get}
-use Rattle.search_base.specs.declared.rule.Rule.{Rule}
-use Rattle.search_base.specs.declared.rule.Rule.TheVariants.{Words}
-use Rattle.rule_buckets.specs.Entries.{QueryView, entry_in, entry_of, entry_at}
+use Rattle.std.proofs.Common.{sym, subst}
 use Rattle.rule_buckets.specs.Rules.{RulesView, AreTheirs}
 use Rattle.rule_buckets.proofs.rules.RulesRuleSet.open.Goals as goal
 

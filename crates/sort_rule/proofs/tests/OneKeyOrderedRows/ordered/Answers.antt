@@ -12,7 +12,7 @@ returns-then-is_empty c =
 
 pub returns : goal.returns
 returns c =
-    let bucket : Bucket = record { key = c.two.result; docs = c.in_ok-docs.docs } in
+    let bucket : Bucket = record { key = c.five.result; docs = c.in_ok-docs.docs } in
     subst (λ (l : List Bucket). AreOrdered (key_in c.args.self.now.docs.ids) c.args.universe.now.ids (reverse l))
     (sym (c.in_ok-push.ensures.items ∙ ap (λ l. l ++ (bucket ∷ [])) c.new-buckets.ensures.items))
-    (one-ordered c.args.self.now.docs.ids c.args.universe.now.ids bucket c.two.ensures c.in_ok-docs.ensures (some-length _ (sym c.if-is_empty.ensures)))
+    (one-ordered c.args.self.now.docs.ids c.args.universe.now.ids bucket c.five.ensures c.in_ok-docs.ensures (some-length _ (sym c.if-is_empty.ensures)))
