@@ -52,8 +52,8 @@ def seconds(binary, requests):
 def main():
     parser = argparse.ArgumentParser()
     parser.add_argument("binary", nargs="?", default=load.BINARY)
-    parser.add_argument("--documents", type=int, default=500)
-    parser.add_argument("--searches", type=int, default=20)
+    parser.add_argument("--documents", type=int, default=20_000)
+    parser.add_argument("--searches", type=int, default=200)
     parser.add_argument("--rounds", type=int, default=5)
     asked = parser.parse_args()
     begin = [load.request(body) for body in load.bodies(asked.documents, 1000)]

@@ -6,7 +6,7 @@ to find those that have a value of a range.
 
 BIN is crates/bench_facets/out/bench_facets, which `rt run` in crates/bench_facets makes. There are N thousand
 documents (100). Each thing is done many times by one process, and what a process takes that does it no time is taken
-off. Counted is the time of the processor, the best of three runs, and beside it stands the ratio to a plain scan of as
+off. Counted is the time of the processor, the best of two runs, and beside it stands the ratio to a plain scan of as
 many numbers of eight bytes as there are documents, which this script does in the same run. Memory is that of the
 process at its peak, without that of one that keeps the leaves alone. Nothing tests these numbers.
 """
@@ -43,13 +43,13 @@ def main():
     asked = parser.parse_args()
     documents = asked.thousands * 1000
     plain = scan(documents)
-    leaves, kept = min(run(asked.binary, "leaves", asked.thousands, 0) for _ in range(3))
-    idle, peak = min(run(asked.binary, "many", asked.thousands, 0) for _ in range(3))
+    leaves, kept = min(run(asked.binary, "leaves", asked.thousands, 0) for _ in range(2))
+    idle, peak = min(run(asked.binary, "many", asked.thousands, 0) for _ in range(2))
     print(f"{documents:,} documents indexed at once: {(idle - leaves) / documents * 1e6:.1f} µs a document, "
           f"{(peak - kept) * 1024 / documents:.0f} bytes a document")
-    for what, rounds in (("many", 10_000), ("few", 20_000), ("prices", 10_000), ("ids", 10_000), ("narrow", 20_000),
-                         ("wide", 2_000)):
-        busy = min(run(asked.binary, what, asked.thousands, rounds)[0] for _ in range(3))
+    for what, rounds in (("many", 40_000), ("few", 200_000), ("prices", 40_000), ("ids", 40_000), ("narrow", 200_000),
+                         ("wide", 20_000)):
+        busy = min(run(asked.binary, what, asked.thousands, rounds)[0] for _ in range(2))
         spent = max(busy - idle, 0) / rounds * 1e6
         print(f"{what:8} {spent:10.1f} µs a question ({spent / plain:.3f} of a plain scan)")
 

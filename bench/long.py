@@ -44,7 +44,7 @@ def processor_time(binary, text, query, rounds):
 def main():
     parser = argparse.ArgumentParser()
     parser.add_argument("binary", nargs="?", default="crates/rank_server/out/rank_server")
-    parser.add_argument("--rounds", type=int, default=20)
+    parser.add_argument("--rounds", type=int, default=2_000)
     arguments = parser.parse_args()
     binary = os.path.abspath(arguments.binary)
     for title, words in TEXTS.items():

@@ -54,10 +54,11 @@ def main():
     print(f"{documents:,} documents put in, a thousand at once: {idle / documents * 1e6:.1f} µs a document, "
           f"{peak * 1024 / documents:.0f} bytes a document")
     for what, rounds, unit, each in (
-            ("put", 50_000, "µs a document", 1), ("replace", 50_000, "µs a document", 1), ("walk", 300, "ns a place", places),
-            ("word", 50_000, "µs a question", 1), ("prefix", 10_000, "µs a question", 1),
-            ("phrase", 10_000, "µs a question", 1), ("pair", 10_000, "µs a question", 1), ("near", 1_000, "µs a question", 1),
-            ("bucket", 2_000, "µs a question", 1)):
+            ("put", 200_000, "µs a document", 1), ("replace", 200_000, "µs a document", 1),
+            ("walk", 300, "ns a place", places), ("word", 100_000, "µs a question", 1),
+            ("prefix", 100_000, "µs a question", 1), ("phrase", 100_000, "µs a question", 1),
+            ("pair", 40_000, "µs a question", 1), ("near", 10_000, "µs a question", 1),
+            ("bucket", 20_000, "µs a question", 1)):
         busy = min(run(asked.binary, what, asked.thousands, rounds)[0] for _ in range(2))
         spent = max(busy - idle, 0) / rounds / each
         shown = spent * (1e9 if unit.startswith("ns") else 1e6)
