@@ -59,6 +59,12 @@ pub record StreamView (S : Type 0) : Type 0 where
   pub query : QueryView S
   pub remaining : List ℕ
 
+-- the same of the buckets of a rule, and whether memory has run out
+pub record BucketsView (S : Type 0) : Type 0 where
+  pub query : QueryView S
+  pub remaining : List ℕ
+  pub failed : Bool
+
 -- the entry is this cost
 abbrev pub is_entry : ℕ → CostKey → Bool
 is_entry cost (Number n) = n == cost

@@ -6,7 +6,7 @@ ghost use Rattle.rule_buckets.specs.Entries.{is_match};
 ghost use Rattle.rule_buckets.specs.Listed.{left_from};
 ghost use Rattle.rule_buckets.specs.Rules.{AreTheirs, IsCount, is_keyed, is_listed};
 
-use crate::buckets::{Kind, RuleBuckets};
+use crate::buckets::{Kind, KindBuckets, RuleBuckets};
 use crate::keyed::keyed_buckets;
 use crate::listed::ListedBuckets;
 use crate::matching::{all_of, level_count, matching_levels, within};
@@ -116,9 +116,10 @@ impl<'a, S: RuleSource> RuleSet for Rules<'a, S> {
             rule: self.rules[level],
         };
         if is_keyed(self.graph, query.rule) {
-            return Ok(RuleBuckets {
+            let buckets = KindBuckets {
                 kind: Kind::Keyed(keyed_buckets(alloc, query, universe)?),
-            });
+            };
+            return Ok(RuleBuckets::new(buckets));
         }
         let sets = sets_of(alloc, self, &universe)?;
         let buckets = counted(alloc, query, sets)?;
@@ -185,5 +186,5 @@ fn counted<'a, S: RuleSource>(
     } else {
         Kind::Paths(path_buckets(alloc, query, sets)?)
     };
-    Ok(RuleBuckets { kind })
+    Ok(RuleBuckets::new(KindBuckets { kind }))
 }
