@@ -9,6 +9,7 @@ use Rattle.search_base.specs.declared.rule.Rule.TheVariants.{Words}
 use Rattle.search_base.specs.GraphView.{LevelView}
 use Rattle.search_base.specs.Least.{lesser, least}
 use Rattle.search_base.specs.Occurrence.{matches}
+use Rattle.search_base.specs.Query.{any_matches, least_over}
 use Rattle.search_base.specs.Readings.{readings}
 use Rattle.search_base.specs.Sums.{reading_cost, least_cost}
 use Rattle.search_base.specs.WordsCost.{level_matches}
@@ -45,3 +46,10 @@ least-none f none (x ∷ xs) = join (least (map f xs)) (least-none f none xs)
 pub words-cost_nothing : (places : List Place) (level : LevelView) → IfSome (least_cost Words places level) (λ n. n ≡ 0)
 unfolding least_cost
 words-cost_nothing places level = least-none (reading_cost Words places) (no-words places) (filter (matches places) (readings level))
+
+-- the same of any readings
+pub some-over : (rule : Rule) (places : List Place) (all : List (List Block)) → is_some (least_over rule places all) ≡ any_matches places all
+some-over rule places all = some-any (reading_cost rule places) (matches places) all
+
+pub words-over_nothing : (places : List Place) (all : List (List Block)) → IfSome (least_over Words places all) (λ n. n ≡ 0)
+words-over_nothing places all = least-none (reading_cost Words places) (no-words places) (filter (matches places) all)

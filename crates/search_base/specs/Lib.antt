@@ -20,6 +20,7 @@ pub mod Whole
 pub mod SortKeys
 pub mod EmptyQuery
 pub mod Query
+pub mod Terms
 pub mod Hits
 pub mod Gives
 pub mod Trying

@@ -11,12 +11,11 @@ mod cost_key;
 mod document;
 mod fault;
 mod memory;
+mod outcome;
 mod position;
 mod query;
 mod rule;
 mod steps;
-#[cfg(test)]
-mod tests;
 mod token;
 mod value;
 mod word;
@@ -25,6 +24,7 @@ pub use cost_key::{CostKey, SortKey, keys_are_ordered};
 pub use document::{DocId, DocRows, Leaf, Mark, MarkKind, PathId, Place};
 pub use fault::Fault;
 pub use memory::NoMemory;
+pub use outcome::OutcomeRow;
 pub use position::bucket;
 pub use query::{
     Block, Graph, Kind, LevelGraph, PlacedBlock, Strategy, Term, empty_queries_cost_nothing,
