@@ -3,3 +3,4 @@ pub mod LevelLemmas
 pub mod ReadingLemmas
 pub mod SoundLemmas
 pub mod CostLemmas
+pub mod TermLemmas

@@ -93,7 +93,7 @@ module _ (rows : List SynonymRowView) where
   not_at_end k n more h = rw (differs k n (inr h)) refl
 
   -- the readings that begin with a block of the first n items
-  abbrev first_read : List ItemView → ℕ → List (List Block)
+  abbrev pub first_read : List ItemView → ℕ → List (List Block)
   first_read items n = begun_by (choices rows (take n items)) (readings_of rows (drop n items))
 
   spans_read : (onward : ℕ → List (List Block)) (at : ℕ) (items : List ItemView) (j n : ℕ)
@@ -107,7 +107,7 @@ module _ (rows : List SynonymRowView) where
       ∙ ap (λ (found : List (List Block)). first_read items j ++ found) (spans_read onward at items (suc j) n (λ i low high. known i (omega arith) (omega arith)))
 
   -- the first one, two or three items are a block
-  first_items_read : (item : ItemView) (rest : List ItemView) → flat_map (first_read (item ∷ rest)) (numbers 1 (min (length (item ∷ rest)) most_joined)) ≡ readings_of rows (item ∷ rest)
+  pub first_items_read : (item : ItemView) (rest : List ItemView) → flat_map (first_read (item ∷ rest)) (numbers 1 (min (length (item ∷ rest)) most_joined)) ≡ readings_of rows (item ∷ rest)
   first_items_read a [] = append-nil _
   first_items_read a (b ∷ []) = ap (λ (found : List (List Block)). first_read (a ∷ b ∷ []) 1 ++ found) (append-nil _)
   first_items_read a (b ∷ c ∷ items) =

@@ -2,6 +2,7 @@ ghost use Rattle.std.specs.Prelude.{◌≡◌, ◌<◌, ◌≤◌, ◌+◌, ◌+
 ghost use Rattle.search_base.specs.Graphs.{IsGraph};
 ghost use Rattle.search_base.specs.Query.{tuple_under};
 ghost use Rattle.search_base.specs.RowsView.{RowsView};
+ghost use Rattle.search_base.specs.Terms.{terms_of, terms_under, HaveSame};
 ghost use Rattle.search_base.specs.Tuple.{tuple};
 ghost use Rattle.search_base.specs.declared.rule.Rule.{Rule};
 ghost use Rattle.query_graph.specs.Items.{most_items, AreItems};
@@ -36,6 +37,7 @@ pub fn build_graph(
     ensures paths { IfOk result (λ graph. HaveReadings graph.levels (query_for strategy table.now items.now).levels) }
     ensures costs { IfOk result (λ graph. (rows : RowsView) (rules : List Rule)
         → tuple rows graph rules ≡ tuple_under rows (query_for strategy table.now items.now) rules) }
+    ensures terms { IfOk result (λ graph. HaveSame (terms_of graph) (terms_under (query_for strategy table.now items.now))) }
 {
     table.terms_have_words();
     let list = items.list.as_slice();

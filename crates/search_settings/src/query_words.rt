@@ -1,6 +1,7 @@
 ghost use Rattle.std.specs.Prelude.{◌≡◌, List, IfOk};
 ghost use Rattle.search_base.specs.Graphs.{IsGraph};
 ghost use Rattle.search_base.specs.Query.{tuple_under};
+ghost use Rattle.search_base.specs.Terms.{terms_of, terms_under, HaveSame};
 ghost use Rattle.search_base.specs.Tuple.{tuple};
 ghost use Rattle.token_words.specs.Tokens.{tokens as tokens_of};
 ghost use Rattle.search_settings.specs.QueryWords.{only_word as only_word_of, stop_words_of, AreWordsOf, query_with};
@@ -47,12 +48,14 @@ impl QueryWords {
     }
 
     /// What a search asks for, as a graph: each document costs under it what it costs under the query of the settings
-    /// whose words these are.
+    /// whose words these are, and its first level has the same terms.
     pub fn query(&self, alloc: Global, call: &SearchCall) -> Result<Graph, NoMemory>
         ensures sound { IfOk result IsGraph }
         ensures costs { IfOk result (λ graph. (settings : SettingsView) → AreWordsOf self.now settings
             → (rows : RowsView) (rules : List Rule)
             → tuple rows graph rules ≡ tuple_under rows (query_with settings call.now) rules) }
+        ensures terms { IfOk result (λ graph. (settings : SettingsView) → AreWordsOf self.now settings
+            → HaveSame (terms_of graph) (terms_under (query_with settings call.now))) }
     {
         let items = items(alloc, call.q.as_str(), self.stop_words.as_slice())?;
         let graph = build_graph(alloc, &items, &self.synonyms, call.strategy)?;

@@ -4,6 +4,7 @@ use Rattle.query_graph.specs.ItemReadings.{words_of, query_for}
 use Rattle.query_graph.proofs.ReadingLemmas.{built_reads, have_readings}
 use Rattle.query_graph.proofs.SoundLemmas.{built_sound}
 use Rattle.query_graph.proofs.CostLemmas.{built_costs}
+use Rattle.query_graph.proofs.TermLemmas.{built_terms}
 use Rattle.query_graph.proofs.graph.build_graph.Goals as goal
 
 pub returns-clause-sound : goal.returns-clause-sound
@@ -21,3 +22,7 @@ returns-clause-costs c = λ rows rules.
     built_costs rows rules (query_for c.args.strategy c.args.table.now c.args.items.now) _ _
     (built_reads c.args.table.now c.args.strategy c.args.items.now c.as_slice-list.result.now _ c.in_ok-levels.ensures same)
     (c.in_ok-whole.ensures ∙ ap (λ (items : List ItemView). words_of items) same)
+
+pub returns-clause-terms : goal.returns-clause-terms
+returns-clause-terms c =
+    built_terms c.args.table.now c.args.strategy c.args.items.now c.as_slice-list.result.now _ c.in_ok-levels.ensures (c.as_slice-list.ensures.value ∙ c.items.view_is)

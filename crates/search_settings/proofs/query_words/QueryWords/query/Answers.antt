@@ -1,5 +1,7 @@
-use Rattle.std.proofs.Common.{ap, ap₂, sym, subst, ◌∙◌}
+use Rattle.std.proofs.Common.{List, ap, ap₂, sym, subst, ◌∙◌}
 use Rattle.search_base.specs.Query.{tuple_under}
+use Rattle.search_base.specs.Terms.{terms_of, terms_under, HaveSame}
+use Rattle.search_base.specs.TermView.{TermView}
 use Rattle.search_call.specs.SearchView.{SearchView}
 use Rattle.query_graph.specs.ItemReadings.{query_for}
 use Rattle.query_graph.specs.Items.{items_of}
@@ -13,3 +15,12 @@ returns-clause-costs c = λ settings are rows rules.
     ∙ ap₂ (λ table list. tuple_under rows (query_for c.call.inside.strategy table list) rules) words.synonyms
     (c.in_ok-items.ensures.items ∙ ap₂ items_of c.as_str.ensures (c.as_slice.ensures.value ∙ words.stop_words))
     ∙ ap (λ (v : SearchView). tuple_under rows (query_with settings v) rules) c.call.view_is
+
+pub returns-clause-terms : goal.returns-clause-terms
+returns-clause-terms c = λ settings are.
+    let words = subst (λ v. AreWordsOf v settings) (sym c.self.view_is) are in
+    subst (λ (terms : List TermView). HaveSame (terms_of c.in_ok-graph.graph) terms)
+    (ap₂ (λ table list. terms_under (query_for c.call.inside.strategy table list)) words.synonyms
+    (c.in_ok-items.ensures.items ∙ ap₂ items_of c.as_str.ensures (c.as_slice.ensures.value ∙ words.stop_words))
+    ∙ ap (λ (v : SearchView). terms_under (query_with settings v)) c.call.view_is)
+    c.in_ok-graph.ensures.terms
