@@ -9,18 +9,18 @@ use search_base::{CostKey, DocId, NoMemory, Steps};
 use std::alloc::Global;
 use std::process::Abort;
 
-struct Counted;
+pub(crate) struct Counted;
 
 // Documents whose keys stand in a row each, a key for each level.
 #[derive(Drop)]
-struct Table<'a> {
+pub(crate) struct Table<'a> {
     levels: usize,
     rows: &'a [[u32; 6]],
 }
 
 // Some of the documents by their keys at a level.
 #[derive(Drop)]
-struct Scan<'a> {
+pub(crate) struct Scan<'a> {
     level: usize,
     rows: &'a [[u32; 6]],
     left: DocSet,
@@ -140,12 +140,12 @@ const DARK: [[u32; 6]; 4] = [
     [0, 0, 2, 0, 2, 1],
 ];
 
-const DARK_TABLE: Table<'static> = Table {
+pub(crate) const DARK_TABLE: Table<'static> = Table {
     levels: 6,
     rows: &DARK,
 };
 
-fn tell_openings(rt: &impl Abort, rows: &[Opening], text: &mut String) {
+pub(crate) fn tell_openings(rt: &impl Abort, rows: &[Opening], text: &mut String) {
     for row in rows {
         let key = match &row.key {
             CostKey::Number(key) => *key,

@@ -9,6 +9,8 @@ mod buckets;
 #[cfg(test)]
 mod checks;
 #[cfg(test)]
+mod distinct;
+#[cfg(test)]
 mod doc_lists;
 #[cfg(test)]
 mod pages;

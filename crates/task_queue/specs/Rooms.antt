@@ -1,0 +1,14 @@
+-- What holds of every queue.
+use Rattle.std.specs.Prelude.{◌≡◌, ◌+◌, ◌<◌, ◌≤◌, ◌^◌, ℕ, List, length}
+use Rattle.circular_buffer.specs.Buffer.{Buffer}
+use Rattle.search_base.specs.declared.outcome.OutcomeRow.{OutcomeRow}
+use Rattle.task_queue.specs.Queue.{TaskData, AreNumbered, most_queued, most_outcomes}
+
+pub record HasRoom (finished : ℕ) (queued : List TaskData) (outcomes : Buffer OutcomeRow) (most : ℕ) : Type 0 where
+  pub few : length queued ≤ most_queued
+  pub room : most_queued ≤ most
+  pub ring : outcomes.capacity ≡ most_outcomes
+  pub short : length outcomes.items ≤ most_outcomes
+  pub within : length outcomes.items ≤ finished
+  pub numbered : AreNumbered finished queued
+  pub last : finished + length queued < 2 ^ 64

@@ -1,0 +1,2 @@
+-- What the fakes of tests answer.
+pub mod Genres
