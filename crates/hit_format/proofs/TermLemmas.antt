@@ -8,10 +8,10 @@ use Rattle.search_base.specs.declared.token.Token.{Token}
 use Rattle.token_words.specs.Tokens.{tokens}
 use Rattle.hit_format.specs.declared.asked.Format.{Format}
 use Rattle.hit_format.specs.declared.window.Window.{Window}
-use Rattle.hit_format.specs.Formats.{shown_spans, format}
+use Rattle.hit_format.specs.Formats.{shown_spans}
 use Rattle.search_base.specs.Terms.{HaveSame}
 use Rattle.hit_format.specs.Laws.{ShowsAlike}
-use Rattle.hit_format.specs.Matched.{is_in_run, is_matched, spans_of, matched}
+use Rattle.hit_format.specs.Matched.{is_in_run, is_matched, spans_of}
 use Rattle.hit_format.specs.Tagged.{tagged}
 use Rattle.hit_format.specs.Windows.{window_of}
 
