@@ -74,15 +74,20 @@ def questions():
     return asked
 
 
+def contents(folder):
+    """The bytes of the two files."""
+    return [(folder / name).read_bytes() if (folder / name).exists() else b"" for name in read_disk.FILES]
+
+
 def held(folder):
     """How many changes the two files hold."""
-    contents = [(folder / name).read_bytes() if (folder / name).exists() else b"" for name in read_disk.FILES]
-    found = read_disk.active(contents)
+    disks = contents(folder)
+    found = read_disk.active(disks)
     if found is None:
         return 0
     _, disk, length = found
-    count, _ = read_disk.image(read_disk.Fields(disk, contents[disk], 24, 24 + length))
-    return count + len(list(read_disk.journal(disk, contents[disk], 24 + length, count)))
+    count, _ = read_disk.image(read_disk.Fields(disk, disks[disk], 24, 24 + length))
+    return count + len(list(read_disk.journal(disk, disks[disk], 24 + length, count)))
 
 
 def write_until_killed(binary, folder, draw, accepted):

@@ -1,5 +1,5 @@
 -- A crash content of a disk in memory, call by call.
-use Rattle.std.proofs.Common.{◌≡◌, ⊎_elim, ℕ, zero, suc, ◌+◌, ◌-◌, ◌<◌, ◌≤◌, Bool, true, false, List, [], ◌∷◌, ◌++◌, length, get_or, take, drop, refl, sym, ◌∙◌, ap, arith, min, max, length-append, length-take, length-drop}
+use Rattle.std.proofs.Common.{◌≡◌, ⊎_elim, ℕ, zero, suc, ◌+◌, ◌-◌, ◌<◌, ◌≤◌, Bool, true, false, List, [], ◌∷◌, ◌++◌, length, get_or, take, drop, refl, sym, subst, ◌∙◌, ap, arith, min, max, length-append, length-take, length-drop}
 use Rattle.std.proofs.lemmas.List.{take_all, drop_all, get_or-take, get_or-drop, get_or_append_left, get_or-append_right}
 use Rattle.std.proofs.lemmas.Bool.{cases_lt}
 use Rattle.outside_io.specs.Disks.{Contents, fresh, replaced, settled, IsLeft}
@@ -81,3 +81,18 @@ clamped at piece c = ⊎_elim (λ lt. let e : min at (length c) ≡ at = omega a
 
 pub crashed_first : (kept : ℕ) (first : List ℕ) (calls : List Kept) → IsLeft (run (fresh first) calls) (crashed kept (fresh first) first kept calls)
 crashed_first kept first calls = crashed_left kept (fresh first) first kept calls (left_fresh first)
+
+-- what a read gives is left by a crash that lets all through
+step_left : (call : Kept) (s : Contents) → IsLeft s s.now → IsLeft (step call s) (step call s).now
+step_left (wrote at piece true) s left = subst (λ (c : List ℕ). IsLeft (step (wrote at piece true) s) c) (clamped at piece s.now) (left_write at piece true s s.now left)
+step_left (wrote at piece false) s left = left_skipped_write at piece false s s.now left
+step_left (shortened_to n true) s left = left_cut n true s s.now left
+step_left (shortened_to n false) s left = left_skipped_cut n false s s.now left
+step_left synced s left = left_sync s
+
+run_left : (s : Contents) (calls : List Kept) → IsLeft s s.now → IsLeft (run s calls) (run s calls).now
+run_left s [] left = left
+run_left s (call ∷ calls) left = run_left (step call s) calls (step_left call s left)
+
+pub left_as_read : (first : List ℕ) (calls : List Kept) → IsLeft (run (fresh first) calls) (run (fresh first) calls).now
+left_as_read first calls = run_left (fresh first) calls (left_fresh first)

@@ -74,6 +74,10 @@ abbrev pub Told : Option Contents → (List ℕ → Type 0) → Type 0
 Told None P = Unit {0}
 Told (Some s) P = P s.now
 
+-- a crash may leave the disk as it reads
+abbrev pub MayLeaveAsRead : Option Contents → Type 0
+MayLeaveAsRead contents = Told contents (λ xs. MayLeave contents xs)
+
 -- the length is a u64
 abbrev pub IsInRange : Option Contents → Type 0
 IsInRange contents = Told contents (λ xs. length xs < 2 ^ 64)

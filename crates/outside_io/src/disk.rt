@@ -1,7 +1,7 @@
 ghost use Rattle.std.specs.Prelude.{◌≡◌, ◌+◌, ◌<◌, ◌≤◌, ◌^◌, List, ℕ, Option, length, IfOk, OnOk, OnErr};
 ghost use Rattle.std.specs.Option.{option_map};
 ghost use Rattle.outside_io.specs.Faults.{HasCause};
-ghost use Rattle.outside_io.specs.Disks.{Contents, Told, IsInRange, Gives, MayLeave, MayHave, Elapses, spoiled, written, shortened, cut_to, settled};
+ghost use Rattle.outside_io.specs.Disks.{Contents, Told, IsInRange, Gives, MayLeave, MayHave, MayLeaveAsRead, Elapses, spoiled, written, shortened, cut_to, settled};
 
 use crate::Failed;
 
@@ -10,9 +10,9 @@ use crate::Failed;
 /// A disk may tell what it holds; whether it does never changes. After a crash it is as long as it
 /// was at some time since its last sync that succeeded, or something between the least and the
 /// greatest of these lengths. Below the least each byte that was not written since is unharmed, and
-/// of all others nothing is known. A write or a cut that failed had no effect, or counts as made
-/// here. A disk keeps a clock that never goes back, and a count of faults, which never falls and
-/// stays at 2^64 - 1 once it is there.
+/// of all others nothing is known. What a read gives is among what a crash may leave. A write or a
+/// cut that failed had no effect, or counts as made here. A disk keeps a clock that never goes back,
+/// and a count of faults, which never falls and stays at 2^64 - 1 once it is there.
 pub trait Disk {
     /// What a read gives and what a crash may leave, where the disk tells it.
     ghost contents: { Self → Option Contents };
@@ -32,6 +32,7 @@ pub trait Disk {
         ensures len { IfOk result (λ n. Told (contents self.old) (λ xs. n ≡ length xs)) }
         ensures contents { contents self.new ≡ contents self.old }
         ensures in_range { IsInRange (contents self.new) }
+        ensures as_read { MayLeaveAsRead (contents self.new) }
         ensures time { Elapses (moment self.old) (moment self.new) (left_since self.old) (left_since self.new) (contents self.new) }
         ensures cause { HasCause (disk_faults self.old) (disk_faults self.new) result };
 
@@ -43,6 +44,7 @@ pub trait Disk {
         ensures bytes { IfOk result (λ n. Told (contents self.old) (λ xs. Gives xs at (length into.old) n into.new)) }
         ensures contents { contents self.new ≡ contents self.old }
         ensures in_range { IsInRange (contents self.new) }
+        ensures as_read { MayLeaveAsRead (contents self.new) }
         ensures time { Elapses (moment self.old) (moment self.new) (left_since self.old) (left_since self.new) (contents self.new) }
         ensures cause { HasCause (disk_faults self.old) (disk_faults self.new) result };
 
@@ -55,6 +57,7 @@ pub trait Disk {
         ensures failed { OnErr result (MayHave (spoiled at piece.now) (contents self.old) (contents self.new)) }
         ensures fits { OnOk result (at + length piece.now < 2 ^ 64) }
         ensures in_range { IsInRange (contents self.new) }
+        ensures as_read { MayLeaveAsRead (contents self.new) }
         ensures time { Elapses (moment self.old) (moment self.new) (left_since self.old) (left_since self.new) (contents self.new) }
         ensures cause { HasCause (disk_faults self.old) (disk_faults self.new) result };
 
@@ -65,6 +68,7 @@ pub trait Disk {
         ensures cut { OnOk result (contents self.new ≡ option_map (cut_to len) (contents self.old)) }
         ensures failed { OnErr result (MayHave (shortened len) (contents self.old) (contents self.new)) }
         ensures in_range { IsInRange (contents self.new) }
+        ensures as_read { MayLeaveAsRead (contents self.new) }
         ensures time { Elapses (moment self.old) (moment self.new) (left_since self.old) (left_since self.new) (contents self.new) }
         ensures cause { HasCause (disk_faults self.old) (disk_faults self.new) result };
 
@@ -74,6 +78,7 @@ pub trait Disk {
         ensures synced { OnOk result (contents self.new ≡ option_map settled (contents self.old)) }
         ensures failed { OnErr result (contents self.new ≡ contents self.old) }
         ensures in_range { IsInRange (contents self.new) }
+        ensures as_read { MayLeaveAsRead (contents self.new) }
         ensures time { Elapses (moment self.old) (moment self.new) (left_since self.old) (left_since self.new) (contents self.new) }
         ensures cause { HasCause (disk_faults self.old) (disk_faults self.new) result };
 

@@ -9,8 +9,11 @@ use std::path::Path;
 
 /// A file as a disk, which tells nothing of what it holds.
 ///
-/// The first call opens the file, and makes it where there is none; it is never cut then. A call
-/// that finds the file not open yet, and cannot open it, fails.
+/// The first call opens the file, and makes it where there is none; it is never cut then. From then
+/// on the disk holds the file's exclusive lock (`flock`), until it is let go or the process ends,
+/// however it ends. A call that finds the file not open yet, and cannot open it, or finds its lock
+/// taken by another `FileDisk` of this process or of any other, fails; nothing was read then, and
+/// nothing written.
 #[derive(Drop)]
 pub struct FileDisk {
     runtime: HostRuntime,
@@ -56,13 +59,14 @@ fn sync_folder(runtime: &HostRuntime, name: &str) -> io::Result<()> {
     folder.sync_all()
 }
 
-// Opens the file of this name as it is, or makes it.
+// Opens the file of this name as it is, or makes it. Who holds its lock is alone with it.
 fn open_or_make(runtime: &HostRuntime, name: &str) -> io::Result<File> {
     let file = OpenOptions::new()
         .read(true)
         .write(true)
         .create(true)
         .open(runtime, name)?;
+    file.try_lock()?;
     sync_folder(runtime, name)?;
     Ok(file)
 }

@@ -1,6 +1,6 @@
 ghost use Rattle.std.specs.Prelude.{◌≡◌, ◌⊎◌, ◌↔◌, ◌+◌, ◌-◌, ◌^◌, ◌<◌, ◌≤◌, ◌++◌, [], ◌∷◌, List, Some, IfOk, OnOk, OnErr, IsErr, IsTrue, Contains, min, length, vec_len, vec_capacity, map, true, false};
 ghost use Rattle.outside_io.specs.Faults.{Rose, HasCause, more_faults};
-ghost use Rattle.outside_io.specs.Disks.{Contents, fresh, IsLeft, Gives, MayHave, IsInRange, Elapses, replaced, spoiled, written, shortened, cut_to, settled};
+ghost use Rattle.outside_io.specs.Disks.{Contents, fresh, IsLeft, Gives, MayHave, MayLeaveAsRead, IsInRange, Elapses, replaced, spoiled, written, shortened, cut_to, settled};
 ghost use Rattle.outside_io.specs.MemoryDisk.{Kept, wrote, shortened_to, synced, kept_of, step, MemoryDiskState, new_disk, contents_of, LeftSince, crashed, crash_content};
 ghost use Rattle.outside_io.specs.Moments.{left_now, only_left};
 
@@ -235,10 +235,12 @@ impl Disk for MemoryDisk {
 
     ghost only_now = { λ m c left. only_left m.first m.calls c left };
 
+    #[tactic(auto, using(crate::proofs::Crashed::left_as_read))]
     fn len(&mut self) -> Result<u64, Failed>
         ensures len { IfOk result (λ n. n ≡ length (contents_of self.old).now) }
         ensures contents { Some (contents_of self.new) ≡ Some (contents_of self.old) }
         ensures in_range { IsInRange (Some (contents_of self.new)) }
+        ensures as_read { MayLeaveAsRead (Some (contents_of self.new)) }
         ensures time { Elapses (length self.old.calls) (length self.new.calls) (LeftSince self.old.first self.old.calls) (LeftSince self.new.first self.new.calls) (Some (contents_of self.new)) }
         ensures cause { HasCause self.old.faults self.new.faults result }
         // It fails exactly where its number is listed.
@@ -251,11 +253,13 @@ impl Disk for MemoryDisk {
         Ok(self.content.len() as u64)
     }
 
+    #[tactic(auto, using(crate::proofs::Crashed::left_as_read))]
     fn read_at(&mut self, at: u64, into: &mut [u8]) -> Result<usize, Failed>
         ensures within { IfOk result (λ n. n ≤ length into.new) }
         ensures bytes { IfOk result (λ n. Gives (contents_of self.old).now at (length into.old) n into.new) }
         ensures contents { Some (contents_of self.new) ≡ Some (contents_of self.old) }
         ensures in_range { IsInRange (Some (contents_of self.new)) }
+        ensures as_read { MayLeaveAsRead (Some (contents_of self.new)) }
         ensures time { Elapses (length self.old.calls) (length self.new.calls) (LeftSince self.old.first self.old.calls) (LeftSince self.new.first self.new.calls) (Some (contents_of self.new)) }
         ensures cause { HasCause self.old.faults self.new.faults result }
         // It fails exactly where its number is listed.
@@ -268,21 +272,24 @@ impl Disk for MemoryDisk {
         Ok(give(&self.content, at, into))
     }
 
+    #[tactic(auto, using(crate::proofs::Crashed::left_as_read))]
     fn write_at(&mut self, at: u64, piece: &[u8]) -> Result<(), Failed>
         requires { at ≤ length (contents_of self.old).now }
         ensures written { OnOk result (Some (contents_of self.new) ≡ Some (written at piece.now (contents_of self.old))) }
         ensures failed { OnErr result (MayHave (spoiled at piece.now) (Some (contents_of self.old)) (Some (contents_of self.new))) }
         ensures fits { OnOk result (at + length piece.now < 2 ^ 64) }
         ensures in_range { IsInRange (Some (contents_of self.new)) }
+        ensures as_read { MayLeaveAsRead (Some (contents_of self.new)) }
         ensures time { Elapses (length self.old.calls) (length self.new.calls) (LeftSince self.old.first self.old.calls) (LeftSince self.new.first self.new.calls) (Some (contents_of self.new)) }
         ensures cause { HasCause self.old.faults self.new.faults result }
         // It fails where its number is listed, and otherwise only for want of memory.
         ensures named { Contains self.old.failing self.old.number → IsErr result }
         ensures listed { OnErr result (Contains self.old.failing self.old.number ⊎ Rose self.old.starved self.new.starved) }
         ensures fed { OnOk result (self.new.starved ≡ self.old.starved) }
-        // It is kept, also where it fails, unless that is for want of memory.
+        // It is kept, also where it fails, unless that is for want of memory; only then want of memory is counted.
         ensures kept { OnOk result (self.new.calls ≡ self.old.calls ++ wrote at piece.now true ∷ []) }
-        ensures kept_failed { OnErr result ((Rose self.old.starved self.new.starved × (self.new.calls ≡ self.old.calls)) ⊎ (self.new.calls ≡ self.old.calls ++ wrote at piece.now false ∷ [])) }
+        ensures kept_failed { OnErr result (((self.new.starved ≡ min (self.old.starved + 1) (2 ^ 64 - 1)) × (self.new.calls ≡ self.old.calls))
+            ⊎ ((self.new.starved ≡ self.old.starved) × (self.new.calls ≡ self.old.calls ++ wrote at piece.now false ∷ []))) }
         ensures rest { self.new ≡ record self.old {
           calls = self.new.calls;
           number = min (self.old.number + 1) (2 ^ 64 - 1);
@@ -302,20 +309,23 @@ impl Disk for MemoryDisk {
         }
     }
 
+    #[tactic(auto, using(crate::proofs::Crashed::left_as_read))]
     fn cut(&mut self, len: u64) -> Result<(), Failed>
         requires { len ≤ length (contents_of self.old).now }
         ensures cut { OnOk result (Some (contents_of self.new) ≡ Some (cut_to len (contents_of self.old))) }
         ensures failed { OnErr result (MayHave (shortened len) (Some (contents_of self.old)) (Some (contents_of self.new))) }
         ensures in_range { IsInRange (Some (contents_of self.new)) }
+        ensures as_read { MayLeaveAsRead (Some (contents_of self.new)) }
         ensures time { Elapses (length self.old.calls) (length self.new.calls) (LeftSince self.old.first self.old.calls) (LeftSince self.new.first self.new.calls) (Some (contents_of self.new)) }
         ensures cause { HasCause self.old.faults self.new.faults result }
         // It fails where its number is listed, and otherwise only for want of memory.
         ensures named { Contains self.old.failing self.old.number → IsErr result }
         ensures listed { OnErr result (Contains self.old.failing self.old.number ⊎ Rose self.old.starved self.new.starved) }
         ensures fed { OnOk result (self.new.starved ≡ self.old.starved) }
-        // It is kept, also where it fails, unless that is for want of memory.
+        // It is kept, also where it fails, unless that is for want of memory; only then want of memory is counted.
         ensures kept { OnOk result (self.new.calls ≡ self.old.calls ++ shortened_to len true ∷ []) }
-        ensures kept_failed { OnErr result ((Rose self.old.starved self.new.starved × (self.new.calls ≡ self.old.calls)) ⊎ (self.new.calls ≡ self.old.calls ++ shortened_to len false ∷ [])) }
+        ensures kept_failed { OnErr result (((self.new.starved ≡ min (self.old.starved + 1) (2 ^ 64 - 1)) × (self.new.calls ≡ self.old.calls))
+            ⊎ ((self.new.starved ≡ self.old.starved) × (self.new.calls ≡ self.old.calls ++ shortened_to len false ∷ []))) }
         ensures rest { self.new ≡ record self.old {
           calls = self.new.calls;
           number = min (self.old.number + 1) (2 ^ 64 - 1);
@@ -335,16 +345,19 @@ impl Disk for MemoryDisk {
         }
     }
 
+    #[tactic(auto, using(crate::proofs::Crashed::left_as_read))]
     fn sync(&mut self) -> Result<(), Failed>
         ensures synced { OnOk result (Some (contents_of self.new) ≡ Some (settled (contents_of self.old))) }
         ensures failed { OnErr result (Some (contents_of self.new) ≡ Some (contents_of self.old)) }
         ensures in_range { IsInRange (Some (contents_of self.new)) }
+        ensures as_read { MayLeaveAsRead (Some (contents_of self.new)) }
         ensures time { Elapses (length self.old.calls) (length self.new.calls) (LeftSince self.old.first self.old.calls) (LeftSince self.new.first self.new.calls) (Some (contents_of self.new)) }
         ensures cause { HasCause self.old.faults self.new.faults result }
         // It fails where its number is listed, and otherwise only for want of memory.
         ensures named { Contains self.old.failing self.old.number → IsErr result }
         ensures listed { OnErr result (Contains self.old.failing self.old.number ⊎ Rose self.old.starved self.new.starved) }
         ensures fed { OnOk result (self.new.starved ≡ self.old.starved) }
+        ensures named_fed { Contains self.old.failing self.old.number → self.new.starved ≡ self.old.starved }
         // It is kept where it succeeds.
         ensures kept { OnOk result (self.new.calls ≡ self.old.calls ++ synced ∷ []) }
         ensures kept_failed { OnErr result (self.new.calls ≡ self.old.calls) }

@@ -88,6 +88,26 @@ impl MemoryLink {
     {
         self.starved
     }
+
+    // Counts a write that fails.
+    fn fails(&mut self) -> Failed
+        ensures { self.new ≡ record self.old { write_faults = min (self.old.write_faults + 1) (2 ^ 64 - 1) } }
+    {
+        self.write_faults = self.write_faults.saturating_add(1);
+        Failed
+    }
+
+    // Counts a write that finds no memory.
+    fn starves(&mut self) -> Failed
+        ensures { self.new ≡ record self.old {
+          write_faults = min (self.old.write_faults + 1) (2 ^ 64 - 1);
+          starved = min (self.old.starved + 1) (2 ^ 64 - 1);
+        } }
+    {
+        self.write_faults = self.write_faults.saturating_add(1);
+        self.starved = self.starved.saturating_add(1);
+        Failed
+    }
 }
 
 // Whether the call of this number is to fail.
@@ -159,6 +179,7 @@ impl Link for MemoryLink {
         ensures listed { OnErr result (Contains self.old.failing self.old.calls
             ⊎ (self.new.starved ≡ min (self.old.starved + 1) (2 ^ 64 - 1))) }
         ensures fed { OnOk result (self.new.starved ≡ self.old.starved) }
+        ensures named_fed { Contains self.old.failing self.old.calls → self.new.starved ≡ self.old.starved }
         ensures rest { self.new ≡ record self.old {
           written = self.new.written;
           calls = min (self.old.calls + 1) (2 ^ 64 - 1);
@@ -169,17 +190,12 @@ impl Link for MemoryLink {
         let listed = is_listed(&self.failing, self.calls);
         self.calls = self.calls.saturating_add(1);
         if listed {
-            self.write_faults = self.write_faults.saturating_add(1);
-            return Err(Failed);
+            return Err(self.fails());
         }
         let count = piece.len().min(self.most);
         match self.output.extend_from_slice(&piece[..count]) {
             Ok(()) => Ok(count),
-            Err(_) => {
-                self.write_faults = self.write_faults.saturating_add(1);
-                self.starved = self.starved.saturating_add(1);
-                Err(Failed)
-            }
+            Err(_) => Err(self.starves()),
         }
     }
 }

@@ -1,5 +1,6 @@
 use outside_io::{Disk, Failed, FileDisk, Link, MemoryDisk, MemoryLink, StdLink};
 use std::fs;
+use std::process::Abort;
 use std::test::Fail;
 
 #[test]
@@ -63,28 +64,40 @@ fn memory_disk_keeps_bytes_and_answers_for_a_crash(rt: HostRuntime) -> Result<()
     Ok(())
 }
 
-#[test]
-fn file_disk_keeps_bytes_in_a_file(rt: HostRuntime) -> Result<(), Fail> {
-    let mut disk = FileDisk::new(&rt, "disk.dat".to_string(rt.alloc())?);
-    assert_eq!(rt; disk.cut(0), Ok(()));
-    assert_eq!(rt; disk.write_at(0, b"first words"), Ok(()));
-    assert_eq!(rt; disk.write_at(6, b"try"), Ok(()));
-    assert_eq!(rt; disk.cut(9), Ok(()));
-    assert_eq!(rt; disk.sync(), Ok(()));
-    assert_eq!(rt; disk.write_at(u64::MAX, b"past"), Err(Failed));
-    // Another disk on the same file opens it as it is.
-    let mut same = FileDisk::new(&rt, "disk.dat".to_string(rt.alloc())?);
-    assert_eq!(rt; same.len(), Ok(9));
+// Writes two pieces, cuts the second and lets the disk go.
+fn fill(rt: &impl Abort, mut disk: FileDisk) {
+    assert!(rt; disk.cut(0) == Ok(()));
+    assert!(rt; disk.write_at(0, b"first words") == Ok(()));
+    assert!(rt; disk.write_at(6, b"try") == Ok(()));
+    assert!(rt; disk.cut(9) == Ok(()));
+    assert!(rt; disk.sync() == Ok(()));
+    assert!(rt; disk.write_at(u64::MAX, b"past") == Err(Failed));
+}
+
+// The disk holds what `fill` wrote.
+fn check(rt: &impl Abort, disk: &mut FileDisk) {
+    assert!(rt; disk.len() == Ok(9));
     let mut into = [0; 8];
-    assert_eq!(rt; same.read_at(6, &mut into), Ok(3));
-    assert_eq!(rt; into.as_slice(), b"try\0\0\0\0\0".as_slice());
-    fs::remove_file(&rt, "disk.dat")?;
-    Ok(())
+    assert!(rt; disk.read_at(6, &mut into) == Ok(3));
+    assert!(rt; into == *b"try\0\0\0\0\0");
 }
 
 #[test]
-fn file_disk_counts_a_file_that_cannot_be_opened(rt: HostRuntime) -> Result<(), Fail> {
-    let mut disk = FileDisk::new(&rt, "no/such/folder/disk.dat".to_string(rt.alloc())?);
-    assert_eq!(rt; disk.len(), Err(Failed));
-    Ok(())
+fn file_disk_keeps_bytes_in_a_file_that_is_its_own(rt: HostRuntime) {
+    let name = String::from_str(rt.alloc(), "disk.dat").expect(&rt, "memory");
+    fill(&rt, FileDisk::new(&rt, name.clone().expect(&rt, "memory")));
+    // The next disk opens the file as it is, and no other one does while it is there.
+    let mut disk = FileDisk::new(&rt, name.clone().expect(&rt, "memory"));
+    check(&rt, &mut disk);
+    let mut other = FileDisk::new(&rt, name);
+    assert!(rt; other.len() == Err(Failed));
+    assert!(rt; other.cut(0) == Err(Failed));
+    check(&rt, &mut disk);
+    assert!(rt; fs::remove_file(&rt, "disk.dat").is_ok());
+}
+
+#[test]
+fn file_disk_counts_a_file_that_cannot_be_opened(rt: HostRuntime) {
+    let name = String::from_str(rt.alloc(), "no/such/folder/disk.dat").expect(&rt, "memory");
+    assert!(rt; FileDisk::new(&rt, name).len() == Err(Failed));
 }
