@@ -11,8 +11,6 @@ mod demo;
 mod documents;
 mod draws;
 mod summary;
-#[cfg(test)]
-mod tests;
 
 pub use demo::{Demo, Step};
 pub use summary::{first_line, search_line};

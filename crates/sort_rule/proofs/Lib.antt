@@ -1,4 +1,3 @@
 pub mod SortLemmas
 pub mod EntryLemmas
 pub mod GroupLemmas
-pub mod OneKeyLemmas

@@ -12,8 +12,6 @@ mod entries;
 mod grouped;
 mod rows;
 mod stream;
-#[cfg(test)]
-mod tests;
 
 pub use entries::Entry;
 pub use grouped::buckets_of;

@@ -8,7 +8,5 @@
 #![tactic(auto)]
 
 mod slots;
-#[cfg(test)]
-mod tests;
 
 pub use slots::StagedSlots;

@@ -1,4 +1,4 @@
-//! Tests of documents: their values, streams, settings, rows, stores, payloads and images.
+//! Tests of documents: their values, streams, settings, rows, slots, stores, payloads and images.
 //!
 //! They use what these crates offer to others, and stand in a crate of their own, so that the crates they try are proved
 //! once and not twice. The crate has nothing but tests, and promises nothing.
@@ -16,6 +16,8 @@ mod payloads;
 mod rows;
 #[cfg(test)]
 mod settings;
+#[cfg(test)]
+mod slots;
 #[cfg(test)]
 mod stores;
 #[cfg(test)]

@@ -19,7 +19,3 @@ pub(crate) fn word(rt: &impl Abort, alloc: Global, text: &str) -> Word
 {
     Word::new(alloc, text).expect(rt, "memory")
 }
-
-pub(crate) fn add(rt: &impl Abort, text: &mut String, part: &str) {
-    text.push_str(part).expect(rt, "memory");
-}

@@ -1,4 +1,4 @@
-//! Tests of an index.
+//! Tests of what a search of an index opens.
 //!
 //! They use what these crates offer to others, and stand in a crate of their own, so that the crates they try are proved
 //! once and not twice. The crate has nothing but tests, and promises nothing.

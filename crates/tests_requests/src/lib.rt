@@ -1,4 +1,4 @@
-//! Tests of routes, calls and replies.
+//! Tests of routes, calls, refusals' replies and the demo.
 //!
 //! They use what these crates offer to others, and stand in a crate of their own, so that the crates they try are proved
 //! once and not twice. The crate has nothing but tests, and promises nothing.
@@ -8,6 +8,8 @@
 mod calls;
 #[cfg(test)]
 mod checks;
+#[cfg(test)]
+mod demo;
 #[cfg(test)]
 mod routes;
 #[cfg(test)]

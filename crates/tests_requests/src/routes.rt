@@ -1,10 +1,9 @@
 use crate::checks::{check, check_text, times};
-use request_refusals::Refusal;
 use request_routes::{
     Found, Pair, Route, check_uid, count_in, fields_in, find_route, read_query, split_target,
     text_in,
 };
-use search_base::{Fault, Word};
+use search_base::Word;
 use std::alloc::Global;
 use std::process::Abort;
 
@@ -31,67 +30,12 @@ POST~/indexes/m/search~Search `m` `` 0
 GET~/indexes/m/search~SearchByQuery `m` `` 0
 GET~/indexes/m/search?limit=x&q&zz=1&q=b~SearchByQuery `m` `` 3"#;
 
-// A method, a target, and why they are refused.
-const NO_ROUTES: &str = r#"GET~/nothing~no route
-GET~health~no route
-GET~/health/~no route
-GET~//health~no route
-GET~/indexes/~no route
-GET~/indexes//documents~no route
-GET~/indexes/m/documents/~no route
-GET~/indexes/m/documents/1/~no route
-GET~/indexes//settings~no route
-PATCH~/indexes/m/settings/stop-words~no route
-PATCH~/indexes//search?x~no route
-POST~/health~no method
-get~/health~no method
-PUT~/indexes~no method
-PATCH~/indexes/m~no method
-PUT~/indexes/m/documents/delete-batch~no method
-POST~/indexes/m/documents/7~no method
-PUT~/indexes/m/settings~no method
-PUT~/indexes/m/search~no method
-PATCH~/indexes/a.b/search?x~no method"#;
-
-const BAD_QUERIES: &str = r#"GET~/indexes/a.b~no uid
-POST~/indexes/a.b/search?x~no uid
-GET~/indexes/a.b/search?x~no uid
-GET~/health?x=1~unknown x
-POST~/indexes/m/search?q=x~unknown q
-POST~/indexes/m/search?y&x&y~unknown x
-GET~/indexes?limit=18446744073709551616~unknown limit
-GET~/indexes?limit=%2B1~unknown limit
-GET~/indexes?limit=~unknown limit
-GET~/indexes?limit=x&limit=1&offset=y~unknown offset
-GET~/indexes/m/documents?fields&offset=-1~unknown offset
-PUT~/indexes/m/documents?primaryKey=~unknown primaryKey"#;
-
 // The route, the uid, the id and the number of pairs that a method and a target come to.
-fn asked(
-    rt: &impl Abort,
-    alloc: Global,
-    method: &str,
-    target: &str,
-) -> Result<String, Fault<Refusal>> {
+fn asked(rt: &impl Abort, alloc: Global, method: &str, target: &str) -> String {
     let (path, query) = split_target(target);
-    let Found { route, uid, id } = find_route(alloc, method, path)?;
-    check_uid(uid)?;
-    let count = read_query(alloc, route, query)?.len();
+    let Found { route, uid, id } = find_route(alloc, method, path).expect(rt, "a route");
+    let count = pairs(rt, alloc, route, query).len();
     let text = format!(in alloc; "{route:?} `{uid}` `{id}` {count}");
-    Ok(text.expect(rt, "memory"))
-}
-
-fn fault_text(rt: &impl Abort, alloc: Global, fault: &Fault<Refusal>) -> String {
-    let text = match fault {
-        Fault::Refused(Refusal::Unknown { name }) => {
-            format!(in alloc; "unknown {}", name.as_str())
-        }
-        Fault::Refused(Refusal::NoRoute) => "no route".to_string(alloc),
-        Fault::Refused(Refusal::MethodNotAllowed) => "no method".to_string(alloc),
-        Fault::Refused(Refusal::InvalidUid) => "no uid".to_string(alloc),
-        Fault::Refused(_) => "another refusal".to_string(alloc),
-        Fault::NoMemory => "no memory".to_string(alloc),
-    };
     text.expect(rt, "memory")
 }
 
@@ -100,10 +44,7 @@ fn check_row(rt: &impl Abort, alloc: Global, row: &str) {
     let mut parts = row.split('~');
     let method = parts.next().unwrap_or("");
     let target = parts.next().unwrap_or("");
-    let found = match asked(rt, alloc, method, target) {
-        Ok(text) => text,
-        Err(fault) => fault_text(rt, alloc, &fault),
-    };
+    let found = asked(rt, alloc, method, target);
     check_text(rt, &found, parts.next().unwrap_or(""), row);
 }
 
@@ -114,10 +55,8 @@ fn check_table(rt: &impl Abort, alloc: Global, table: &str) {
 }
 
 #[test]
-fn each_route_and_each_refusal(rt: HostRuntime) {
-    for table in &[ROUTES, NO_ROUTES, BAD_QUERIES] {
-        check_table(&rt, rt.alloc(), table);
-    }
+fn each_route(rt: HostRuntime) {
+    check_table(&rt, rt.alloc(), ROUTES);
 }
 
 fn check_length(rt: &impl Abort, alloc: Global, letters: usize, wanted: bool) {

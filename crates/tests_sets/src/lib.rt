@@ -1,9 +1,11 @@
-//! Tests of sets of documents, sorted lists in pages, least path costs and nested buckets.
+//! Tests of words and sort keys, sets of documents, sorted lists in pages, least path costs and nested buckets.
 //!
 //! They use what these crates offer to others, and stand in a crate of their own, so that the crates they try are proved
 //! once and not twice. The crate has nothing but tests, and promises nothing.
 #![tactic(auto)]
 
+#[cfg(test)]
+mod base;
 #[cfg(test)]
 mod buckets;
 #[cfg(test)]

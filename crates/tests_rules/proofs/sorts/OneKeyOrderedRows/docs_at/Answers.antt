@@ -1,6 +1,6 @@
 use Rattle.std.proofs.Common.{◌∙◌, sym}
-use Rattle.sort_rule.proofs.OneKeyLemmas.{none-under}
-use Rattle.sort_rule.proofs.tests.OneKeyOrderedRows.docs_at.Goals as goal
+use Rattle.tests_rules.proofs.OneKeyLemmas.{none-under}
+use Rattle.tests_rules.proofs.sorts.OneKeyOrderedRows.docs_at.Goals as goal
 
 pub returns-then-other : goal.returns-then-other
 returns-then-other c =

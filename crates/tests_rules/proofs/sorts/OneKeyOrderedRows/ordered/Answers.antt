@@ -1,9 +1,9 @@
 use Rattle.std.proofs.Common.{List, [], ◌∷◌, ◌++◌, reverse, sym, ap, subst, ◌∙◌}
 use Rattle.bucket_sort.specs.declared.bucket.Bucket.{Bucket}
 use Rattle.sort_rule.specs.Ordered.{AreOrdered}
-use Rattle.sort_rule.proofs.OneKeyLemmas.{key_in, missing, one-ordered}
+use Rattle.tests_rules.proofs.OneKeyLemmas.{key_in, missing, one-ordered}
 use Rattle.sort_rule.proofs.SortLemmas.{no-length, some-length}
-use Rattle.sort_rule.proofs.tests.OneKeyOrderedRows.ordered.Goals as goal
+use Rattle.tests_rules.proofs.sorts.OneKeyOrderedRows.ordered.Goals as goal
 
 pub returns-then-is_empty : goal.returns-then-is_empty
 returns-then-is_empty c =

@@ -5,10 +5,10 @@ ghost use Rattle.search_base.specs.CostOrder.{before};
 ghost use Rattle.sort_rule.specs.Rows.{next_of, is_under};
 ghost use Rattle.doc_sets.specs.Sets.{has};
 
-use crate::{OrderedRows, SortBuckets};
 use bucket_sort::{Bucket, BucketStream};
 use doc_sets::DocSet;
 use search_base::{CostKey, DocId, NoMemory, SortKey, Steps};
+use sort_rule::{OrderedRows, SortBuckets};
 use std::alloc::Global;
 use std::process::Abort;
 
