@@ -3,7 +3,7 @@
 
     bench/buckets.py [BIN] [--scale N]
 
-BIN is crates/bench_ranking/out/bench_ranking, which `rt run` in crates/bench_ranking makes. There are ten rules. Where
+BIN is crates/bench_parts/out/bench_parts, which `rt run` in crates/bench_parts makes. There are ten rules. Where
 they tie, each leaves all documents together; else each rule halves what the one before it left together. Then there is
 one rule, the costs of ten words, of which each costs 0 in one half of the documents and 1 in the other: eleven buckets,
 the first of which is one document in 1,024. Sets are "close" where ids follow each other (a bit each), and "spread"
@@ -30,7 +30,7 @@ class Bench:
     def run(self, kind, size, step, offset, rounds):
         """Seconds of the processor, hits and openings."""
         begun = processor_time()
-        words = [self.binary, kind, *map(str, (size, step, offset, rounds))]
+        words = [self.binary, "pages", kind, *map(str, (size, step, offset, rounds))]
         said = subprocess.run(words, check=True, stdin=subprocess.DEVNULL, stdout=subprocess.PIPE).stdout
         return processor_time() - begun, *map(int, said.split())
 
@@ -62,7 +62,7 @@ class Bench:
 
 def main():
     parser = argparse.ArgumentParser()
-    parser.add_argument("binary", nargs="?", default="crates/bench_ranking/out/bench_ranking")
+    parser.add_argument("binary", nargs="?", default="crates/bench_parts/out/bench_parts")
     parser.add_argument("--scale", type=int, default=1)
     asked = parser.parse_args()
     bench = Bench(asked.binary, asked.scale)

@@ -4,7 +4,7 @@ to find those that have a value of a range.
 
     bench/facets.py [BIN] [--thousands N]
 
-BIN is crates/bench_facets/out/bench_facets, which `rt run` in crates/bench_facets makes. There are N thousand
+BIN is crates/bench_parts/out/bench_parts, which `rt run` in crates/bench_parts makes. There are N thousand
 documents (100). Each thing is done many times by one process, and what a process takes that does it no time is taken
 off. Counted is the time of the processor, the best of two runs, and beside it stands the ratio to a plain scan of as
 many numbers of eight bytes as there are documents, which this script does in the same run. Memory is that of the
@@ -19,7 +19,7 @@ import time
 
 def run(binary, what, thousands, rounds):
     """Seconds of the processor, and the peak in kilobytes."""
-    with subprocess.Popen([binary, what, str(thousands), str(rounds)], stdout=subprocess.DEVNULL) as process:
+    with subprocess.Popen([binary, "facets", what, str(thousands), str(rounds)], stdout=subprocess.DEVNULL) as process:
         _pid, status, used = os.wait4(process.pid, 0)
         process.returncode = status
     if status:
@@ -38,7 +38,7 @@ def scan(count):
 
 def main():
     parser = argparse.ArgumentParser()
-    parser.add_argument("binary", nargs="?", default="crates/bench_facets/out/bench_facets")
+    parser.add_argument("binary", nargs="?", default="crates/bench_parts/out/bench_parts")
     parser.add_argument("--thousands", type=int, default=100)
     asked = parser.parse_args()
     documents = asked.thousands * 1000

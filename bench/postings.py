@@ -3,7 +3,7 @@
 
     bench/postings.py [BIN] [--thousands N]
 
-BIN is crates/bench_postings/out/bench_postings, which `rt run` in crates/bench_postings makes. There are N thousand
+BIN is crates/bench_parts/out/bench_parts, which `rt run` in crates/bench_parts makes. There are N thousand
 documents (100). Each thing is done many times by one process, and what a process takes that does it no time is taken
 off. Counted is the time of the processor, the best of two runs, and beside it stands the ratio to a plain scan of as
 many numbers of eight bytes as there are places, which this script does in the same run. Memory is that of the process
@@ -26,7 +26,7 @@ def processor_time():
 def run(binary, what, thousands, rounds):
     """Seconds of the processor, and the peak in kilobytes."""
     begun = processor_time()
-    with subprocess.Popen([binary, what, str(thousands), str(rounds)], stdout=subprocess.DEVNULL) as process:
+    with subprocess.Popen([binary, "lists", what, str(thousands), str(rounds)], stdout=subprocess.DEVNULL) as process:
         _pid, status, used = __import__("os").wait4(process.pid, 0)
         process.returncode = status
     if status:
@@ -44,7 +44,7 @@ def scan(places):
 
 def main():
     parser = argparse.ArgumentParser()
-    parser.add_argument("binary", nargs="?", default="crates/bench_postings/out/bench_postings")
+    parser.add_argument("binary", nargs="?", default="crates/bench_parts/out/bench_parts")
     parser.add_argument("--thousands", type=int, default=100)
     asked = parser.parse_args()
     documents = asked.thousands * 1000

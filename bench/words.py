@@ -3,10 +3,9 @@
 
     bench/words.py [BIN] [--rounds N]
 
-BIN is crates/bench_words/out/bench_words, which `rt run` in crates/bench_words makes. The texts are a megabyte of ASCII
+BIN is crates/bench_parts/out/bench_parts, which `rt run` in crates/bench_parts makes. The texts are a megabyte of ASCII
 prose and a megabyte of prose in six scripts. Each is cut N times and scanned N times by one process each, and what a
-process takes that does neither is taken off. The words of the ASCII text are also cut in place, out of one copy in lower
-case. Nothing tests these numbers.
+process takes that does neither is taken off. Nothing tests these numbers.
 """
 import argparse
 import random
@@ -33,7 +32,7 @@ def prose(vocabulary):
 
 def seconds(binary, what, rounds, text):
     begun = time.monotonic()
-    subprocess.run([binary, what, str(rounds)], input=text, check=True, stdout=subprocess.DEVNULL)
+    subprocess.run([binary, "words", what, str(rounds)], input=text, check=True, stdout=subprocess.DEVNULL)
     return time.monotonic() - begun
 
 
@@ -46,7 +45,7 @@ def rate(binary, what, rounds, text):
 
 def main():
     parser = argparse.ArgumentParser()
-    parser.add_argument("binary", nargs="?", default="crates/bench_words/out/bench_words")
+    parser.add_argument("binary", nargs="?", default="crates/bench_parts/out/bench_parts")
     parser.add_argument("--rounds", type=int, default=10)
     asked = parser.parse_args()
     for name, vocabulary in (("ASCII prose", ASCII), ("mixed scripts", MIXED)):
@@ -54,8 +53,6 @@ def main():
         words = rate(asked.binary, "words", asked.rounds, text)
         scan = rate(asked.binary, "scan", 20 * asked.rounds, text)
         print(f"{name:14} words {words:7.1f} MB/s   scan {scan:8.1f} MB/s   words take {scan / words:6.1f} times a scan")
-        if text.isascii():
-            print(f"{name:14} spans {rate(asked.binary, 'spans', asked.rounds, text):7.1f} MB/s")
 
 
 if __name__ == "__main__":

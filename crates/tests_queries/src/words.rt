@@ -1,5 +1,3 @@
-ghost use Rattle.std.specs.Prelude.{IsAscii};
-
 use crate::checks::{add, check_text};
 use std::alloc::Global;
 use std::process::Abort;
@@ -191,26 +189,10 @@ fn told(rt: &impl Abort, alloc: Global, text: &str) -> String {
     told
 }
 
-// The same by the spans of a text that is ASCII.
-fn told_by_spans(rt: &impl Abort, alloc: Global, text: &str) -> String
-    requires { IsAscii text.now }
-{
-    let lowered = text.to_ascii_lowercase(alloc).expect(rt, "memory");
-    let mut told = String::new(alloc);
-    for span in &ascii_spans(alloc, text).expect(rt, "memory") {
-        let place = (span.position, span.start, span.end);
-        add_token(rt, &mut told, span.cut(lowered.as_str()), place);
-    }
-    told
-}
-
 #[test]
 fn texts_have_these_words(rt: HostRuntime) {
     for (shows, text, wanted) in &TEXTS {
         check_text(&rt, &told(&rt, rt.alloc(), text), wanted, shows);
-        if text.is_ascii() {
-            check_text(&rt, &told_by_spans(&rt, rt.alloc(), text), wanted, shows);
-        }
         tokens_are_the_words(text);
     }
 }

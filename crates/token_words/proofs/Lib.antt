@@ -1,4 +1,3 @@
 pub mod AsciiLemmas
-pub mod SpansLemmas
 pub mod Steps
 pub mod WordsLemmas
