@@ -8,7 +8,7 @@ use list_search::find;
 use rule_buckets::{RuleSource, Rules};
 use search_base::{CostKey, DocId, Graph, NoMemory, PathId, Rule, SortKey, Steps, Word};
 use std::alloc::Global;
-use std::test::Fail;
+use std::process::Abort;
 
 struct Counted;
 
@@ -91,28 +91,37 @@ fn empty(alloc: Global) -> Graph
     }
 }
 
-// The entry of the first bucket of a level, with how many documents it has and how many are left behind it.
-fn first_bucket(
+fn set(rt: &impl Abort, alloc: Global) -> DocSet {
+    DocSet::from_sorted(alloc, &[DocId(1), DocId(3), DocId(4)]).expect(rt, "memory")
+}
+
+// The first bucket of a level has the three documents, under this key.
+fn check_first(
+    rt: &impl Abort,
     alloc: Global,
     rules: &Rules<'_, Bare>,
     level: usize,
-) -> Result<Option<(CostKey, u64)>, NoMemory> {
-    if level >= rules.levels() {
-        return Ok(None);
-    }
-    let universe = rules.matching().clone()?;
+    wanted: &CostKey,
+) {
+    assert!(rt; level < rules.levels(), "a level");
+    let universe = rules.matching().clone().expect(rt, "memory");
     let mut openings: Steps<Counted> = Steps::new();
-    let mut stream = rules.open(alloc, level, universe)?;
-    match stream.next_bucket(alloc, &mut openings)? {
-        Some(Bucket { key, docs }) => Ok(Some((key, docs.len()))),
-        None => Ok(None),
+    let mut stream = rules.open(alloc, level, universe).expect(rt, "memory");
+    match stream
+        .next_bucket(alloc, &mut openings)
+        .expect(rt, "memory")
+    {
+        Some(Bucket { key, docs }) => {
+            assert!(rt; key == *wanted && docs.len() == 3, "level {level}");
+        }
+        None => assert!(rt; false, "level {level}"),
     }
 }
 
 #[test]
-fn a_query_without_words_gives_all_documents_at_once(rt: HostRuntime) -> Result<(), Fail> {
+fn a_query_without_words_gives_all_documents_at_once(rt: HostRuntime) {
     let alloc = rt.alloc();
-    let universe = DocSet::from_sorted(alloc, &[DocId(1), DocId(3), DocId(4)])?;
+    let universe = set(&rt, alloc);
     let graph = empty(alloc);
     let list = [
         Rule::Words,
@@ -121,28 +130,38 @@ fn a_query_without_words_gives_all_documents_at_once(rt: HostRuntime) -> Result<
         Rule::Down(Some(PathId(2))),
         Rule::Up(None),
     ];
-    let rules = Rules::new(alloc, &Bare, &graph, &list, &universe)?;
-    assert!(rt; rules.levels() == 5 && rules.matching().len() == 3);
-    for level in 0..3 {
-        assert!(rt; first_bucket(alloc, &rules, level)? == Some((CostKey::Number(0), 3)));
+    let rules = Rules::new(alloc, &Bare, &graph, &list, &universe).expect(&rt, "memory");
+    assert!(rt;
+        rules.levels() == 5 && rules.matching().len() == 3,
+        "five rules"
+    );
+    let keys = [
+        CostKey::Number(0),
+        CostKey::Number(0),
+        CostKey::Number(0),
+        CostKey::Down(SortKey::Missing),
+        CostKey::Up(SortKey::Missing),
+    ];
+    for (level, key) in keys.iter().enumerate() {
+        check_first(&rt, alloc, &rules, level, key);
     }
-    assert!(rt; first_bucket(alloc, &rules, 3)? == Some((CostKey::Down(SortKey::Missing), 3)));
-    assert!(rt; first_bucket(alloc, &rules, 4)? == Some((CostKey::Up(SortKey::Missing), 3)));
-    assert!(rt; first_bucket(alloc, &rules, 5)?.is_none());
-    Ok(())
 }
 
 #[test]
-fn the_asked_slice_is_found(rt: HostRuntime) -> Result<(), Fail> {
+fn the_asked_slice_is_found(rt: HostRuntime) {
     let alloc = rt.alloc();
-    let universe = DocSet::from_sorted(alloc, &[DocId(1), DocId(3), DocId(4)])?;
+    let universe = set(&rt, alloc);
     let graph = empty(alloc);
     let rules = [Rule::Words, Rule::Down(Some(PathId(2)))];
-    let mut log: Box<dyn BucketLog> = Box::new(alloc, RecordLog::new(alloc))?;
+    let log = Box::new(alloc, RecordLog::new(alloc)).expect(&rt, "memory");
+    let mut log: Box<dyn BucketLog> = log;
     let mut openings: Steps<Counted> = Steps::new();
     let (log, steps) = (&mut log, &mut openings);
-    let found = find(alloc, &Bare, &graph, &rules, &universe, 1, 5, log, steps)?;
-    assert!(rt; found.hits.as_slice() == [DocId(3), DocId(4)].as_slice());
-    assert!(rt; found.matching.len() == 3);
-    Ok(())
+    let found = find(alloc, &Bare, &graph, &rules, &universe, 1, 5, log, steps);
+    let found = found.expect(&rt, "memory");
+    assert!(rt;
+        found.hits.as_slice() == [DocId(3), DocId(4)].as_slice(),
+        "hits"
+    );
+    assert!(rt; found.matching.len() == 3, "matching");
 }
