@@ -1,7 +1,8 @@
 -- The items of a query: at most ten, each of some words, and the prefix word the last.
-use Rattle.std.proofs.Common.{◌≡◌, ◌∙◌, ℕ, zero, suc, ◌+◌, ◌<◌, ◌≤◌, ◌==◌, Bool, true, false, not, ◌&&◌, cond, List, [], ◌∷◌, ◌++◌, length, take, map, filter, refl, sym, ap, subst, arith, length-take, append-nil, append_assoc}
+use Rattle.std.proofs.Common.{◌≡◌, ◌∙◌, ℕ, zero, suc, ◌+◌, ◌<◌, ◌≤◌, ◌==◌, Bool, true, false, not, ◌&&◌, cond, List, [], ◌∷◌, ◌++◌, length, take, map, filter, Result, Ok, Err, OnOk, refl, sym, ap, subst, arith, length-take, append-nil, append_assoc}
 use Rattle.std.specs.List.{list_all, slice_split, AllByRecursion}
 use Rattle.std.specs.List.{before_first, after_first, position_or_len, onto_first}
+use Rattle.std.proofs.lemmas.List.{take-append-le}
 use Rattle.std.proofs.lemmas.List.Splits.{slice_split_first}
 use Rattle.search_base.specs.declared.token.Token.{Token}
 use Rattle.token_words.specs.Tokens.{tokens}
@@ -57,18 +58,66 @@ pub words_added : (last : Bool) (end : ℕ) (old : List ItemView) (front : List 
 words_added last end old front token words e =
     append_assoc old (map (λ t. word_item false t.word) front) _ ∙ ap (λ (items : List ItemView). old ++ items) (sym (ap (word_items last end) e ∙ words_last last end front token))
 
--- ---- the items so far, and those of the rest of the text
+-- ---- the first items
+
+take_less : {X : Type 0} (n m : ℕ) (xs : List X) → n ≤ m → take n (take m xs) ≡ take n xs
+take_less zero m xs h = refl
+take_less (suc n) zero xs h = absurd (omega arith)
+take_less (suc n) (suc m) [] h = refl
+take_less (suc n) (suc m) (x ∷ xs) h = ap (λ rest. x ∷ rest) (take_less n m xs (omega arith))
+
+-- what stands behind the first of a list is not among the first of all
+pub take_first : {X : Type 0} (n : ℕ) (xs ys : List X) → take n (take n xs ++ ys) ≡ take n (xs ++ ys)
+take_first zero xs ys = refl
+take_first (suc n) [] ys = refl
+take_first (suc n) (x ∷ xs) ys = ap (λ rest. x ∷ rest) (take_first n xs ys)
+
+pub take_second : {X : Type 0} (n m : ℕ) (xs ys : List X) → n ≤ m → take n (xs ++ take m ys) ≡ take n (xs ++ ys)
+take_second zero m xs ys h = refl
+take_second (suc n) m [] ys h = take_less (suc n) m ys h
+take_second (suc n) m (x ∷ xs) ys h = ap (λ rest. x ∷ rest) (take_second n m xs ys (omega arith))
+
+-- of words no more are read than one behind the first
+words_read : (n : ℕ) (last : Bool) (end : ℕ) (ts : List Token) → take n (word_items last end (take (suc n) ts)) ≡ take n (word_items last end ts)
+words_read zero last end ts = refl
+words_read (suc n) last end [] = refl
+words_read (suc n) last end (t ∷ []) = refl
+words_read (suc n) last end (t ∷ u ∷ ts) = ap (λ (rest : List ItemView). word_item false t.word ∷ rest) (words_read n last end (u ∷ ts))
+
+first_words : (last : Bool) (end : ℕ) (old new : List ItemView) (words ts : List Token) → words ≡ take (suc most_items) ts
+    → new ≡ old ++ word_items last end words → take most_items new ≡ take most_items (old ++ word_items last end ts)
+first_words last end old new words ts read added =
+    ap (take most_items) (added ∙ ap (λ w. old ++ word_items last end w) read)
+    ∙ sym (take_second most_items most_items old (word_items last end (take (suc most_items) ts)) (omega arith))
+    ∙ ap (λ (items : List ItemView). take most_items (old ++ items)) (words_read most_items last end ts)
+    ∙ take_second most_items most_items old (word_items last end ts) (omega arith)
+
+pub first_words_added : {X E : Type 0} (r : Result X E) (quoted last : Bool) (old new : List ItemView) (words : List Token) (part : List ℕ) → quoted ≡ false
+    → words ≡ take (suc most_items) (tokens part) → OnOk r (new ≡ old ++ word_items last (length part) words)
+    → OnOk r (take most_items new ≡ take most_items (old ++ part_items quoted last part))
+first_words_added (Ok x) quoted last old new words part beside read added =
+    first_words last (length part) old new words (tokens part) read added ∙ ap (λ (b : Bool). take most_items (old ++ part_items b last part)) (sym beside)
+first_words_added (Err e) quoted last old new words part beside read added = tt
+
+-- ---- the first items so far, and those of the rest of the text
 
 pub cut_more : (quoted : Bool) (list more whole : List ItemView) (rest part behind : List ℕ)
     → (position_or_len (λ byte. byte == 34) rest < length rest) × (part ≡ before_first (λ byte. byte == 34) rest) × (behind ≡ after_first (λ byte. byte == 34) rest)
-    → more ≡ list ++ part_items quoted false part → list ++ items_in quoted (parts rest) ≡ whole → more ++ items_in (not quoted) (parts behind) ≡ whole
+    → take most_items more ≡ take most_items (list ++ part_items quoted false part) → take most_items (list ++ items_in quoted (parts rest)) ≡ whole
+    → take most_items (more ++ items_in (not quoted) (parts behind)) ≡ whole
 cut_more quoted list more whole rest part behind cut added told =
-    ap (λ (items : List ItemView). items ++ items_in (not quoted) (parts behind)) added
-    ∙ append_assoc list (part_items quoted false part) (items_in (not quoted) (parts behind))
-    ∙ ap (λ (items : List ItemView). list ++ items)
+    sym (take_first most_items more (items_in (not quoted) (parts behind)))
+    ∙ ap (λ (items : List ItemView). take most_items (items ++ items_in (not quoted) (parts behind))) added
+    ∙ take_first most_items (list ++ part_items quoted false part) (items_in (not quoted) (parts behind))
+    ∙ ap (take most_items) (append_assoc list (part_items quoted false part) (items_in (not quoted) (parts behind)))
+    ∙ ap (λ (items : List ItemView). take most_items (list ++ items))
     (ap (λ p. part_items quoted false p ++ items_in (not quoted) (parts behind)) cut.1 ∙ ap (λ p. part_items quoted false (before_first (λ byte. byte == 34) rest) ++ items_in (not quoted) (parts p)) cut.2
     ∙ items_cut quoted rest cut.0)
     ∙ told
+
+-- ten items are enough
+pub no_more : (list more whole : List ItemView) → most_items ≤ length list → take most_items (list ++ more) ≡ whole → take most_items list ≡ whole
+no_more list more whole full told = sym (take-append-le most_items list more full) ∙ told
 
 -- ---- what holds of all items
 

@@ -4,3 +4,4 @@ pub mod ReadingLemmas
 pub mod SoundLemmas
 pub mod CostLemmas
 pub mod TermLemmas
+pub mod CutLemmas

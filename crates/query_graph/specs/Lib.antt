@@ -4,3 +4,4 @@ pub mod Items
 pub mod Levels
 pub mod ItemReadings
 pub mod Graph
+pub mod Cuts

@@ -1,12 +1,16 @@
-ghost use Rattle.std.specs.Prelude.{◌≡◌, ◌<◌, ◌≤◌, ◌+◌, ◌++◌, ◌∷◌, List, [], length, map, filter, IfOk, OnOk};
+ghost use Rattle.std.specs.Prelude.{◌≡◌, ◌↔◌, ◌<◌, ◌≤◌, ◌+◌, ◌++◌, ◌∷◌, List, [], Contains, length, map, filter, IfOk, OnOk};
 ghost use Rattle.search_base.specs.Graphs.{IsGraph};
 ghost use Rattle.search_base.specs.Query.{tuple_under};
 ghost use Rattle.search_base.specs.RowsView.{RowsView};
 ghost use Rattle.search_base.specs.Terms.{terms_of, terms_under, HaveSame};
 ghost use Rattle.search_base.specs.Tuple.{tuple};
+ghost use Rattle.search_base.specs.declared.query.Block.{Block as ReadBlock};
 ghost use Rattle.search_base.specs.declared.rule.Rule.{Rule};
+ghost use Rattle.synonym_terms.specs.SynonymRowView.{SynonymRowView};
+ghost use Rattle.query_graph.specs.Cuts.{CutsItems};
+ghost use Rattle.query_graph.specs.ItemView.{ItemView};
 ghost use Rattle.query_graph.specs.Items.{most_items, AreItems};
-ghost use Rattle.query_graph.specs.ItemReadings.{words_of, query_for};
+ghost use Rattle.query_graph.specs.ItemReadings.{words_of, readings_of, query_for};
 ghost use Rattle.query_graph.specs.Levels.{word_count, with_words, most_dropped, has_items, levels};
 ghost use Rattle.query_graph.specs.Graph.{placed_at, blocks_at, level_of, HaveReadings};
 
@@ -160,3 +164,10 @@ fn place_all(
     }
     Ok(())
 }
+
+/// The readings of some items are the ways to cut them into parts of one to three, with one of the blocks of each part.
+/// It does nothing.
+pub fn readings_cut_the_items()
+    ensures { (rows : List SynonymRowView) (items : List ItemView) (reading : List ReadBlock)
+        → Contains (readings_of rows items) reading ↔ CutsItems rows items reading }
+{}

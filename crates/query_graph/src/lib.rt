@@ -12,6 +12,6 @@ mod graph;
 mod item;
 mod text;
 
-pub use graph::build_graph;
+pub use graph::{build_graph, readings_cut_the_items};
 pub use item::{Item, Items};
 pub use text::items;

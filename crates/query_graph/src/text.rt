@@ -1,13 +1,13 @@
 ghost use Rattle.std.specs.Prelude.{◌≡◌, ◌==◌, ◌&&◌, ◌++◌, not, length, map, take, filter, false, IfOk, OnOk};
 ghost use Rattle.std.specs.List.{list_any, list_all};
 ghost use Rattle.token_words.specs.Tokens.{tokens};
-ghost use Rattle.query_graph.specs.Items.{parts, word_item, word_items, phrase_items, part_items, items_in};
+ghost use Rattle.query_graph.specs.Items.{word_item, word_items, phrase_items, part_items, most_items};
 ghost use Rattle.query_graph.specs.Items.{first_items, is_among, is_left_out, without_stop_words, items_of, AreItems};
 
 use crate::item::{Item, Items};
 use search_base::{NoMemory, Token, Word};
 use std::alloc::Global;
-use token_words::tokens;
+use token_words::{first_tokens, tokens};
 
 const MOST_ITEMS: usize = 10;
 
@@ -30,19 +30,23 @@ pub fn items(alloc: Global, q: &str, stop_words: &[Word]) -> Result<Items, NoMem
 fn first_items(alloc: Global, q: &str) -> Result<Vec<Item>, NoMemory>
     ensures { IfOk result (λ list. list.items ≡ first_items q.now) }
 {
-    let mut list = all_items(alloc, q)?;
+    let mut list = items_read(alloc, q)?;
     list.truncate(MOST_ITEMS);
     Ok(list)
 }
 
-fn all_items(alloc: Global, q: &str) -> Result<Vec<Item>, NoMemory>
-    ensures { IfOk result (λ list. list.items ≡ items_in false (parts q.now)) }
+// The items of the text up to the part in which the tenth stands, some of which may stand behind it.
+fn items_read(alloc: Global, q: &str) -> Result<Vec<Item>, NoMemory>
+    ensures { IfOk result (λ list. take most_items list.items ≡ first_items q.now) }
 {
     let mut list = Vec::new(alloc);
     let mut quoted = false;
     let mut rest = q;
     while let Some((part, behind)) = rest.split_once('"') {
         add_part(alloc, quoted, false, part, &mut list)?;
+        if list.len() >= MOST_ITEMS {
+            return Ok(list);
+        }
         quoted = !quoted;
         rest = behind;
     }
@@ -50,7 +54,8 @@ fn all_items(alloc: Global, q: &str) -> Result<Vec<Item>, NoMemory>
     Ok(list)
 }
 
-// The items of a part of the text, which may be the last one.
+// The items of a part of the text, which may be the last one: of words no more than one behind the tenth, since only
+// the last word of all may be the prefix word.
 fn add_part(
     alloc: Global,
     quoted: bool,
@@ -58,12 +63,14 @@ fn add_part(
     part: &str,
     list: &mut Vec<Item>,
 ) -> Result<(), NoMemory>
-    ensures { OnOk result (list.new.items ≡ list.old.items ++ part_items quoted last part.now) }
+    ensures { OnOk result (take most_items list.new.items
+        ≡ take most_items (list.old.items ++ part_items quoted last part.now)) }
 {
-    let words = tokens(alloc, part)?;
     if quoted {
+        let words = tokens(alloc, part)?;
         add_phrase(alloc, words.as_slice(), list)
     } else {
+        let words = first_tokens(alloc, part, MOST_ITEMS + 1)?;
         add_words(alloc, last, part.len() as u64, words.as_slice(), list)
     }
 }

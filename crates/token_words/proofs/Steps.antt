@@ -1,8 +1,9 @@
 -- One step of the walk over the segments.
-use Rattle.std.proofs.Common.{◌≡◌, ℕ, ◌+◌, ◌≤◌, Bool, true, false, ◌||◌, cond, List, [], ◌∷◌, ◌++◌, length, Option, Some, None, refl, unwrap_or, arith, nat_eq, length-append}
+use Rattle.std.proofs.Common.{◌≡◌, ℕ, ◌+◌, ◌≤◌, Bool, true, false, ◌||◌, cond, List, [], ◌∷◌, ◌++◌, length, take, Option, Some, None, refl, sym, ap, ◌∙◌, unwrap_or, arith, nat_eq, length-append}
 use Rattle.std.specs.List.{concat}
 use Rattle.token_words.specs.Normal.{normal}
 use Rattle.token_words.specs.Segments.{is_word, is_hard, is_empty}
+use Rattle.std.proofs.lemmas.List.{take_all}
 use Rattle.token_words.specs.Tokens.{next_position, tokens_from}
 
 -- what a choice between a word and nothing says where it is a word
@@ -43,3 +44,9 @@ next_position-le (Some p) false n h = omega arith
 pub is_empty-length : (xs : List ℕ) → nat_eq (length xs) 0 ≡ is_empty xs
 is_empty-length [] = refl
 is_empty-length (x ∷ xs) = grind arith
+
+-- ---- the first tokens
+
+-- fewer are all
+pub all_are : {X : Type 0} (most : ℕ) (xs all : List X) → xs ≡ all → length xs ≤ most → xs ≡ take most all
+all_are most xs all told few = sym (ap (take most) (sym told) ∙ take_all most xs few)

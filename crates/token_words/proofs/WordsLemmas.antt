@@ -1,5 +1,5 @@
 -- The tokens of a text are its words, with the separators between them.
-use Rattle.std.proofs.Common.{◌≡◌, ℕ, ◌+◌, ◌-◌, ◌<◌, Bool, true, false, not, ◌&&◌, ◌||◌, List, [], ◌∷◌, ◌++◌, length, take, drop, Some, None, refl, sym, ap, ap₂, ◌∙◌, subst, arith, append_assoc, append-nil, length-append}
+use Rattle.std.proofs.Common.{◌≡◌, ℕ, ◌+◌, ◌-◌, ◌<◌, ◌≤◌, Bool, true, false, not, ◌&&◌, ◌||◌, List, [], ◌∷◌, ◌++◌, length, take, drop, Option, Some, None, refl, sym, ap, ap₂, ◌∙◌, subst, arith, append_assoc, append-nil, length-append}
 use Rattle.std.specs.List.{list_any, list_all, concat, slice_range}
 use Rattle.std.proofs.Math.Seq.{drop-append_seam, take-append_seam}
 use Rattle.std.proofs.lemmas.List.Folds.{concat-append, list_any-append, list_all-append}
@@ -7,7 +7,7 @@ use Rattle.std.proofs.lemmas.Str.{chars-nil}
 use Rattle.search_base.specs.declared.token.Token.{Token}
 use Rattle.token_words.specs.Normal.{normal}
 use Rattle.token_words.specs.Segments.{is_word, is_separator, is_hard, is_empty}
-use Rattle.token_words.specs.Tokens.{step, tokens_from, tokens}
+use Rattle.token_words.specs.Tokens.{step, next_position, tokens_from, tokens}
 use Rattle.token_words.specs.Words.{IsSegment, Follows, FollowOn, AreTheWords}
 use Rattle.token_words.proofs.Steps.{tokens-word, tokens-separator}
 use Rattle.unicode_segmentation.specs.Segments.{has_alphanumeric, is_alphanumeric}
@@ -21,6 +21,22 @@ is_word-nil = ap (λ cs. list_any is_alphanumeric cs && not (is_empty (normal []
 pub word_has_bytes : (segment : List ℕ) → is_word segment ≡ true → 0 < length segment
 word_has_bytes [] h = absurd (let never = is_word-nil in cc)
 word_has_bytes (b ∷ bs) h = omega arith
+
+-- a text has no more tokens than bytes
+pub few_tokens : (last : Option ℕ) (hard : Bool) (at : ℕ) (segments : List (List ℕ)) → length (tokens_from last hard at segments) ≤ length (concat segments)
+unfolding tokens_from
+few_tokens last hard at [] = omega arith
+few_tokens last hard at (segment ∷ segments) =
+    by (few_tokens (Some (next_position last hard)) false (at + length segment) segments) (few_tokens last (hard || is_hard segment) (at + length segment) segments)
+    (is_word segment) refl
+  where
+    by : length (tokens_from (Some (next_position last hard)) false (at + length segment) segments) ≤ length (concat segments)
+        → length (tokens_from last (hard || is_hard segment) (at + length segment) segments) ≤ length (concat segments)
+        → (b : Bool) → is_word segment ≡ b → length (tokens_from last hard at (segment ∷ segments)) ≤ length (segment ++ concat segments)
+    by word separator true is =
+        omega (arith, ap length (tokens-word last hard at segment segments is), word_has_bytes segment is, word, length-append segment (concat segments))
+    by word separator false is =
+        omega (arith, ap length (tokens-separator last hard at segment segments is), separator, length-append segment (concat segments))
 
 -- the bytes of a list that is cut in three
 middle : (a b c text : List ℕ) → text ≡ a ++ (b ++ c) → slice_range text (length a) (length a + length b) ≡ b

@@ -12,4 +12,4 @@ mod segment;
 mod token_list;
 
 pub use normal_form::normal;
-pub use token_list::{tokens, tokens_are_the_words};
+pub use token_list::{first_tokens, tokens, tokens_are_the_words};

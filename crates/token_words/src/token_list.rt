@@ -1,4 +1,4 @@
-ghost use Rattle.std.specs.Prelude.{◌≡◌, ◌^◌, ◌<◌, unwrap_or, IfOk};
+ghost use Rattle.std.specs.Prelude.{◌≡◌, ◌^◌, ◌<◌, take, unwrap_or, IfOk};
 ghost use Rattle.token_words.specs.Tokens.{next_position, tokens};
 ghost use Rattle.token_words.specs.Words.{AreTheWords};
 
@@ -17,11 +17,21 @@ use unicode_segmentation::UnicodeSegmentation;
 pub fn tokens(alloc: Global, text: &str) -> Result<Vec<Token>, NoMemory>
     ensures { IfOk result (λ list. list.items ≡ tokens text.now) }
 {
+    first_tokens(alloc, text, text.len())
+}
+
+/// The first words of a text, as `tokens` has them, `most` at the most. No other word is made.
+pub fn first_tokens(alloc: Global, text: &str, most: usize) -> Result<Vec<Token>, NoMemory>
+    ensures { IfOk result (λ list. list.items ≡ take most (tokens text.now)) }
+{
     let mut list = Vec::new(alloc);
     let mut last = None;
     let mut hard = false;
     let mut at = 0;
     for segment in text.split_word_bounds() {
+        if list.len() >= most {
+            return Ok(list);
+        }
         let end = at + segment.len();
         match word_of(alloc, segment)? {
             Some(word) => {
