@@ -1,9 +1,11 @@
-ghost use Rattle.std.specs.Prelude.{◌≡◌, ◌↔◌, ◌≤◌, length, map, IfOk, IsNone};
+ghost use Rattle.std.specs.Prelude.{◌≡◌, ◌≢◌, [], ◌↔◌, ◌≤◌, length, map, IfOk, IsNone};
 ghost use Rattle.std.specs.Option.{option_map};
 ghost use Rattle.std.specs.List.{AllByRecursion};
 ghost use Rattle.search_base.specs.Graphs.{IsGraph, IsLevel};
 ghost use Rattle.search_base.specs.Tuple.{cost_of, path_cost, whole_of, entry, tuple};
-ghost use Rattle.search_base.specs.WordsCost.{words_cost, words_cost_from};
+ghost use Rattle.search_base.specs.Query.{Query, query_of, cost_under};
+ghost use Rattle.search_base.specs.RowsView.{RowsView};
+ghost use Rattle.search_base.specs.WordsCost.{words_cost_from};
 ghost use Rattle.plain_rank.specs.FirstMatch.{IsFirstMatch, MatchesNone};
 
 use crate::level::level_matches;
@@ -34,7 +36,7 @@ pub fn cost_tuple(
     requires { IsGraph graph.now }
     ensures costs { IfOk result (λ found.
         option_map (λ costs. costs.items) found ≡ tuple rows.now graph.now rules.now) }
-    ensures none { IfOk result (λ found. IsNone found ↔ MatchesNone rows.now.places graph.now.levels) }
+    ensures none { IfOk result (λ found. IsNone found ↔ MatchesNone rows.now.places (query_of graph.now).levels) }
 {
     match document_cost(&rows.places, &graph.levels) {
         Some(level) => Ok(Some(entries(alloc, graph, rows, rules, level)?)),
@@ -157,8 +159,9 @@ fn words_cost(places: &[Place], levels: &[LevelGraph]) -> Option<u32>
     None
 }
 
-/// The words cost is the least number of a level that matches the document, and missing only where
-/// no level matches. It does nothing.
-pub fn the_first_match_counts(graph: &Graph, rows: &DocRows)
-    ensures { IsFirstMatch rows.now.places graph.now.levels (words_cost rows.now.places graph.now) }
+/// The words cost under a query that has a level is the least number of a level of which a reading matches the
+/// document, and missing only where no level has such a reading. It does nothing.
+pub fn the_first_match_counts()
+    ensures { (rows : RowsView) (query : Query) → query.levels ≢ []
+        → IsFirstMatch rows.places query.levels (cost_under rows.places query.levels) }
 {}

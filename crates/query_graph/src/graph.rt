@@ -1,4 +1,5 @@
-ghost use Rattle.std.specs.Prelude.{◌≡◌, ◌↔◌, ◌<◌, ◌≤◌, ◌+◌, ◌++◌, ◌∷◌, List, [], Contains, length, map, filter, IfOk, OnOk};
+ghost use Rattle.std.specs.Prelude.{◌≡◌, ◌↔◌, ◌<◌, ◌≤◌, ◌+◌, ◌++◌, ◌∷◌, List, [], Contains, length, map, filter};
+ghost use Rattle.std.specs.Prelude.{IfOk, OnOk};
 ghost use Rattle.search_base.specs.Graphs.{IsGraph};
 ghost use Rattle.search_base.specs.Query.{tuple_under};
 ghost use Rattle.search_base.specs.RowsView.{RowsView};

@@ -336,7 +336,7 @@ fn tell_key(rt: &impl Abort, sign: &str, key: &SortKey, text: &mut String) {
 fn told(rt: &impl Abort, alloc: Global, query: &str, document: &str, rules: &[Rule]) -> String {
     let graph = graph(rt, alloc, query);
     let rows = rows(rt, alloc, document);
-    the_first_match_counts(&graph, &rows);
+    the_first_match_counts();
     let mut text = String::new(alloc);
     match cost_tuple(alloc, &graph, &rows, rules).expect(rt, "memory") {
         Some(costs) => tell_all(rt, &costs, &mut text),
