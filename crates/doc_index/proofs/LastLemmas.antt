@@ -1,5 +1,5 @@
 -- Documents that come, from the last one back.
-use Rattle.std.proofs.Common.{◌≡◌, ℕ, suc, ◌+◌, ◌-◌, ◌<◌, ◌≤◌, ◌==◌, Bool, true, false, not, ◌||◌, List, [], ◌∷◌, map, length, drop, get_or, refl, sym, ap, ap₂, ◌∙◌, arith, eqb-true}
+use Rattle.std.proofs.Common.{◌≡◌, ℕ, suc, ◌+◌, ◌-◌, ◌<◌, ◌≤◌, ◌==◌, Bool, true, false, ◌||◌, List, [], ◌∷◌, map, length, drop, get_or, refl, sym, ap, ap₂, ◌∙◌, arith, eqb-true}
 use Rattle.std.specs.Prelude.{Result, Ok, Err, IfOk, OnOk}
 use Rattle.std.proofs.lemmas.List.{drop_more, drop-map}
 use Rattle.std.proofs.lemmas.Bool.{cond-true, cond-false}
@@ -49,13 +49,6 @@ ok-both P Q R (Err e) f p q = tt
 pub on-ok : {A E : Type 0} (P Q : Type 0) (r : Result A E) → (P → Q) → OnOk r P → OnOk r Q
 on-ok P Q (Ok x) f p = f p
 on-ok P Q (Err e) f p = tt
-
-pub not-there : {a b : Bool} → not a ≡ true → a ≡ b → b ≡ false
-not-there {a} {b} h same = by a h same
-  where
-    by : (a : Bool) → not a ≡ true → a ≡ b → b ≡ false
-    by true h same = absurd (cc)
-    by false h same = sym same
 
 pub map-drop-before : (ids : List DocId) (i : ℕ) → 0 < i → i ≤ length ids
     → drop (i - 1) (map (λ (x : DocId). x.0) ids) ≡ (get_or ids (i - 1) (record { 0 = 0 })).0 ∷ drop i (map (λ (x : DocId). x.0) ids)

@@ -12,7 +12,7 @@ ghost use Rattle.doc_index.specs.Ready.{IsReady};
 
 use crate::named::Stored;
 use doc_rows::{PathUse, rows};
-use doc_sets::{DocSet, operations_are_on_members};
+use doc_sets::{Bits, operations_are_on_members};
 use doc_store::{DocStore, StoreRow};
 use doc_values::DocumentText;
 use row_index::{PreparedRows, RowChange, RowIndex};
@@ -139,7 +139,7 @@ fn put_in(
     ensures { OnOk result ((gone : List IndexedDocument) → IsChangeOf change.old gone []
         → IsChangeOf change.new gone (last_of paths.now uses.now (map (λ id. id.0) ids.now) documents.now)) }
 {
-    let mut later = DocSet::new(alloc);
+    let mut later = Bits::new(alloc, 0)?;
     let mut i = ids.len();
     while i > 0 {
         i -= 1;
@@ -160,7 +160,7 @@ fn put_in(
 fn put_last(
     alloc: Global,
     change: &mut RowChange,
-    later: &mut DocSet,
+    later: &mut Bits,
     id: DocId,
     row: &StoreRow,
     paths: &[Word],
@@ -175,9 +175,11 @@ fn put_last(
         → AreTheirIds later.new.ids (with_last paths.now uses.now id.0 row.now come)) }
 {
     operations_are_on_members();
-    if !later.insert(id)? {
+    if later.contains(id) {
         return Ok(());
     }
+    later.grow(u64::from(id.0) + 1)?;
+    later.set(id);
     let rows = rows_in(alloc, &row.document, paths, uses)?;
     change.put_in(alloc, id, &rows)
 }
