@@ -1,4 +1,3 @@
 -- Which documents pass a filter.
 pub mod Holds
 pub mod Attributes
-pub mod Ready

@@ -1,14 +1,11 @@
-//! Which documents pass a filter.
+//! What it is that a document passes a filter, and which attributes a filter names.
 //!
-//! Promises that a document passes exactly where the filter holds of its leaves and marks, by the definition in
-//! specs/Holds.antt. A filter is made ready once, against the registry of paths: the paths of its attributes are looked
-//! up, and the values that it compares with are brought into their normal form. Then a document is tried without
-//! memory. Stands on `filter_tree` for filters, on `token_words` for normal forms, and on `search_base`.
+//! The meaning of a filter is told of the leaves and marks of one document, by the definition `holds` in
+//! specs/Holds.antt. No code tries one document: `filter_sets` answers by sets, and is proved by this meaning.
+//! `attributes` lists the attributes of a filter's tests. Stands on `filter_tree` for filters, on `token_words` for
+//! normal forms, and on `search_base`.
 #![tactic(auto)]
 
 mod attribute_list;
-mod ready;
-mod test;
 
 pub use attribute_list::attributes;
-pub use ready::RowFilter;

@@ -14,6 +14,8 @@ mod facets;
 #[cfg(test)]
 mod films;
 #[cfg(test)]
+mod filter_texts;
+#[cfg(test)]
 mod filters;
 #[cfg(test)]
 mod sorts;

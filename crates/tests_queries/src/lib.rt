@@ -5,13 +5,13 @@
 #![tactic(auto)]
 
 #[cfg(test)]
+mod attributes;
+#[cfg(test)]
 mod checks;
 #[cfg(test)]
 mod filters;
 #[cfg(test)]
 mod graphs;
-#[cfg(test)]
-mod row_filters;
 #[cfg(test)]
 mod synonyms;
 #[cfg(test)]

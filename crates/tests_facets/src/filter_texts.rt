@@ -1,26 +1,29 @@
-use crate::checks::{add, check, check_text, word};
+use crate::checks::{check, set, word};
+use crate::facets::{DocLeaves, commit};
+use facet_index::FacetIndex;
 use filter_expr::parse;
+use filter_sets::select;
 use filter_tree::Filter;
-use row_filter::*;
-use search_base::{DocRows, FacetValue, Leaf, Mark, MarkKind, PathId, Word};
+use search_base::{DocId, FacetValue, Leaf, Mark, MarkKind, PathId, Word};
 use serde_json::Value;
 use std::alloc::Global;
 use std::process::Abort;
 
 const PATHS: [&str; 3] = ["colour", "size", "on"];
 
-// A document is its leaves of text as `path=form` and of number as `path#number`, and its marks as `path!kind`.
-const DOCUMENTS: [&str; 6] = [
-    "0=red;1#7;0!exists;1!exists",
-    "0=strasse;1#-9223372036854775808;0!exists;1!exists",
-    "1#18446744073709551615;1=007;1!exists",
-    "0!exists;0!null",
-    "2=true;0!exists;0!empty;2!exists",
-    "",
+// The number of a document, with its leaves of text as `path=form` and of number as `path#number`, and its marks as
+// `path!kind`.
+const DOCUMENTS: [(u32, &str); 6] = [
+    (0, "0=red;1#7;0!exists;1!exists"),
+    (1, "0=strasse;1#-9223372036854775808;0!exists;1!exists"),
+    (2, "1#18446744073709551615;1=007;1!exists"),
+    (3, "0!exists;0!null"),
+    (4, "2=true;0!exists;0!empty;2!exists"),
+    (5, ""),
 ];
 
 // A filter, and the documents that pass it.
-const FILTERS: [(&str, &str); 38] = [
+const FILTERS: [(&str, &str); 45] = [
     ("", "0 1 2 3 4 5 "),
     ("colour = red", "0 "),
     ("colour = RÉD", "0 "),
@@ -59,13 +62,13 @@ const FILTERS: [(&str, &str); 38] = [
     ("colour IS NOT EMPTY", "0 1 2 3 5 "),
     ("colour = red AND size = 7 AND on NOT EXISTS", "0 "),
     ("colour = red OR on = true", "0 4 "),
-];
-
-// A filter, and the attributes that it tests.
-const ATTRIBUTES: [(&str, &str); 3] = [
-    ("", ""),
-    ("b = 1", "b "),
-    ("b = 1 AND (a EXISTS OR NOT b > 2)", "b a b "),
+    ("size > 7 OR size >= 7 OR size > 0", "0 2 "),
+    ("size 0 TO 8 OR size 5 TO 100 OR size = 7", "0 "),
+    ("size > 0 AND size > 6 AND size < 100 AND size < 8", "0 "),
+    ("size > 0 AND size < 0", ""),
+    ("size = 7 AND size = 7", "0 "),
+    ("colour IN [red, RED, Red, strasse, red]", "0 1 "),
+    ("colour = red AND colour = RED AND NOT colour = red", ""),
 ];
 
 fn filter_of(rt: &impl Abort, alloc: Global, text: &str) -> Filter {
@@ -81,38 +84,47 @@ fn paths(rt: &impl Abort, alloc: Global) -> Vec<Word> {
     paths
 }
 
-fn add_leaf(rt: &impl Abort, alloc: Global, path: &str, value: FacetValue, rows: &mut DocRows) {
+fn add_leaf(
+    rt: &impl Abort,
+    alloc: Global,
+    path: &str,
+    value: FacetValue,
+    document: &mut DocLeaves,
+) {
     let leaf = Leaf {
         path: path_id(path),
         value,
         shown: word(rt, alloc, ""),
     };
-    rows.leaves.push(leaf).expect(rt, "memory");
+    document.leaves.push(leaf).expect(rt, "memory");
 }
 
-fn add_row(rt: &impl Abort, alloc: Global, part: &str, rows: &mut DocRows) {
+fn add_part(rt: &impl Abort, alloc: Global, part: &str, document: &mut DocLeaves) {
     if let Some((path, form)) = part.split_once('=') {
         let value = FacetValue::Text(word(rt, alloc, form));
-        add_leaf(rt, alloc, path, value, rows);
+        add_leaf(rt, alloc, path, value, document);
     } else if let Some((path, number)) = part.split_once('#') {
         let value = FacetValue::Number(number.parse::<i128>().unwrap_or(0));
-        add_leaf(rt, alloc, path, value, rows);
+        add_leaf(rt, alloc, path, value, document);
     } else if let Some((path, kind)) = part.split_once('!') {
         let (path, kind) = (path_id(path), kind_of(kind));
-        rows.marks.push(Mark { path, kind }).expect(rt, "memory");
+        document
+            .marks
+            .push(Mark { path, kind })
+            .expect(rt, "memory");
     }
 }
 
-fn rows(rt: &impl Abort, alloc: Global, document: &str) -> DocRows {
-    let mut rows = DocRows {
-        places: Vec::new(alloc),
+fn document(rt: &impl Abort, alloc: Global, id: u32, text: &str) -> DocLeaves {
+    let mut document = DocLeaves {
+        id: DocId(id),
         leaves: Vec::new(alloc),
         marks: Vec::new(alloc),
     };
-    for part in document.split(';') {
-        add_row(rt, alloc, part, &mut rows);
+    for part in text.split(';') {
+        add_part(rt, alloc, part, &mut document);
     }
-    rows
+    document
 }
 
 fn path_id(path: &str) -> PathId {
@@ -127,45 +139,34 @@ fn kind_of(kind: &str) -> MarkKind {
     }
 }
 
-fn passing(rt: &impl Abort, alloc: Global, filter: &RowFilter) -> String {
-    let mut passing = String::new(alloc);
-    for (at, document) in DOCUMENTS.iter().enumerate() {
-        if filter.passes(&rows(rt, alloc, document)) {
-            write!(passing, "{at} ").expect(rt, "memory");
-        }
+fn index(rt: &impl Abort, alloc: Global) -> FacetIndex {
+    let mut documents = Vec::new(alloc);
+    for (id, text) in &DOCUMENTS {
+        let document = document(rt, alloc, *id, text);
+        documents.push(document).expect(rt, "memory");
     }
-    passing
+    let mut index = FacetIndex::new(alloc);
+    commit(rt, alloc, &mut index, &[], documents.as_slice());
+    index
 }
 
-fn check_filter(rt: &impl Abort, alloc: Global, text: &str, wanted: &str) {
+fn check_filter(rt: &impl Abort, alloc: Global, index: &FacetIndex, text: &str, wanted: &str) {
     let paths = paths(rt, alloc);
     assert!(rt; paths.len() <= 1000);
     let filter = filter_of(rt, alloc, text);
-    let ready = RowFilter::of(alloc, &filter, &paths).expect(rt, "memory");
-    check_text(rt, &passing(rt, alloc, &ready), wanted, text);
-    check(rt, ready.is_all() == text.is_empty(), text);
+    let all = set(rt, alloc, &[0, 1, 2, 3, 4, 5]);
+    let docs = select(alloc, index, &filter, paths.as_slice(), &all).expect(rt, "memory");
+    let mut passing = String::new(alloc);
+    for id in docs.iter() {
+        write!(passing, "{} ", id.0).expect(rt, "memory");
+    }
+    check(rt, passing.as_str() == wanted, text);
 }
 
 #[test]
 fn documents_pass_where_the_filter_holds(rt: HostRuntime) {
+    let index = index(&rt, rt.alloc());
     for (text, wanted) in &FILTERS {
-        check_filter(&rt, rt.alloc(), text, wanted);
-    }
-}
-
-fn check_attributes(rt: &impl Abort, alloc: Global, text: &str, wanted: &str) {
-    let filter = filter_of(rt, alloc, text);
-    let mut names = String::new(alloc);
-    for name in &attributes(alloc, &filter).expect(rt, "memory") {
-        add(rt, &mut names, name.as_str());
-        add(rt, &mut names, " ");
-    }
-    check_text(rt, &names, wanted, text);
-}
-
-#[test]
-fn attributes_come_in_the_order_of_the_text(rt: HostRuntime) {
-    for (text, wanted) in &ATTRIBUTES {
-        check_attributes(&rt, rt.alloc(), text, wanted);
+        check_filter(&rt, rt.alloc(), &index, text, wanted);
     }
 }

@@ -1,3 +1,0 @@
--- Lemmas on filters that are made ready.
-pub mod Tests
-pub mod Folds
