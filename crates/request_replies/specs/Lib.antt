@@ -1,4 +1,5 @@
 pub mod Costs
 pub mod Shown
+pub mod Names
 pub mod Facets
 pub mod Replies

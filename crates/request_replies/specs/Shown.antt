@@ -1,5 +1,5 @@
 -- Which members of a document a request is shown.
-use Rattle.std.specs.Prelude.{ℕ, List, map, filter, Bool, ◌||◌, codes, bytes_eq, Option, Some, None, if◌then◌else◌}
+use Rattle.std.specs.Prelude.{ℕ, List, map, Bool, ◌||◌, codes, bytes_eq, Option, Some, None, if◌then◌else◌}
 use Rattle.std.specs.List.{list_any}
 use Rattle.std.specs.Option.{option_map}
 use Rattle.serde_json.specs.Data.{Data, object, Members, no_members, member, put}
@@ -15,11 +15,14 @@ is_among names name = list_any (λ n. bytes_eq n name) names
 abbrev pub is_shown : List (List ℕ) → List ℕ → Bool
 is_shown names name = is_among names (codes "*") || is_among names name
 
--- the members of these names, in their order
+-- the members whose names pass a test, in their order
+abbrev pub members_by : (List ℕ → Bool) → Members → Members
+members_by test no_members = no_members
+members_by test (member name d ms) = if test name then member name d (members_by test ms) else members_by test ms
+
+-- the members of these names
 abbrev pub shown_members : List (List ℕ) → Members → Members
-shown_members names no_members = no_members
-shown_members names (member name d ms) =
-    if is_shown names name then member name d (shown_members names ms) else shown_members names ms
+shown_members names ms = members_by (is_shown names) ms
 
 -- a document by its top members
 abbrev pub shown : List (List ℕ) → Data → Data
@@ -49,15 +52,6 @@ abbrev pub hit_shown : List (List ℕ) → List (List ℕ) → HitView → Data
 hit_shown displayed retrieve hit =
     object (with_costs hit.costs (shown_members retrieve (shown_members displayed (members_in hit.document))))
 
--- ---- as the code does it
-
--- the names that both lists have, where `*` in a list stands for all names
-abbrev pub common_names : List (List ℕ) → List (List ℕ) → List (List ℕ)
-common_names displayed retrieve =
-    if is_among displayed (codes "*") then retrieve
-    else if is_among retrieve (codes "*") then displayed
-    else filter (is_among retrieve) displayed
-
--- a hit by the names of one list
-abbrev pub hit_by : List (List ℕ) → HitView → Data
-hit_by names hit = object (with_costs hit.costs (shown_members names (members_in hit.document)))
+-- a hit by the members whose names pass a test
+abbrev pub hit_by : (List ℕ → Bool) → HitView → Data
+hit_by test hit = object (with_costs hit.costs (members_by test (members_in hit.document)))

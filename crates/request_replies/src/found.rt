@@ -3,30 +3,32 @@ ghost use Rattle.std.specs.Prelude.{◌≡◌, ◌++◌, IfOk, map, string_bytes
 ghost use Rattle.std.specs.Option.{option_copied};
 ghost use Rattle.serde_json.specs.Data.{Members};
 ghost use Rattle.serde_json.specs.Written.{compact_text, members_text};
+ghost use Rattle.request_replies.specs.Names.{shows};
 ghost use Rattle.request_replies.specs.Shown.{view_of, hit_by};
 ghost use Rattle.request_replies.specs.Replies.{hits_data, total_pages as total_pages_of, with_estimate, window_members};
 
 use crate::facets::put_facets;
 use crate::hit::Hit;
+use crate::names::Names;
 use crate::shown::put_hits;
 use crate::text::{put_comma, quoted_text};
 use facet_counts::FacetReply;
-use search_base::{NoMemory, Word};
+use search_base::NoMemory;
 use search_call::Window;
 use std::alloc::Global;
 
-/// The body of a search's reply, with its hits by the members that `names` has.
+/// The body of a search's reply, with its hits by the members that `names` shows.
 pub(crate) fn hits_text(
     alloc: Global,
     q: &str,
     window: Window,
-    names: &[Word],
+    names: &Names,
     total: u64,
     hits: &[Hit],
     facets: Option<&[FacetReply]>,
 ) -> Result<String, NoMemory>
     ensures { IfOk result (λ text. string_bytes text ≡ compact_text (hits_data q.now window total
-        (option_copied facets.entry) (map (hit_by names.now) (map view_of hits.now)))) }
+        (option_copied facets.entry) (map (hit_by (shows names.now)) (map view_of hits.now)))) }
 {
     let mut text = String::from_str(alloc, "{")?;
     let later = put_estimate(alloc, &mut text, window, total)?;

@@ -1,53 +1,112 @@
-// Lists of names, in which `*` stands for all names.
-ghost use Rattle.std.specs.Prelude.{◌≡◌, IfOk, filter};
-ghost use Rattle.request_replies.specs.Shown.{is_among as is_among_names, common_names as common_names_of};
+// Names of members, in which `*` stands for all names.
+ghost use Rattle.std.specs.Prelude.{◌≡◌, ◌&&◌, true, ℕ, List, IfOk};
+ghost use Rattle.std.specs.BTreeSet.{contains_text};
+ghost use Rattle.request_replies.specs.Names.{set_shows, shows};
+ghost use Rattle.request_replies.specs.Shown.{is_among, is_shown};
 
 use search_base::{NoMemory, Word};
 use std::alloc::Global;
+use std::collections::BTreeSet;
 
-/// Whether the name is one of the names.
-pub(crate) fn is_among(names: &[Word], name: &str) -> bool
-    ensures { result ≡ is_among_names names.now name.now }
-{
-    names.iter().any(|n| n.as_str() == name)
+// The names of a list. It shows them all where `*` is among them.
+#[derive(Drop)]
+struct NameSet {
+    all: bool,
+    names: BTreeSet<String>,
 }
 
-/// The names that both lists have.
-pub(crate) fn common_names(
-    alloc: Global,
-    displayed: &[Word],
-    retrieve: &[Word],
-) -> Result<Vec<Word>, NoMemory>
-    ensures { IfOk result (λ names. names.items ≡ common_names_of displayed.now retrieve.now) }
-{
-    if is_among(displayed, "*") {
-        return copied(alloc, retrieve);
-    }
-    if is_among(retrieve, "*") {
-        return copied(alloc, displayed);
-    }
-    names_among(alloc, displayed, retrieve)
-}
-
-fn copied(alloc: Global, names: &[Word]) -> Result<Vec<Word>, NoMemory>
-    ensures { IfOk result (λ copy. copy.items ≡ names.now) }
-{
-    let mut copy = Vec::new(alloc);
-    for name in names {
-        copy.push(name.clone()?)?;
-    }
-    Ok(copy)
-}
-
-// Those of the names that are among the others.
-fn names_among(alloc: Global, names: &[Word], others: &[Word]) -> Result<Vec<Word>, NoMemory>
-    ensures { IfOk result (λ kept. kept.items ≡ filter (is_among_names others.now) names.now) }
-{
-    let mut kept = Vec::new(alloc);
-    for name in names {
-        if is_among(others, name.as_str()) {
-            kept.push(name.clone()?)?;
+impl NameSet {
+    // All names.
+    fn all(alloc: Global) -> NameSet
+        ensures { (name : List ℕ) → set_shows result name ≡ true }
+    {
+        NameSet {
+            all: true,
+            names: BTreeSet::new(alloc),
         }
     }
-    Ok(kept)
+
+    // Those of a list.
+    fn new(alloc: Global, names: &[Word]) -> Result<NameSet, NoMemory>
+        ensures { IfOk result (λ set. (name : List ℕ) → set_shows set name ≡ is_shown names.now name) }
+    {
+        let names = distinct(alloc, names)?;
+        Ok(NameSet {
+            all: names.contains("*"),
+            names,
+        })
+    }
+
+    // Whether all names are shown.
+    fn has_all(&self) -> bool
+        ensures { result ≡ true → (name : List ℕ) → set_shows self.now name ≡ true }
+    {
+        self.all
+    }
+
+    // Whether a name is shown.
+    fn has(&self, name: &str) -> bool
+        ensures { result ≡ set_shows self.now name.now }
+    {
+        self.all || self.names.contains(name)
+    }
+}
+
+// The names of a list, each once.
+fn distinct(alloc: Global, names: &[Word]) -> Result<BTreeSet<String>, NoMemory>
+    ensures { IfOk result (λ set. (name : List ℕ) → contains_text set name ≡ is_among names.now name) }
+{
+    let mut set = BTreeSet::new(alloc);
+    for name in names {
+        set.insert(String::from_str(alloc, name.as_str())?)?;
+    }
+    Ok(set)
+}
+
+/// The names of members that are shown: those that two lists show.
+#[derive(Drop)]
+pub(crate) struct Names {
+    displayed: NameSet,
+    asked: NameSet,
+}
+
+impl Names {
+    /// Those of one list.
+    pub(crate) fn of(alloc: Global, asked: &[Word]) -> Result<Names, NoMemory>
+        ensures { IfOk result (λ names. (name : List ℕ) → shows names name ≡ is_shown asked.now name) }
+    {
+        Ok(Names {
+            displayed: NameSet::all(alloc),
+            asked: NameSet::new(alloc, asked)?,
+        })
+    }
+
+    /// Those that both lists show.
+    pub(crate) fn common(
+        alloc: Global,
+        displayed: &[Word],
+        asked: &[Word],
+    ) -> Result<Names, NoMemory>
+        ensures { IfOk result (λ names. (name : List ℕ)
+            → shows names name ≡ (is_shown displayed.now name && is_shown asked.now name)) }
+    {
+        Ok(Names {
+            displayed: NameSet::new(alloc, displayed)?,
+            asked: NameSet::new(alloc, asked)?,
+        })
+    }
+
+    /// Whether all names are shown.
+    pub(crate) fn has_all(&self) -> bool
+        ensures { result ≡ true → (name : List ℕ) → shows self.now name ≡ true }
+    {
+        self.displayed.has_all() && self.asked.has_all()
+    }
+
+    /// Whether a name is shown.
+    pub(crate) fn has(&self, name: &str) -> bool
+        ensures { result ≡ shows self.now name.now }
+    {
+        self.displayed.has(name) && self.asked.has(name)
+    }
 }

@@ -9,7 +9,7 @@ ghost use Rattle.request_replies.specs.Replies.{answer, accepted, change_data, h
 
 use crate::found::hits_text;
 use crate::hit::Hit;
-use crate::names::common_names;
+use crate::names::Names;
 use crate::shown::{listing_text, shown_text};
 use doc_values::DocumentText;
 use facet_counts::FacetReply;
@@ -164,7 +164,7 @@ fn body_of_hits(
     ensures { IfOk result (λ text. string_bytes text
         ≡ (hits_answer displayed.now call.now total (map view_of hits.now) (option_copied facets.entry)).body) }
 {
-    let names = common_names(alloc, displayed, &call.retrieve)?;
+    let names = Names::common(alloc, displayed, &call.retrieve)?;
     let q = call.q.as_str();
     let text = hits_text(alloc, q, call.window, &names, total, hits, facets)?;
     Ok(text)

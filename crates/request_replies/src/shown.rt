@@ -8,12 +8,13 @@ ghost use Rattle.serde_json.specs.View.{view, items_of, members_view};
 ghost use Rattle.serde_json.specs.Written.{compact_text, has_float, members_text, members_have_float};
 ghost use Rattle.doc_values.specs.Walk.{members_in};
 ghost use Rattle.request_replies.specs.Costs.{costs_data};
-ghost use Rattle.request_replies.specs.Shown.{is_shown as is_shown_by, shown, shown_members, all_shown, with_costs, view_of, hit_by};
+ghost use Rattle.request_replies.specs.Names.{shows};
+ghost use Rattle.request_replies.specs.Shown.{members_by, shown, all_shown, with_costs, view_of, hit_by};
 ghost use Rattle.request_replies.specs.Replies.{listing_data};
 
 use crate::costs::put_costs;
 use crate::hit::Hit;
-use crate::names::is_among;
+use crate::names::Names;
 use crate::text::{put_comma, put_member, quoted_text};
 use doc_values::DocumentText;
 use search_base::{CostKey, NoMemory, Word};
@@ -35,8 +36,9 @@ pub(crate) fn listing_text(
     ensures { IfOk result (λ text. string_bytes text
         ≡ compact_text (listing_data offset limit (all_shown fields.now (map (λ d. d.now) documents.now)) total)) }
 {
+    let names = Names::of(alloc, fields)?;
     let mut text = format!(in alloc; "{{\"limit\":{limit},\"offset\":{offset},\"results\":")?;
-    put_documents(alloc, &mut text, fields, documents)?;
+    put_documents(alloc, &mut text, &names, documents)?;
     let rest = format!(in alloc; ",\"total\":{total}}}")?;
     text.push_str(&rest)?;
     Ok(text)
@@ -50,8 +52,9 @@ pub(crate) fn shown_text(
 ) -> Result<String, NoMemory>
     ensures { IfOk result (λ text. string_bytes text ≡ compact_text (shown fields.now document.now)) }
 {
+    let names = Names::of(alloc, fields)?;
     let mut text = String::new(alloc);
-    put_document(alloc, &mut text, fields, document)?;
+    put_document(alloc, &mut text, &names, document)?;
     Ok(text)
 }
 
@@ -59,17 +62,17 @@ pub(crate) fn shown_text(
 fn put_documents(
     alloc: Global,
     text: &mut String,
-    fields: &[Word],
+    names: &Names,
     documents: &[&DocumentText],
 ) -> Result<(), NoMemory>
-    ensures { OnOk result (string_bytes text.new ≡ string_bytes text.old
-        ++ compact_text (array (items_of (all_shown fields.now (map (λ d. d.now) documents.now))))) }
+    ensures { OnOk result (string_bytes text.new ≡ string_bytes text.old ++ compact_text (array (items_of
+        (map (λ d. object (members_by (shows names.now) (members_in d))) (map (λ d. d.now) documents.now))))) }
 {
     text.push_str("[")?;
     let mut later = false;
     for document in documents {
         put_comma(text, later)?;
-        put_document(alloc, text, fields, document)?;
+        put_document(alloc, text, names, document)?;
         later = true;
     }
     text.push_str("]")?;
@@ -80,11 +83,11 @@ fn put_documents(
 pub(crate) fn put_hits(
     alloc: Global,
     text: &mut String,
-    names: &[Word],
+    names: &Names,
     hits: &[Hit],
 ) -> Result<(), NoMemory>
     ensures { OnOk result (string_bytes text.new ≡ string_bytes text.old
-        ++ compact_text (array (items_of (map (hit_by names.now) (map view_of hits.now))))) }
+        ++ compact_text (array (items_of (map (hit_by (shows names.now)) (map view_of hits.now))))) }
 {
     text.push_str("[")?;
     let mut later = false;
@@ -97,9 +100,9 @@ pub(crate) fn put_hits(
     Ok(())
 }
 
-fn put_hit(alloc: Global, text: &mut String, names: &[Word], hit: &Hit) -> Result<(), NoMemory>
+fn put_hit(alloc: Global, text: &mut String, names: &Names, hit: &Hit) -> Result<(), NoMemory>
     ensures { OnOk result (string_bytes text.new
-        ≡ string_bytes text.old ++ compact_text (hit_by names.now (view_of hit.now))) }
+        ≡ string_bytes text.old ++ compact_text (hit_by (shows names.now) (view_of hit.now))) }
 {
     match &hit.costs {
         Some(costs) => put_chosen(alloc, text, names, Some(costs.as_slice()), hit.document),
@@ -111,13 +114,13 @@ fn put_hit(alloc: Global, text: &mut String, names: &[Word], hit: &Hit) -> Resul
 fn put_document(
     alloc: Global,
     text: &mut String,
-    names: &[Word],
+    names: &Names,
     document: &DocumentText,
 ) -> Result<(), NoMemory>
     ensures { OnOk result (string_bytes text.new
-        ≡ string_bytes text.old ++ compact_text (shown names.now document.now)) }
+        ≡ string_bytes text.old ++ compact_text (object (members_by (shows names.now) (members_in document.now)))) }
 {
-    if is_among(names, "*") {
+    if names.has_all() {
         text.push_str(document.text())?;
         return Ok(());
     }
@@ -128,13 +131,13 @@ fn put_document(
 fn put_chosen(
     alloc: Global,
     text: &mut String,
-    names: &[Word],
+    names: &Names,
     costs: Option<&[CostKey]>,
     document: &DocumentText,
 ) -> Result<(), NoMemory>
     ensures { OnOk result (string_bytes text.new ≡ string_bytes text.old
         ++ compact_text (object (with_costs (option_copied costs.entry)
-        (shown_members names.now (members_in document.now))))) }
+        (members_by (shows names.now) (members_in document.now))))) }
 {
     let document = document.document(alloc)?;
     match document.as_json() {
@@ -147,14 +150,14 @@ fn put_chosen(
 fn put_members(
     alloc: Global,
     text: &mut String,
-    names: &[Word],
+    names: &Names,
     costs: Option<&[CostKey]>,
     members: &Map<String, Value>,
 ) -> Result<(), NoMemory>
     requires { members_have_float (members_view members.now.entries) ≡ false }
     ensures { OnOk result (string_bytes text.new ≡ string_bytes text.old
         ++ compact_text (object (with_costs (option_copied costs.entry)
-        (shown_members names.now (members_view members.now.entries))))) }
+        (members_by (shows names.now) (members_view members.now.entries))))) }
 {
     text.push_str("{")?;
     let mut line = Line {
@@ -180,18 +183,18 @@ fn put_if_shown<'a>(
     alloc: Global,
     text: &mut String,
     line: Line<'a>,
-    names: &[Word],
+    names: &Names,
     name: &str,
     value: &Value,
 ) -> Result<Line<'a>, NoMemory>
     requires { has_float (view value.now) ≡ false }
     ensures { IfOk result (λ after. (rest : Members)
         → string_bytes text.new
-        ++ members_text after.later (with_costs (option_copied after.costs) (shown_members names.now rest))
+        ++ members_text after.later (with_costs (option_copied after.costs) (members_by (shows names.now) rest))
         ≡ string_bytes text.old ++ members_text line.entry.later (with_costs (option_copied line.entry.costs)
-        (shown_members names.now (member name.now (view value.now) rest)))) }
+        (members_by (shows names.now) (member name.now (view value.now) rest)))) }
 {
-    if !is_shown(names, name) {
+    if !names.has(name) {
         return Ok(line);
     }
     put_comma(text, line.later)?;
@@ -243,10 +246,4 @@ fn put_named_costs(
     text.push_str(&name)?;
     text.push_str(":")?;
     put_costs(alloc, text, costs)
-}
-
-fn is_shown(names: &[Word], name: &str) -> bool
-    ensures { result ≡ is_shown_by names.now name.now }
-{
-    is_among(names, "*") || is_among(names, name)
 }
