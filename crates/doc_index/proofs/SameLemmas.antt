@@ -12,7 +12,7 @@ use Rattle.postings.specs.Documents.{Document, stands_in}
 use Rattle.postings.specs.Documents as postings
 use Rattle.postings.specs.Fresh as fresh
 use Rattle.path_lengths.specs.Measured.{measured}
-use Rattle.facet_index.specs.LeavesView.{LeavesView, leaves_of}
+use Rattle.facet_index.specs.LeavesView.{LeavesView}
 use Rattle.facet_index.specs.Places.{IsNarrowDocument, keyed}
 use Rattle.row_index.specs.Documents.{IndexedDocument, AreApart, document_at}
 use Rattle.row_index.specs.Standing.{RowIndexView, StandsFor, placed, faceted}
@@ -124,6 +124,6 @@ stands-same index xs ys others the_same stood =
         narrow = all-same IsNarrowDocument (map faceted xs) (map faceted ys) leaves stood.facets.narrow;
       };
       leaves = λ id. stood.leaves id
-          ∙ ap leaves_of (at_faceted id xs ∙ ap (option_map faceted) (the_same id) ∙ sym (at_faceted id ys));
+          ∙ ap (option_map (λ document. document.leaves)) (at_faceted id xs ∙ ap (option_map faceted) (the_same id) ∙ sym (at_faceted id ys));
       ids = λ id. stood.ids id ∙ any-same (λ d. d.id == id) xs ys same;
     }

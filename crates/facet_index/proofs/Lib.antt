@@ -9,6 +9,5 @@ pub mod SortLemmas
 pub mod HeldLemmas
 pub mod StepLemmas
 pub mod SortDocLemmas
-pub mod SortRowLemmas
 pub mod NextLemmas
 pub mod CountedLemmas

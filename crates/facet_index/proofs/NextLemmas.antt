@@ -15,8 +15,6 @@ use Rattle.search_base.specs.declared.value.FacetValue.{FacetValue}
 use Rattle.search_base.specs.declared.value.FacetValue.TheVariants as facet
 use Rattle.search_base.specs.CostOrder.{before, IsStrictOrder}
 use Rattle.search_base.specs.SortKeys.{leaves_under, sooner, first_by}
-use Rattle.bucket_sort.specs.Classes.{same}
-use Rattle.sort_rule.specs.Rows.{is_after, next_of, is_under}
 use Rattle.postings.specs.Dictionary.{PostingsView, word_cmp, list_at, some_list}
 use Rattle.facet_keys.specs.Keys.{Facet, leaf, mark, least, greatest, counted, spelling, key_bytes, facet_bytes, IsNarrowValue, IsNarrowFacet, IsNarrow}
 use Rattle.facet_keys.specs.Values.{end_value, end_under, is_end_of}
@@ -28,14 +26,13 @@ use Rattle.facet_index.specs.Batches.{document_at}
 use Rattle.facet_index.specs.Ends.{value_before, values_under, first_value, end_facet, ends_of}
 use Rattle.facet_index.specs.Counted.{counted_of}
 use Rattle.facet_index.specs.Places.{leaf_facets, mark_facets, facets_of, key_of, IsNarrowDocument, IsIndexOf, has_document}
-use Rattle.facet_index.specs.Sorts.{sort_entry, entry_at, sort_key, sort_keys_of}
+use Rattle.facet_index.specs.Sorts.{sort_entry, entry_at, sort_key, sort_keys_of, same, is_after, next_of, is_under}
 use Rattle.facet_index.specs.Starts.{entry_of, start_of, word_order, is_from, is_had, IsNext, HasNoneFrom}
 use Rattle.facet_index.proofs.TestLemmas.{both, any_map}
 use Rattle.facet_index.proofs.KeyLemmas.{has_key, has_at, bytes_same, value_itself}
 use Rattle.facet_index.proofs.RangeLemmas.{leaves_narrow, first_part, facet_between}
-use Rattle.facet_index.proofs.SortLemmas.{entry_is, entries_before, entries_same, keys_up_to, key_from, after_is, if_from}
+use Rattle.facet_index.proofs.SortLemmas.{entry_is, entries_before, entries_same, entry_same, keys_up_to, key_from, after_is, if_from}
 use Rattle.facet_index.proofs.SortDocLemmas.{has_entry}
-use Rattle.facet_index.proofs.SortRowLemmas.{entry_same}
 
 -- ---- lists
 
@@ -78,7 +75,7 @@ all_first {X} P test (x ∷ xs) y all h = by (first_by test xs) refl h (all_firs
         pick false e = subst P (let same : x ≡ y = cc in same) all.0
 
 -- the first of a list
-pub first_of_all : IsStrictOrder before → (xs : List CostKey) (k : CostKey) → list_any (same before k) xs ≡ true
+pub first_of_all : IsStrictOrder before → (xs : List CostKey) (k : CostKey) → list_any (same k) xs ≡ true
     → AllByRecursion (λ j. before j k ≡ false) xs → first_by before xs ≡ Some k
 first_of_all order [] k any all = absurd (cc)
 first_of_all order (x ∷ xs) k any all = by (order.total x k) (first_of_all order xs k)
@@ -87,12 +84,12 @@ first_of_all order (x ∷ xs) k any all = by (order.total x k) (first_of_all ord
     here None s = refl
     here (Some y) s = ap (λ b. Some (cond b y k)) (all_first (λ j. before j k ≡ false) before xs y all.1 (sym s))
 
-    by : (x ≡ k) ⊎ ((before x k ≡ true) ⊎ (before k x ≡ true)) → (list_any (same before k) xs ≡ true → AllByRecursion (λ j. before j k ≡ false) xs
+    by : (x ≡ k) ⊎ ((before x k ≡ true) ⊎ (before k x ≡ true)) → (list_any (same k) xs ≡ true → AllByRecursion (λ j. before j k ≡ false) xs
         → first_by before xs ≡ Some k) → Some (sooner before x (first_by before xs)) ≡ Some k
     by (inl e) later = ap (λ z. Some (sooner before z (first_by before xs))) e ∙ here (first_by before xs) refl
     by (inr (inl e)) later = absurd (cc (sym e ∙ all.0))
     by (inr (inr e)) later =
-        ap (λ o. Some (sooner before x o)) (later (sym (ap (λ b. (not b && not (before x k)) || list_any (same before k) xs) e) ∙ any) all.1)
+        ap (λ o. Some (sooner before x o)) (later (sym (ap (λ b. (not b && not (before x k)) || list_any (same k) xs) e) ∙ any) all.1)
         ∙ ap (λ b. Some (cond b k x)) e
 
 -- whether there is an entry that passes both tests
@@ -406,7 +403,7 @@ found_value : AreApart → AreInOrder → IsStrictOrder before → (up : Bool) (
 found_value apart order strict up path last start view documents universe word v fits narrow begins index next word_is had =
     let x = has_value apart strict up path view documents universe v narrow index (ap (is_had universe view) (sym word_is) ∙ had) in
     sym (first_of_all strict _ (entry_of up v)
-    (kept_any (sort_key up path documents) (is_after last) (same before (entry_of up v)) universe x.document (entry_of up v) x.stands x.entry after
+    (kept_any (sort_key up path documents) (is_after last) (same (entry_of up v)) universe x.document (entry_of up v) x.stands x.entry after
     (entries_same up v v ∙ value_itself v))
     (kept_all (λ j. before j (entry_of up v) ≡ false) (sort_key up path documents) (is_after last) universe
     (λ d k in_universe has later.

@@ -8,8 +8,6 @@ use Rattle.std.proofs.lemmas.Bool.{eqb-true}
 use Rattle.search_base.specs.declared.cost_key.CostKey.{CostKey}
 use Rattle.search_base.specs.declared.value.FacetValue.{FacetValue}
 use Rattle.search_base.specs.CostOrder.{before}
-use Rattle.bucket_sort.specs.Classes.{same}
-use Rattle.sort_rule.specs.Rows.{is_under}
 use Rattle.postings.specs.Dictionary.{PostingsView, list_at}
 use Rattle.postings.specs.Documents as post
 use Rattle.facet_keys.specs.Keys.{key_bytes, IsNarrow}
@@ -19,7 +17,7 @@ use Rattle.facet_index.specs.Documents.{passes_at}
 use Rattle.facet_index.specs.Ends.{first_value, end_facet}
 use Rattle.facet_index.specs.Places.{keyed, IsNarrowDocument, IsIndexOf, has_document}
 use Rattle.facet_index.specs.Batches.{has_id, AreApart, document_at}
-use Rattle.facet_index.specs.Sorts.{entry_at, sort_key}
+use Rattle.facet_index.specs.Sorts.{entry_at, sort_key, same, is_under}
 use Rattle.facet_index.specs.Starts.{entry_of, entry_value}
 use Rattle.facet_index.proofs.TestLemmas.{any_map, any_where, filter_same}
 use Rattle.facet_index.proofs.KeyLemmas.{has_at, facet_key}
@@ -57,7 +55,7 @@ passes_is test id (x ∷ xs) apart = by (x.id == id) refl (passes_is test id xs 
     by true s later = ap (λ b. test x || b) (nothing_else test id xs (ap (λ n. has_id n xs) (sym (eqb-true x.id id (sym s))) ∙ apart.0)) ∙ or_false (test x)
     by false s later = later
 
-turned : (j k : CostKey) → same before j k ≡ same before k j
+turned : (j k : CostKey) → same j k ≡ same k j
 turned j k = and_turned (not (before j k)) (not (before k j))
 
 under_is : (up : Bool) (v : FacetValue) (o : Option FacetValue) → is_that v o ≡ is_under (entry_of up v) (option_map (entry_of up) o)

@@ -1,5 +1,5 @@
 -- Entries and the keys of their values are in one order.
-use Rattle.std.proofs.Common.{◌≡◌, ℕ, ℤ, pos, negsuc, ◌^◌, ◌<◌, Bool, true, false, not, ◌&&◌, cond, int_lt, List, [], ◌∷◌, Option, None, Some, map, refl, sym, ap, ap₂, ◌∙◌, arith}
+use Rattle.std.proofs.Common.{◌≡◌, ℕ, ℤ, pos, negsuc, ◌^◌, ◌<◌, Bool, true, false, not, ◌&&◌, cond, int_lt, List, [], ◌∷◌, Option, None, Some, map, refl, sym, ap, ap₂, ◌∙◌, ◌⊎◌, inl, inr, arith}
 use Rattle.std.specs.declared.cmp.Ordering.{Ordering}
 use Rattle.std.specs.declared.cmp.Ordering.TheVariants.{Less, Equal, Greater}
 use Rattle.std.specs.Ordering.{int_cmp, is_lt, is_le, is_eq, ordering_then, ordering_reverse}
@@ -16,17 +16,15 @@ use Rattle.search_base.specs.declared.cost_key.SortKey.TheVariants as sort
 use Rattle.search_base.specs.declared.document.Leaf.{Leaf}
 use Rattle.search_base.specs.declared.value.FacetValue.{FacetValue}
 use Rattle.search_base.specs.declared.value.FacetValue.TheVariants as facet
-use Rattle.search_base.specs.CostOrder.{before}
+use Rattle.search_base.specs.CostOrder.{before, IsStrictOrder}
 use Rattle.search_base.specs.SortKeys.{leaves_under, with_number, with_text, numbers, texts, sooner, first_by, is_less, is_greater, is_text_less, is_text_greater, key_of}
-use Rattle.bucket_sort.specs.Classes.{same}
-use Rattle.sort_rule.specs.Rows.{is_after}
 use Rattle.postings.specs.Dictionary.{word_cmp}
 use Rattle.facet_keys.specs.Keys.{Facet, key_bytes, facet_bytes, IsNarrowFacet, IsNarrow}
 use Rattle.facet_keys.specs.Laws.{AreInOrder}
 use Rattle.facet_index.specs.declared.sorts.Start.{Start}
 use Rattle.facet_index.specs.Documents.{is_same}
 use Rattle.facet_index.specs.Ends.{value_before, first_value, end_facet}
-use Rattle.facet_index.specs.Sorts.{if_there, sort_entry}
+use Rattle.facet_index.specs.Sorts.{if_there, sort_entry, same, is_after}
 use Rattle.facet_index.specs.Starts.{value_key, entry_of, entry_value, first_start, behind_key, start_of, word_order, is_from}
 
 -- ---- the value that comes first is what a document is sorted by
@@ -126,7 +124,7 @@ neither v w =
     by Equal = refl
     by Greater = refl
 
-pub entries_same : (up : Bool) (v w : FacetValue) → same before (entry_of up v) (entry_of up w) ≡ is_same v w
+pub entries_same : (up : Bool) (v w : FacetValue) → same (entry_of up v) (entry_of up w) ≡ is_same v w
 entries_same true (facet.Number m) (facet.Number n) = refl
 entries_same true (facet.Number m) (facet.Text w) = refl
 entries_same true (facet.Text v) (facet.Number n) = refl
@@ -135,6 +133,24 @@ entries_same false (facet.Number m) (facet.Number n) = and_turned (not (int_lt n
 entries_same false (facet.Number m) (facet.Text w) = refl
 entries_same false (facet.Text v) (facet.Number n) = refl
 entries_same false (facet.Text v) (facet.Text w) = and_turned (not (is_lt (word_cmp w v))) (not (is_lt (word_cmp v w))) ∙ neither v w
+
+-- entries neither of which is before the other are one
+pub entry_same : IsStrictOrder before → (j k : CostKey) → same j k ≡ true → j ≡ k
+entry_same order j k h = by (order.total j k)
+  where
+    by : (j ≡ k) ⊎ ((before j k ≡ true) ⊎ (before k j ≡ true)) → j ≡ k
+    by (inl e) = e
+    by (inr (inl e)) = absurd (first (before j k) (not (before k j)) e h)
+      where
+        first : (a b : Bool) → a ≡ true → (not a && b) ≡ true → ⊥
+        first true b e h = cc
+        first false b e h = cc
+    by (inr (inr e)) = absurd (second (not (before j k)) (before k j) e h)
+      where
+        second : (a b : Bool) → b ≡ true → (a && not b) ≡ true → ⊥
+        second true true e h = cc
+        second false true e h = cc
+        second a false e h = cc
 
 pub value_of_entry : (up : Bool) (at : CostKey) (v : FacetValue) → Some v ≡ entry_value up at → at ≡ entry_of up v
 value_of_entry up (cost.Number n) v h = absurd (cc)
@@ -147,7 +163,7 @@ value_of_entry false (cost.Down (sort.Number n)) v h = ap (entry_of false) (let 
 value_of_entry false (cost.Down (sort.Text t)) v h = ap (entry_of false) (let e : facet.Text t ≡ v = cc in e)
 value_of_entry false (cost.Down sort.Missing) v h = absurd (cc)
 
-pub no_value : (up : Bool) (at : CostKey) (w : FacetValue) → None ≡ entry_value up at → same before at (entry_of up w) ≡ false
+pub no_value : (up : Bool) (at : CostKey) (w : FacetValue) → None ≡ entry_value up at → same at (entry_of up w) ≡ false
 no_value true (cost.Number n) w h = refl
 no_value false (cost.Number n) w h = refl
 no_value true (cost.Up (sort.Number n)) w h = absurd (cc)

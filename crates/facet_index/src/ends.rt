@@ -123,9 +123,9 @@ pub fn first_value(leaves: &[Leaf], path: PathId, up: bool) -> Option<&FacetValu
     first
 }
 
-/// Of a value and another, where there is one, the value that comes first in the direction; the given one where neither
-/// comes before the other. Takes no memory.
-pub fn sooner<'a>(up: bool, value: &'a FacetValue, other: Option<&'a FacetValue>) -> &'a FacetValue
+// Of a value and another, where there is one, the value that comes first in the direction; the given one where neither
+// comes before the other.
+fn sooner<'a>(up: bool, value: &'a FacetValue, other: Option<&'a FacetValue>) -> &'a FacetValue
     ensures { result.now ≡ sooner_by (value_before_in up) value.now (option_copied other.entry) }
 {
     match other {

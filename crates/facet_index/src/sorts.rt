@@ -5,10 +5,9 @@ ghost use Rattle.std.specs.Map.{keys_of};
 ghost use Rattle.std.specs.Option.{option_copied, option_map};
 ghost use Rattle.std.specs.Range.Bound.{bound_map};
 ghost use Rattle.postings.specs.Dictionary.{word_cmp, value_at, list_at, some_list};
-ghost use Rattle.sort_rule.specs.Rows.{next_of, is_under};
 ghost use Rattle.facet_index.specs.LeavesView.{LeavesView};
 ghost use Rattle.facet_index.specs.Places.{IsIndexOf, has_document};
-ghost use Rattle.facet_index.specs.Sorts.{sort_key, sort_keys_of};
+ghost use Rattle.facet_index.specs.Sorts.{sort_key, sort_keys_of, is_under, next_of};
 ghost use Rattle.facet_index.specs.Starts.{entry_of as entry_of_value, entry_value, key_value, behind_key, first_start as first_start_in, start_of as start_after, bound_by, is_from, in_direction, stops_at, IsNext, HasNoneFrom};
 
 use crate::ends::end_key;

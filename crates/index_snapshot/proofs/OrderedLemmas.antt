@@ -9,11 +9,12 @@ use Rattle.sort_rule.specs.Rows.{is_under}
 use Rattle.facet_index.specs.Sorts as facets
 use Rattle.rule_buckets.specs.Entries.{sort_entry}
 use Rattle.leaf_table.specs.Tables.{TableView, AreLeavesOf, kept_at}
+use Rattle.leaf_table.proofs.TableLemmas.{leaves_kept}
 use Rattle.row_index.specs.Documents.{IndexedDocument}
 use Rattle.row_index.specs.Standing.{faceted}
-use Rattle.index_snapshot.specs.Laws.{entry_same}
 use Rattle.index_snapshot.specs.Rows.{rows_at}
 use Rattle.index_snapshot.proofs.RowLemmas.{leaves_same}
+use Rattle.index_snapshot.proofs.SortLemmas.{entry_same}
 
 -- the same, where keys are written otherwise
 ordered_same : (key other : ℕ → Option CostKey) → ((d : ℕ) → key d ≡ other d) → (universe : List ℕ) (buckets : List Bucket)
@@ -34,4 +35,4 @@ pub ordered_by_rows : (documents : List IndexedDocument) (table : TableView) (up
     → AreOrdered (λ d. sort_entry up path (rows_at documents d).leaves) universe buckets
 ordered_by_rows documents table up path universe buckets are =
     ordered_same (λ d. facets.sort_entry up path (kept_at d table)) (λ d. sort_entry up path (rows_at documents d).leaves)
-    (λ d. ap (facets.sort_entry up path) (are d ∙ sym (leaves_same documents d)) ∙ entry_same up path (rows_at documents d).leaves) universe buckets
+    (λ d. ap (facets.sort_entry up path) (leaves_kept table (map faceted documents) are d ∙ sym (leaves_same documents d)) ∙ entry_same up path (rows_at documents d).leaves) universe buckets

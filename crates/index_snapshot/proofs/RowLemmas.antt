@@ -1,22 +1,16 @@
 -- What the parts of an index answer, said of the rows of each id.
-use Rattle.std.proofs.Common.{◌≡◌, ℕ, ◌==◌, Bool, true, false, cond, List, [], ◌∷◌, map, filter, Option, Some, IfSome, IfNone, refl, ap, ap₂, ◌∙◌}
-use Rattle.std.specs.List.{AllByRecursion, cons_option, filter_map}
+use Rattle.std.proofs.Common.{◌≡◌, ℕ, ◌==◌, Bool, true, false, cond, List, [], ◌∷◌, map, filter, Some, refl, ap, ◌∙◌}
+use Rattle.std.specs.List.{AllByRecursion}
 use Rattle.std.proofs.lemmas.List.Elements.{filter_agree}
-use Rattle.search_base.specs.declared.cost_key.CostKey.{CostKey}
 use Rattle.search_base.specs.Whole.{whole_cost}
 use Rattle.condition_graph.specs.declared.condition.Condition.{Condition}
 use Rattle.condition_graph.specs.Meets.{meets, IsRanked}
 use Rattle.postings.specs.Documents.{places_of}
-use Rattle.sort_rule.specs.Rows.{next_of, is_under, IsNextFor, HasNoneAfter}
-use Rattle.sort_rule.proofs.SortLemmas.{next-for}
 use Rattle.facet_index.specs.Batches as facets
-use Rattle.facet_index.specs.Sorts.{sort_key, sort_keys, sort_keys_of}
 use Rattle.facet_index.specs.LeavesView.{leaves_of}
 use Rattle.filter_sets.specs.Selects.{marks_of, AreRowsOf}
-use Rattle.rule_buckets.specs.Entries.{sort_entry}
 use Rattle.row_index.specs.Documents.{IndexedDocument, document_at}
 use Rattle.row_index.specs.Standing.{placed, faceted}
-use Rattle.index_snapshot.specs.Laws.{key_same, sorted_at}
 use Rattle.index_snapshot.specs.Rows.{rows_of, rows_at, AreRanked}
 
 -- each place of the rows of an id is below what all are below
@@ -54,29 +48,6 @@ pub at_cost : (documents : List IndexedDocument) (words : List (List ℕ)) (cost
 at_cost documents words cost universe ids is = is
     ∙ filter_agree (λ d. whole_cost (places_of d (map placed documents)) words == cost) (λ d. whole_cost (rows_at documents d).places words == cost)
     (λ d. ap (λ places. whole_cost places words == cost) (places_same documents d)) universe
-
--- those under an entry
-pub under : (documents : List IndexedDocument) (up : Bool) (path : ℕ) (at : CostKey) (universe ids : List ℕ)
-    → ids ≡ filter (λ d. is_under at (sort_key up path (map faceted documents) d)) universe
-    → ids ≡ filter (λ d. is_under at (sort_entry up path (rows_at documents d).leaves)) universe
-under documents up path at universe ids is = is
-    ∙ filter_agree (λ d. is_under at (sort_key up path (map faceted documents) d)) (λ d. is_under at (sort_entry up path (rows_at documents d).leaves))
-    (λ d. ap (is_under at) (key_same up path documents d)) universe
-
--- the entries of a universe
-entries_same : (documents : List IndexedDocument) (up : Bool) (path : ℕ) (universe : List ℕ)
-    → sort_keys_of up path (map faceted documents) universe ≡ filter_map (λ d. sort_entry up path (rows_at documents d).leaves) universe
-entries_same documents up path [] = refl
-entries_same documents up path (d ∷ ds) = ap₂ cons_option (key_same up path documents d) (entries_same documents up path ds)
-
--- the one that comes next
-pub next_for : (documents : List IndexedDocument) (up : Bool) (path : ℕ) (universe : List ℕ) (last found : Option CostKey)
-    → found ≡ next_of (sort_keys_of up path (map faceted documents) universe) last
-    → IfSome found (IsNextFor (sort_keys up path (map faceted documents)) (λ d. sort_entry up path (rows_at documents d).leaves) universe last)
-    × IfNone found (HasNoneAfter (λ d. sort_entry up path (rows_at documents d).leaves) universe last)
-next_for documents up path universe last found is =
-    next-for (λ d. sort_entry up path (rows_at documents d).leaves) (sort_keys up path (map faceted documents)) (sorted_at up path documents).known
-    universe last found (is ∙ ap (λ keys. next_of keys last) (entries_same documents up path universe))
 
 pub leaves_same : (documents : List IndexedDocument) (d : ℕ) → (rows_at documents d).leaves ≡ leaves_of (facets.document_at d (map faceted documents))
 leaves_same [] d = refl

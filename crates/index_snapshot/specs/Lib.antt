@@ -1,4 +1,5 @@
 -- Documents as a search over their index sees them.
 pub mod Rows
+pub mod Entries
 pub mod Matches
 pub mod Laws

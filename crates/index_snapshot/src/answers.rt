@@ -1,4 +1,4 @@
-ghost use Rattle.std.specs.Prelude.{◌≡◌, ◌==◌, ◌<◌, ℕ, map, filter, reverse, IfOk, IfSome, IfNone};
+ghost use Rattle.std.specs.Prelude.{◌≡◌, ◌==◌, ◌<◌, ℕ, filter, reverse, IfOk, IfSome, IfNone};
 ghost use Rattle.std.specs.List.{AllByRecursion};
 ghost use Rattle.std.specs.Option.{option_copied};
 ghost use Rattle.search_base.specs.Whole.{whole_cost};
@@ -6,12 +6,12 @@ ghost use Rattle.condition_graph.specs.Meets.{meets, IsRanked};
 ghost use Rattle.condition_graph.specs.Promise.{IsCondition};
 ghost use Rattle.sort_rule.specs.Ordered.{AreOrdered};
 ghost use Rattle.sort_rule.specs.Rows.{is_under, IsNextFor, HasNoneAfter};
-ghost use Rattle.facet_index.specs.Sorts.{sort_keys};
 ghost use Rattle.rule_buckets.specs.Entries.{sort_entry};
-ghost use Rattle.row_index.specs.Standing.{faceted};
+ghost use Rattle.index_snapshot.specs.Entries.{sort_keys};
 ghost use Rattle.index_snapshot.specs.Rows.{rows_at};
 
 use crate::indexed::IndexedRows;
+use crate::ordered::ordered;
 use bucket_sort::Bucket;
 use condition_graph::Condition;
 use doc_sets::DocSet;
@@ -80,7 +80,7 @@ pub(crate) fn next_entry<I: IndexedRows>(
     universe: &DocSet,
 ) -> Result<Option<CostKey>, NoMemory>
     ensures some { IfOk result (λ found. IfSome found (λ next.
-        IsNextFor (sort_keys up path.0 (map faceted (I.documents rows.now)))
+        IsNextFor (sort_keys up path.0 (I.documents rows.now))
         (λ d. sort_entry up path.0 (rows_at (I.documents rows.now) d).leaves)
         universe.now.ids (option_copied after.entry) next)) }
     ensures none { IfOk result (λ found. IfNone found
@@ -129,6 +129,6 @@ pub(crate) fn ordered_under<I: IndexedRows>(
         return Ok(None);
     }
     let leaves = index.leaves();
-    let buckets = leaves.ordered(alloc, path, up, universe)?;
+    let buckets = ordered(alloc, leaves, path, up, universe)?;
     Ok(Some(buckets))
 }

@@ -41,15 +41,13 @@ impl<'a, I: IndexedRows> Snapshot<'a, I> {
 }
 
 impl<'a, I: IndexedRows> RuleSource for Snapshot<'a, I> {
-    ghost use Rattle.std.specs.Prelude.{map};
-    ghost use Rattle.facet_index.specs.Sorts.{sort_keys};
-    ghost use Rattle.row_index.specs.Standing.{faceted};
-    ghost use Rattle.index_snapshot.specs.Rows.{rows_at};
+    ghost use Rattle.index_snapshot.specs.Entries.{sort_keys};
     ghost use Rattle.index_snapshot.specs.Laws.{sorted_at};
+    ghost use Rattle.index_snapshot.specs.Rows.{rows_at};
 
     ghost rows = { λ snapshot. rows_at (I.documents snapshot) };
 
-    ghost keys = { λ snapshot up path. sort_keys up path (map faceted (I.documents snapshot)) };
+    ghost keys = { λ snapshot up path. sort_keys up path (I.documents snapshot) };
 
     ghost sorted = { λ snapshot up path. sorted_at up path (I.documents snapshot) };
 

@@ -2,38 +2,39 @@
 use Rattle.std.proofs.Common.{◌≡◌, ℕ, suc, ◌+◌, ◌-◌, ◌<◌, ◌≤◌, Bool, true, false, not, ◌==◌, ◌||◌, cond, List, [], ◌∷◌, ◌++◌, Option, None, Some, Vec, map, reverse, length, take, get_or, set, refl, sym, ap, subst, ◌∙◌, arith}
 use borrow.Author.Count.{below_more}
 use Rattle.std.specs.Global.{Global}
+use Rattle.std.specs.Option.{option_map}
 use Rattle.std.proofs.lemmas.Bool.{eqb-true}
 use Rattle.std.proofs.lemmas.Bool.Decides.{nat_tests}
 use Rattle.std.proofs.lemmas.List.{get_or-set_same, get_or-set_other, get_or_past, get_or_default, map-set, map-append, reverse-append, length-reverse, get_or-reverse, length-set, take_more, length-map}
 use Rattle.search_base.specs.declared.document.DocId.{DocId}
 use Rattle.search_base.specs.declared.document.Leaf.{Leaf}
 use Rattle.doc_sets.specs.Sets.{has}
-use Rattle.facet_index.specs.LeavesView.{LeavesView, leaves_of}
+use Rattle.facet_index.specs.LeavesView.{LeavesView}
 use Rattle.facet_index.specs.Batches.{has_id, document_at, without, after}
 use Rattle.leaf_table.specs.Tables.{row_leaves, table_rows}
 use Rattle.leaf_table.specs.Changes.{RowView, numbers, row_of, come_at, left_at}
 
 -- what stands in the rows under an id
-abbrev pub kept_in : ℕ → List (Option (Vec Leaf Global)) → List Leaf
-kept_in id rows = get_or (table_rows rows) id []
+abbrev pub kept_in : ℕ → List (Option (Vec Leaf Global)) → Option (List Leaf)
+kept_in id rows = get_or (table_rows rows) id None
 
-set_in : (rows : List (List Leaf)) (at id : ℕ) (leaves : List Leaf) → at < length rows
-    → get_or (set rows at leaves) id [] ≡ cond (at == id) leaves (get_or rows id [])
-set_in rows at id leaves within = grind (arith, nat_tests, get_or-set_same, get_or-set_other)
+set_in : (rows : List (Option (List Leaf))) (at id : ℕ) (row : Option (List Leaf)) → at < length rows
+    → get_or (set rows at row) id None ≡ cond (at == id) row (get_or rows id None)
+set_in rows at id row within = grind (arith, nat_tests, get_or-set_same, get_or-set_other)
 
 -- one row is set
 pub kept_set : (id : ℕ) (rows : List (Option (Vec Leaf Global))) (at : ℕ) (row : Option (Vec Leaf Global)) → at < length rows
     → kept_in id (set rows at row) ≡ cond (at == id) (row_leaves row) (kept_in id rows)
 kept_set id rows at row within =
-    ap (λ list. get_or list id []) (map-set row_leaves rows at row)
+    ap (λ list. get_or list id None) (map-set row_leaves rows at row)
     ∙ set_in (table_rows rows) at id (row_leaves row) (let n = length-map rows row_leaves in omega arith)
 
 -- ---- rows that come
 
-come_behind : (id : ℕ) (rows : List RowView) (row : RowView) (kept : List Leaf)
-    → come_at id (rows ++ row ∷ []) kept ≡ come_at id rows (cond (row.id == id) row.leaves kept)
+come_behind : (id : ℕ) (rows : List RowView) (row : RowView) (kept : Option (List Leaf))
+    → come_at id (rows ++ row ∷ []) kept ≡ come_at id rows (cond (row.id == id) (Some row.leaves) kept)
 come_behind id [] row kept = refl
-come_behind id (x ∷ xs) row kept = ap (λ rest. cond (x.id == id) x.leaves rest) (come_behind id xs row kept)
+come_behind id (x ∷ xs) row kept = ap (cond (x.id == id) (Some x.leaves)) (come_behind id xs row kept)
 
 -- one row more is set
 pub one_comes : (id : ℕ) (row : RowView) (left : List RowView) (rows : List (Option (Vec Leaf Global))) (leaves : Vec Leaf Global)
@@ -42,7 +43,7 @@ pub one_comes : (id : ℕ) (row : RowView) (left : List RowView) (rows : List (O
 one_comes id row left rows leaves same within =
     ap (λ all. come_at id all (kept_in id rows)) (reverse-append (row ∷ []) left)
     ∙ come_behind id (reverse left) row (kept_in id rows)
-    ∙ ap (λ value. come_at id (reverse left) (cond (row.id == id) value (kept_in id rows))) same
+    ∙ ap (λ value. come_at id (reverse left) (cond (row.id == id) (Some value) (kept_in id rows))) same
     ∙ ap (come_at id (reverse left)) (sym (kept_set id rows row.id (Some leaves) within))
 
 -- ---- rows that go
@@ -55,10 +56,10 @@ numbers_more ids i d within =
     ∙ ap reverse (map-append (λ (x : DocId). x.0) (take i ids) (get_or ids i d ∷ []))
     ∙ reverse-append (numbers (take i ids)) ((get_or ids i d).0 ∷ [])
 
-left_more : (id at : ℕ) (gone : List ℕ) (kept : List Leaf) → cond (at == id) [] (left_at id gone kept) ≡ left_at id (at ∷ gone) kept
+left_more : (id at : ℕ) (gone : List ℕ) (kept : Option (List Leaf)) → cond (at == id) None (left_at id gone kept) ≡ left_at id (at ∷ gone) kept
 left_more id at gone kept = by (at == id)
   where
-    by : (b : Bool) → cond b [] (cond (has gone id) [] kept) ≡ cond (b || has gone id) [] kept
+    by : (b : Bool) → cond b None (cond (has gone id) None kept) ≡ cond (b || has gone id) None kept
     by true = refl
     by false = refl
 
@@ -69,7 +70,7 @@ pub one_goes : (ids : List DocId) (i : ℕ) (d : DocId) (start rows : List (Opti
 one_goes ids i d start rows more told within id =
     let at = (get_or ids i d).0 in
     kept_set id rows at None within
-    ∙ ap (cond (at == id) []) (told id)
+    ∙ ap (cond (at == id) None) (told id)
     ∙ left_more id at (reverse (numbers (take i ids))) (kept_in id start)
     ∙ ap (λ gone. left_at id gone (kept_in id start)) (sym (numbers_more ids i d more))
 
@@ -79,12 +80,12 @@ pub none_goes : (ids : List DocId) (i : ℕ) (d : DocId) (start rows : List (Opt
     → (id : ℕ) → kept_in id rows ≡ left_at id (reverse (numbers (take (i + 1) ids))) (kept_in id start)
 none_goes ids i d start rows more told past id =
     let at = (get_or ids i d).0 in
-    unset (at == id) (λ same. get_or_past (table_rows rows) id [] (let n = length-map rows row_leaves in let e = eqb-true at id same in omega arith))
-    ∙ ap (cond (at == id) []) (told id)
+    unset (at == id) (λ same. get_or_past (table_rows rows) id None (let n = length-map rows row_leaves in let e = eqb-true at id same in omega arith))
+    ∙ ap (cond (at == id) None) (told id)
     ∙ left_more id at (reverse (numbers (take i ids))) (kept_in id start)
     ∙ ap (λ gone. left_at id gone (kept_in id start)) (sym (numbers_more ids i d more))
   where
-    unset : (b : Bool) → (b ≡ true → kept_in id rows ≡ []) → kept_in id rows ≡ cond b [] (kept_in id rows)
+    unset : (b : Bool) → (b ≡ true → kept_in id rows ≡ None) → kept_in id rows ≡ cond b None (kept_in id rows)
     unset true h = h refl
     unset false h = refl
 
@@ -94,9 +95,13 @@ is_any : (id : ℕ) (documents : List LeavesView) → has (map (λ document. doc
 is_any id [] = refl
 is_any id (d ∷ ds) = ap (λ b. (d.id == id) || b) (is_any id ds)
 
-left_of_one : (goes is gone : Bool) (document : LeavesView) (left : List Leaf) (all : Option LeavesView) → (is ≡ true → goes ≡ gone)
-    → left ≡ cond gone [] (leaves_of all)
-    → cond goes left (cond is document.leaves left) ≡ cond gone [] (leaves_of (cond is (Some document) all))
+-- the leaves of a document that may be there
+abbrev leaves_if : Option LeavesView → Option (List Leaf)
+leaves_if document = option_map (λ (document : LeavesView). document.leaves) document
+
+left_of_one : (goes is gone : Bool) (document : LeavesView) (left : Option (List Leaf)) (all : Option LeavesView) → (is ≡ true → goes ≡ gone)
+    → left ≡ cond gone None (leaves_if all)
+    → cond goes left (cond is (Some document.leaves) left) ≡ cond gone None (leaves_if (cond is (Some document) all))
 left_of_one true true true document left all same told = told
 left_of_one true true false document left all same told = let e : true ≡ false = same refl in absurd (cc)
 left_of_one false true true document left all same told = let e : false ≡ true = same refl in absurd (cc)
@@ -104,20 +109,20 @@ left_of_one false true false document left all same told = refl
 left_of_one true false gone document left all same told = told
 left_of_one false false gone document left all same told = told
 
-kept_of_one : (id : ℕ) (b : Bool) (d : LeavesView) (ds : List LeavesView)
-    → leaves_of (document_at id (cond (not b) (d ∷ ds) ds)) ≡ cond b (leaves_of (document_at id ds)) (cond (d.id == id) d.leaves (leaves_of (document_at id ds)))
+kept_of_one : (id : ℕ) (b : Bool) (d : LeavesView) (ds : List LeavesView) → leaves_if (document_at id (cond (not b) (d ∷ ds) ds))
+    ≡ cond b (leaves_if (document_at id ds)) (cond (d.id == id) (Some d.leaves) (leaves_if (document_at id ds)))
 kept_of_one id true d ds = refl
 kept_of_one id false d ds = by (d.id == id)
   where
-    by : (b : Bool) → leaves_of (cond b (Some d) (document_at id ds)) ≡ cond b d.leaves (leaves_of (document_at id ds))
+    by : (b : Bool) → leaves_if (cond b (Some d) (document_at id ds)) ≡ cond b (Some d.leaves) (leaves_if (document_at id ds))
     by true = refl
     by false = refl
 
-abbrev nothing : List Leaf
-nothing = []
+abbrev nothing : Option (List Leaf)
+nothing = None
 
 left_without : (id : ℕ) (gone documents : List LeavesView)
-    → leaves_of (document_at id (without gone documents)) ≡ cond (has_id id gone) [] (leaves_of (document_at id documents))
+    → leaves_if (document_at id (without gone documents)) ≡ cond (has_id id gone) None (leaves_if (document_at id documents))
 left_without id gone [] = by (has_id id gone)
   where
     by : (b : Bool) → nothing ≡ cond b nothing nothing
@@ -125,24 +130,24 @@ left_without id gone [] = by (has_id id gone)
     by false = refl
 left_without id gone (d ∷ ds) =
     kept_of_one id (has_id d.id gone) d (without gone ds)
-    ∙ left_of_one (has_id d.id gone) (d.id == id) (has_id id gone) d (leaves_of (document_at id (without gone ds))) (document_at id ds)
+    ∙ left_of_one (has_id d.id gone) (d.id == id) (has_id id gone) d (leaves_if (document_at id (without gone ds))) (document_at id ds)
     (λ h. ap (λ n. has_id n gone) (eqb-true d.id id h)) (left_without id gone ds)
 
 come_before : (id : ℕ) (come rest : List LeavesView)
-    → leaves_of (document_at id (come ++ rest)) ≡ come_at id (map row_of come) (leaves_of (document_at id rest))
+    → leaves_if (document_at id (come ++ rest)) ≡ come_at id (map row_of come) (leaves_if (document_at id rest))
 come_before id [] rest = refl
-come_before id (d ∷ ds) rest = by (d.id == id) ∙ ap (cond (d.id == id) d.leaves) (come_before id ds rest)
+come_before id (d ∷ ds) rest = by (d.id == id) ∙ ap (cond (d.id == id) (Some d.leaves)) (come_before id ds rest)
   where
-    by : (b : Bool) → leaves_of (cond b (Some d) (document_at id (ds ++ rest))) ≡ cond b d.leaves (leaves_of (document_at id (ds ++ rest)))
+    by : (b : Bool) → leaves_if (cond b (Some d) (document_at id (ds ++ rest))) ≡ cond b (Some d.leaves) (leaves_if (document_at id (ds ++ rest)))
     by true = refl
     by false = refl
 
 -- the leaves of documents after some went and others came
 pub leaves_after : (id : ℕ) (gone come documents : List LeavesView)
-    → come_at id (map row_of come) (left_at id (map (λ document. document.id) gone) (leaves_of (document_at id documents)))
-    ≡ leaves_of (document_at id (after gone come documents))
+    → come_at id (map row_of come) (left_at id (map (λ document. document.id) gone) (leaves_if (document_at id documents)))
+    ≡ leaves_if (document_at id (after gone come documents))
 leaves_after id gone come documents =
-    ap (λ b. come_at id (map row_of come) (cond b [] (leaves_of (document_at id documents)))) (is_any id gone)
+    ap (λ b. come_at id (map row_of come) (cond b None (leaves_if (document_at id documents)))) (is_any id gone)
     ∙ ap (come_at id (map row_of come)) (sym (left_without id gone documents))
     ∙ sym (come_before id come (without gone documents))
 

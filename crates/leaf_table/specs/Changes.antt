@@ -1,5 +1,5 @@
 -- Rows that go from a table of leaves, and rows that come.
-use Rattle.std.specs.Prelude.{◌≡◌, ℕ, ◌<◌, ◌==◌, List, [], ◌∷◌, map, length, if◌then◌else◌}
+use Rattle.std.specs.Prelude.{◌≡◌, ℕ, ◌<◌, ◌==◌, List, [], ◌∷◌, map, length, Option, None, Some, if◌then◌else◌}
 use Rattle.std.specs.List.{All}
 use Rattle.search_base.specs.declared.document.DocId.{DocId}
 use Rattle.search_base.specs.declared.document.Leaf.{Leaf}
@@ -32,11 +32,11 @@ pub record IsLeafChangeOf (change : ChangeView) (gone come : List LeavesView) : 
 abbrev pub HasRows : TableView → ChangeView → Type 0
 HasRows table change = All (λ row. row.id < length table.rows) change.come
 
--- what stands under an id once rows came: the leaves of the first row of the id, or else what stood there
-abbrev pub come_at : ℕ → List RowView → List Leaf → List Leaf
+-- the row of an id once rows came: the first of them that is of the id, or else the row that stood there
+abbrev pub come_at : ℕ → List RowView → Option (List Leaf) → Option (List Leaf)
 come_at id [] kept = kept
-come_at id (row ∷ rows) kept = if row.id == id then row.leaves else come_at id rows kept
+come_at id (row ∷ rows) kept = if row.id == id then Some row.leaves else come_at id rows kept
 
--- what stands under an id once some went
-abbrev pub left_at : ℕ → List ℕ → List Leaf → List Leaf
-left_at id gone kept = if has gone id then [] else kept
+-- the row of an id once some went
+abbrev pub left_at : ℕ → List ℕ → Option (List Leaf) → Option (List Leaf)
+left_at id gone kept = if has gone id then None else kept

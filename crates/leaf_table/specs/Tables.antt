@@ -1,26 +1,29 @@
 -- What contracts see of a table of leaves.
-use Rattle.std.specs.Prelude.{◌≡◌, ℕ, Vec, List, [], map, Option, None, Some, slice_index_or}
+use Rattle.std.specs.Prelude.{◌≡◌, ℕ, Vec, List, [], map, Option, None, unwrap_or, slice_index_or}
 use Rattle.std.specs.Global.{Global}
+use Rattle.std.specs.Option.{option_map}
 use Rattle.search_base.specs.declared.document.Leaf.{Leaf}
-use Rattle.facet_index.specs.LeavesView.{LeavesView, leaves_of}
+use Rattle.facet_index.specs.LeavesView.{LeavesView}
 use Rattle.facet_index.specs.Batches.{document_at}
 
--- by their internal ids, what documents have
+-- by their internal ids, what documents have, and none under an id of no document
 pub record TableView : Type 0 where
-  pub rows : List (List Leaf)
+  pub rows : List (Option (List Leaf))
 
--- an empty row is that of no document
-abbrev pub row_leaves : Option (Vec Leaf Global) → List Leaf
-row_leaves None = []
-row_leaves (Some leaves) = leaves.items
+abbrev pub row_leaves : Option (Vec Leaf Global) → Option (List Leaf)
+row_leaves row = option_map (λ leaves. leaves.items) row
 
-abbrev pub table_rows : List (Option (Vec Leaf Global)) → List (List Leaf)
+abbrev pub table_rows : List (Option (Vec Leaf Global)) → List (Option (List Leaf))
 table_rows rows = map row_leaves rows
+
+-- the row of an id, where it has one
+abbrev pub row_at : ℕ → TableView → Option (List Leaf)
+row_at id table = slice_index_or table.rows id None
 
 -- the leaves of the document of an id, and none where there is no document
 abbrev pub kept_at : ℕ → TableView → List Leaf
-kept_at id table = slice_index_or table.rows id []
+kept_at id table = unwrap_or (row_at id table) []
 
--- the table has the leaves of these documents, and no others
+-- the table has the leaves of these documents, and no row of others
 abbrev pub AreLeavesOf : TableView → List LeavesView → Type 0
-AreLeavesOf table documents = (id : ℕ) → kept_at id table ≡ leaves_of (document_at id documents)
+AreLeavesOf table documents = (id : ℕ) → row_at id table ≡ option_map (λ document. document.leaves) (document_at id documents)

@@ -2,7 +2,7 @@ ghost use Rattle.std.specs.Prelude.{◌≡◌, ◌≤◌, ◌<◌, ℕ, List, []
 ghost use Rattle.std.specs.List.{All};
 ghost use Rattle.facet_index.specs.LeavesView.{LeavesView};
 ghost use Rattle.facet_index.specs.Batches.{after};
-ghost use Rattle.leaf_table.specs.Tables.{kept_at, AreLeavesOf};
+ghost use Rattle.leaf_table.specs.Tables.{row_at, kept_at, AreLeavesOf};
 ghost use Rattle.leaf_table.specs.Changes.{numbers, IsLeafChangeOf, HasRows, come_at, left_at};
 
 use crate::change::{LeafChange, PreparedLeaves, Row, rows_for};
@@ -47,7 +47,7 @@ impl LeafTable {
     /// Takes all memory that the change needs: there is a row for each id up to the greatest that comes. The leaves of
     /// each document stay as they were, whatever the result; after a refusal some empty rows may be left behind.
     pub fn prepare(&mut self, change: LeafChange) -> Result<PreparedLeaves, NoMemory>
-        ensures same { (id : ℕ) → kept_at id self.new ≡ kept_at id self.old }
+        ensures same { (id : ℕ) → row_at id self.new ≡ row_at id self.old }
         ensures made { IfOk result (λ prepared. prepared ≡ change) }
         ensures rows { IfOk result (λ prepared. HasRows self.new prepared) }
     {
@@ -70,7 +70,7 @@ impl LeafTable {
 
     // Adds empty rows until there are so many. A refusal leaves those that were added.
     fn grow(&mut self, len: usize) -> Result<(), NoMemory>
-        ensures same { (id : ℕ) → kept_at id self.new ≡ kept_at id self.old }
+        ensures same { (id : ℕ) → row_at id self.new ≡ row_at id self.old }
         ensures rows { OnOk result (len ≤ length self.new.rows) }
     {
         while self.rows.len() < len {
@@ -81,7 +81,7 @@ impl LeafTable {
 
     // Empties the rows of these ids.
     fn take_out(&mut self, gone: &[DocId])
-        ensures each { (id : ℕ) → kept_at id self.new ≡ left_at id (reverse (numbers gone.now)) (kept_at id self.old) }
+        ensures each { (id : ℕ) → row_at id self.new ≡ left_at id (reverse (numbers gone.now)) (row_at id self.old) }
         ensures rows { length self.new.rows ≡ length self.old.rows }
     {
         for id in gone {
@@ -95,7 +95,7 @@ impl LeafTable {
     // Sets these rows.
     fn put_in(&mut self, come: Vec<Row>)
         requires { All (λ row. row.id < length self.old.rows) come.items }
-        ensures { (id : ℕ) → kept_at id self.new ≡ come_at id (reverse come.items) (kept_at id self.old) }
+        ensures { (id : ℕ) → row_at id self.new ≡ come_at id (reverse come.items) (row_at id self.old) }
     {
         for row in come {
             self.rows[row.id.0 as usize] = Some(row.leaves);

@@ -5,14 +5,10 @@ ghost use Rattle.facet_counts.specs.Counts.{leaves_at, stats_of, both_of};
 ghost use Rattle.list_facets.specs.Ends.{comes_first, entry_number};
 ghost use Rattle.list_facets.specs.Rows.{AreRowsOf};
 
-use bucket_sort::BucketStream;
 use doc_sets::DocSet;
-use facet_index::{Indexed, sort_buckets};
-use search_base::{CostKey, NoMemory, PathId, SortKey, Steps};
+use facet_index::Indexed;
+use search_base::{CostKey, NoMemory, PathId, SortKey};
 use std::alloc::Global;
-
-// The mark of the steps to a bucket, of which nothing is asked here.
-struct Opened;
 
 /// The least and the greatest number that documents of the set have under the path, where one has a number. Looks at no
 /// value between them.
@@ -51,10 +47,8 @@ fn end_number<I: Indexed>(
     ensures { IfOk result (λ number. (rows : ℕ → RowsView) → AreRowsOf rows (I.documents index.now)
         → number ≡ first_by (comes_first up) (numbers (leaves_at path.0 (map rows matching.now.ids)))) }
 {
-    let mut buckets = sort_buckets(alloc, index, path, up, matching.clone()?)?;
-    let mut opened: Steps<Opened> = Steps::new();
-    match buckets.next_bucket(alloc, &mut opened)? {
-        Some(bucket) => Ok(number_of(&bucket.key)),
+    match index.facets().next_sort(alloc, path, up, None, matching)? {
+        Some(first) => Ok(number_of(&first)),
         None => Ok(None),
     }
 }

@@ -8,7 +8,7 @@ use Rattle.postings.specs.Dictionary as lists
 use Rattle.path_lengths.specs.Measured.{IsLengthChangeOf}
 use Rattle.path_lengths.specs.Measured as lengths
 use Rattle.facet_index.specs.Batches.{IsChangeFor, IsPreparedFor}
-use Rattle.leaf_table.specs.Tables.{kept_at}
+use Rattle.leaf_table.specs.Tables.{row_at}
 use Rattle.leaf_table.specs.Changes.{IsLeafChangeOf, HasRows}
 use Rattle.leaf_table.specs.Changes as leaves
 use Rattle.row_index.specs.Documents.{IndexedDocument, has_id}
@@ -72,5 +72,5 @@ pub record AnswersAsBefore (old new : RowIndexView) : Type 0 where
   pub places : (word : List ℕ) → list_at word new.places ≡ list_at word old.places
   pub lengths : (key : List ℕ) → list_at key new.lengths ≡ list_at key old.lengths
   pub facets : (key : List ℕ) → list_at key new.facets ≡ list_at key old.facets
-  pub leaves : (id : ℕ) → kept_at id new.leaves ≡ kept_at id old.leaves
+  pub leaves : (id : ℕ) → row_at id new.leaves ≡ row_at id old.leaves
   pub ids : new.ids ≡ old.ids

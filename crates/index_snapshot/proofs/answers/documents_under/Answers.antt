@@ -1,7 +1,7 @@
 use Rattle.std.proofs.Common.{map, sym, subst}
 use Rattle.facet_index.specs.Places.{IsIndexOf}
 use Rattle.row_index.specs.Standing.{faceted}
-use Rattle.index_snapshot.proofs.RowLemmas.{under}
+use Rattle.index_snapshot.proofs.SortLemmas.{under}
 use Rattle.index_snapshot.proofs.answers.documents_under.Goals as goal
 
 pub returns : goal.returns

@@ -2,7 +2,7 @@ use Rattle.std.proofs.Common.{map, sym, subst}
 use Rattle.std.specs.Option.{option_copied}
 use Rattle.facet_index.specs.Places.{IsIndexOf}
 use Rattle.row_index.specs.Standing.{faceted}
-use Rattle.index_snapshot.proofs.RowLemmas.{next_for}
+use Rattle.index_snapshot.proofs.SortLemmas.{next_for}
 use Rattle.index_snapshot.proofs.answers.next_entry.Goals as goal
 
 pub returns : goal.returns

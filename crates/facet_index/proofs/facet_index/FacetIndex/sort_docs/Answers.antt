@@ -1,10 +1,9 @@
 use Rattle.std.proofs.Common.{◌≡◌, ◌∙◌, List, sym, subst}
 use Rattle.std.specs.List.{filter}
 use Rattle.std.specs.Result.{IfOk}
-use Rattle.sort_rule.specs.Rows.{is_under}
 use Rattle.facet_index.specs.LeavesView.{LeavesView}
 use Rattle.facet_index.specs.Places.{IsIndexOf}
-use Rattle.facet_index.specs.Sorts.{sort_key}
+use Rattle.facet_index.specs.Sorts.{sort_key, is_under}
 use Rattle.facet_index.proofs.SortDocLemmas.{sort_answer, no_sort}
 use Rattle.facet_index.proofs.facet_index.FacetIndex.sort_docs.Goals as goal
 

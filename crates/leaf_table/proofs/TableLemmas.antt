@@ -1,0 +1,16 @@
+-- What a table of leaves has of documents.
+use Rattle.std.proofs.Common.{◌≡◌, ℕ, List, [], Option, None, Some, unwrap_or, refl, ap, ◌∙◌}
+use Rattle.std.specs.Option.{option_map}
+use Rattle.search_base.specs.declared.document.Leaf.{Leaf}
+use Rattle.facet_index.specs.LeavesView.{LeavesView, leaves_of}
+use Rattle.facet_index.specs.Batches.{document_at}
+use Rattle.leaf_table.specs.Tables.{TableView, kept_at, AreLeavesOf}
+
+-- under each id the leaves of its document, and none where there is no document
+pub leaves_kept : (table : TableView) (documents : List LeavesView) → AreLeavesOf table documents → (id : ℕ)
+    → kept_at id table ≡ leaves_of (document_at id documents)
+leaves_kept table documents are id = ap (λ row. unwrap_or row []) (are id) ∙ by (document_at id documents)
+  where
+    by : (o : Option LeavesView) → unwrap_or (option_map (λ (document : LeavesView). document.leaves) o) [] ≡ leaves_of o
+    by None = refl
+    by (Some document) = refl
