@@ -3,26 +3,135 @@
 
     examples/read_disk.py [FOLDER] [--documents]
 
-Written from docs/FORMAT.md alone. It prints the file that counts, its image index by index, and each change that the
-journal behind it records; with --documents also the documents of the image, a line of JSON each. Where a field is cut
-off or not allowed it names the file, the place and the byte there, and ends with 1. It looks at the spelling of fields
-and not at their meaning, so it takes some files that the server refuses.
+Written from docs/FORMAT.md, and from docs/API.md for the changes that are accepted. It prints the file that counts, its
+image index by index, and each change that the journal behind it records; with --documents also the documents that are
+held after all of these, a line of JSON each. Where rank_server would end with status 7 it names the file, the place,
+the byte there and the field that begins with it, and ends with 1.
 """
 import json
 import pathlib
+import re
 import sys
 
 FILES = ("search-a.dat", "search-b.dat")
 KINDS = {1: "create", 2: "drop", 3: "replace", 4: "update", 5: "remove", 6: "clear", 7: "patch", 8: "reset"}
+HEADER = 24
+MOST_CHANGES, MOST_INDEXES, MOST_IDS, MOST_PATHS = 1_000_000_000, 1000, 1_000_000, 1000
+DEEPEST = 127
+UID, ID = re.compile(r"[A-Za-z0-9_-]{1,400}"), re.compile(r"[A-Za-z0-9_-]{1,511}")
+RULES = ("words", "typo", "proximity", "attribute", "sort", "exactness")
+VALUED_RULE = re.compile(r".+:(asc|desc)", re.DOTALL)
+TEXTS = {"displayedAttributes": 65535, "filterableAttributes": None, "rankingRules": 32, "searchableAttributes": 65535,
+         "sortableAttributes": None, "stopWords": None}
+COUNTS = {"faceting": "maxValuesPerFacet", "pagination": "maxTotalHits"}
+SETTINGS = (*TEXTS, *COUNTS, "distinctAttribute", "synonyms")
 
 
 class Damaged(Exception):
-    """A field that is cut off or not allowed: the number of its file, its place, and the bytes of the file."""
+    """A field that is cut off or not allowed: the number of its file, its place, the byte there, and its name."""
 
-    def __init__(self, disk, place, content):
-        found = f"found {content[place]}" if place < len(content) else "at the end"
-        super().__init__(f"{FILES[disk]} is damaged at byte {place}, {found}")
+    def __init__(self, disk, place, content, field):
+        byte = content[place] if place < len(content) else None
+        found = "at the end" if byte is None else f"found {byte}"
+        super().__init__(f"{FILES[disk]} is damaged at byte {place}, {found}: {field}")
+        self.disk, self.place, self.byte, self.field = disk, place, byte, field
 
+
+class Refused(Exception):
+    """A change that no server accepts."""
+
+
+# ---- JSON as it is printed
+
+def whole(text):
+    number = int(text)
+    if text == "-0" or not -2**63 <= number < 2**64:
+        raise ValueError(text)
+    return number
+
+
+def never(text):
+    raise ValueError(text)
+
+
+def depth(value):
+    inner = value.values() if isinstance(value, dict) else value if isinstance(value, list) else None
+    return 0 if inner is None else 1 + max(map(depth, inner), default=0)
+
+
+def printed(raw):
+    """The value of JSON whose numbers are whole, printed without blanks and with names in the order of bytes."""
+    try:
+        value = json.loads(raw.decode(), parse_int=whole, parse_float=never, parse_constant=never)
+        again = json.dumps(value, ensure_ascii=False, separators=(",", ":"), sort_keys=True)
+        if again.encode() != raw or depth(value) > DEEPEST:
+            raise ValueError("it is not printed so")
+    except RecursionError:
+        raise ValueError("it is too deep") from None
+    return value
+
+
+def is_number(value):
+    return isinstance(value, int) and not isinstance(value, bool)
+
+
+def are_texts(value, most=None):
+    return isinstance(value, list) and all(isinstance(text, str) for text in value) and \
+        (most is None or len(value) <= most)
+
+
+# ---- The rules of documents and settings
+
+def external_id(document, key):
+    """The id of a document, or None where it has none."""
+    value = document.get(key)
+    if is_number(value):
+        return str(value)
+    return value if isinstance(value, str) and ID.fullmatch(value) else None
+
+
+def paths_of(document):
+    """The paths of all members, those of objects in arrays too."""
+    left = [("", document)]
+    while left:
+        path, value = left.pop()
+        if isinstance(value, dict):
+            for name, inner in value.items():
+                yield path + name
+                left.append((f"{path}{name}.", inner))
+        elif isinstance(value, list):
+            left.extend((path, inner) for inner in value)
+
+
+def is_setting(name, value):
+    if name in COUNTS:
+        inner = value.get(COUNTS[name]) if isinstance(value, dict) and len(value) == 1 else None
+        return is_number(inner) and 0 <= inner <= 1_000_000
+    if name == "distinctAttribute":
+        return value is None
+    if name == "synonyms":
+        return isinstance(value, dict) and all(map(are_texts, value.values()))
+    return are_texts(value, TEXTS[name]) and \
+        (name != "rankingRules" or all(rule in RULES or VALUED_RULE.fullmatch(rule) for rule in value))
+
+
+def are_settings(value):
+    """All ten members, as they are printed."""
+    return isinstance(value, dict) and set(value) == set(SETTINGS) and \
+        all(is_setting(name, inner) for name, inner in value.items())
+
+
+def is_patch(value):
+    """Some of the members. Null gives a default back, also inside those that have members of their own."""
+    def fits(name, inner):
+        if inner is None or name not in COUNTS or not isinstance(inner, dict):
+            return name in SETTINGS and (inner is None or is_setting(name, inner))
+        return not inner or inner == {COUNTS[name]: None} or is_setting(name, inner)
+
+    return isinstance(value, dict) and all(fits(name, inner) for name, inner in value.items())
+
+
+# ---- Fields
 
 class Fields:
     """The fields from a place of a file on, up to an end."""
@@ -30,136 +139,238 @@ class Fields:
     def __init__(self, disk, content, place, end):
         self.disk, self.content, self.place, self.end = disk, content, place, end
 
-    def damaged(self, place):
-        return Damaged(self.disk, place, self.content[:self.end])
+    def damaged(self, place, field):
+        return Damaged(self.disk, place, self.content[:self.end], field)
 
-    def number(self, size):
-        if self.place + size > self.end:
-            raise self.damaged(self.place)
-        start, self.place = self.place, self.place + size
-        return int.from_bytes(self.content[start:self.place], "little")
+    def number(self, size, field, allowed=None):
+        start, behind = self.place, self.place + size
+        value = int.from_bytes(self.content[start:behind], "little")
+        if behind > self.end or (allowed and not allowed(value)):
+            raise self.damaged(start, field)
+        self.place = behind
+        return value
 
-    def byte(self, least, most):
-        start, byte = self.place, self.number(1)
-        if not least <= byte <= most:
-            raise self.damaged(start)
-        return byte
-
-    def piece(self, size):
-        """The bytes behind their length, which has so many bytes itself."""
-        start, length = self.place, self.number(size)
+    def piece(self, size, field):
+        """The bytes behind their length, which has so many bytes itself, and their place."""
+        start, length = self.place, self.number(size, f"the length of {field}")
         if self.place + length > self.end:
-            raise self.damaged(start)
+            raise self.damaged(start, f"the length of {field}")
         self.place += length
-        return self.content[self.place - length:self.place]
+        return self.content[self.place - length:self.place], self.place - length
 
-    def text(self):
-        start = self.place + 4
+    def read(self, size, field, reader, allowed):
+        raw, start = self.piece(size, field)
         try:
-            return self.piece(4).decode()
-        except UnicodeDecodeError:
-            raise self.damaged(start) from None
-
-    def optional(self):
-        return self.text() if self.byte(0, 1) else None
-
-    def json(self, size):
-        start = self.place + size
-        try:
-            return json.loads(self.piece(size))
+            value = reader(raw)
         except ValueError:
-            raise self.damaged(start) from None
+            raise self.damaged(start, field) from None
+        if not allowed(value):
+            raise self.damaged(start, field)
+        return value
 
-    def documents(self, size, numbered):
-        return [(self.number(4) if numbered else None, self.json(size)) for _ in range(self.number(4))]
+    def text(self, field, allowed=lambda text: True):
+        return self.read(4, field, bytes.decode, allowed)
 
-    def ends(self):
+    def optional(self, field, allowed=lambda text: True):
+        return self.text(field, allowed) if self.number(1, f"whether {field} is there", lambda n: n <= 1) else None
+
+    def json(self, size, field, allowed):
+        return self.read(size, field, printed, allowed)
+
+    def ends(self, field):
         if self.place != self.end:
-            raise self.damaged(self.place)
+            raise self.damaged(self.place, field)
 
 
 def header(disk, content):
     """The generation and the length of the image of a file that is open, or None."""
-    if len(content) < 24 or content[0] == 0:
+    if len(content) < HEADER or content[0] == 0:
         return None
     if content[1:8] != b"RANKIDX":
-        raise Damaged(disk, 1, content)
+        raise Damaged(disk, 1, content, "the name RANKIDX")
     generation, length = (int.from_bytes(content[at:at + 8], "little") for at in (8, 16))
     if generation == 0:
-        raise Damaged(disk, 8, content)
-    if 24 + length + 1 > len(content):
-        raise Damaged(disk, 16, content)
+        raise Damaged(disk, 8, content, "the generation")
+    if HEADER + length + 1 > len(content):
+        raise Damaged(disk, 16, content, "the length of the image")
     return generation, length
 
 
 def active(contents):
-    """The number of the file that counts, with its header, or None where no file is open."""
+    """The generation of the file that counts, its number and the length of its image, or None where no file is open."""
     headers = [header(disk, content) for disk, content in enumerate(contents)]
     opened = [(found[0], disk, found[1]) for disk, found in enumerate(headers) if found]
     if len(opened) == 2 and opened[0][0] == opened[1][0]:
-        raise Damaged(1, 8, contents[1])
+        raise Damaged(1, 8, contents[1], "the generation, which both files have")
     return max(opened, default=None)
+
+
+# ---- The image
+
+class Index:
+    """What is held of one index: its key, its paths, and its documents by their ids."""
+
+    def __init__(self, key=None):
+        self.key, self.next_id, self.paths, self.documents = key, 0, set(), {}
+
+
+def read_paths(fields):
+    paths = set()
+    for _ in range(fields.number(4, "the number of paths", lambda n: n <= MOST_PATHS)):
+        paths.add(fields.text("a path", lambda path: path not in paths))
+    return paths
+
+
+def read_index(fields):
+    index = Index(fields.optional("the primary key", lambda key: key != ""))
+    index.next_id = fields.number(4, "the next internal id", lambda n: n <= MOST_IDS)
+    index.paths = read_paths(fields)
+    fields.json(8, "the settings", are_settings)
+    last, count = -1, fields.number(4, "the number of documents", lambda n: n <= (0 if index.key is None else MOST_IDS))
+
+    def fits(document):
+        external = external_id(document, index.key) if isinstance(document, dict) else None
+        return external is not None and external not in index.documents and index.paths.issuperset(paths_of(document))
+
+    for _ in range(count):
+        last = fields.number(4, "an internal id", lambda n, least=last: least < n < index.next_id)
+        document = fields.json(8, "a document", fits)
+        index.documents[external_id(document, index.key)] = document
+    return index
 
 
 def image(fields):
     """The count of changes, and the indexes by their uids."""
-    fields.byte(1, 1)
-    changes = fields.number(8)
-    indexes = {}
-    for _ in range(fields.number(4)):
-        uid, key, next_id = fields.text(), fields.optional(), fields.number(4)
-        paths = [fields.text() for _ in range(fields.number(4))]
-        indexes[uid] = (key, next_id, paths, fields.json(8), fields.documents(8, True))
-    fields.ends()
+    fields.number(1, "the version of the image", lambda n: n == 1)
+    changes = fields.number(8, "the count of changes", lambda n: n <= MOST_CHANGES)
+    indexes, last = {}, ""
+    for _ in range(fields.number(4, "the number of indexes", lambda n: n <= MOST_INDEXES)):
+        last = fields.text("the uid of an index", lambda uid, least=last: UID.fullmatch(uid) and least < uid)
+        indexes[last] = read_index(fields)
+    fields.ends("the end of the image")
     return changes, indexes
 
 
+# ---- The journal
+
 def change(fields):
     """What a payload says: the kind, the uid, and the rest."""
-    kind, uid = KINDS[fields.byte(1, 8)], fields.text()
-    rest = {"create": lambda: fields.optional(), "remove": lambda: fields.json(4), "patch": lambda: fields.json(4)}
-    stored = lambda: (fields.optional(), [document for _, document in fields.documents(4, False)])
-    said = rest.get(kind, stored if kind in ("replace", "update") else lambda: None)()
-    fields.ends()
+    kind = KINDS[fields.number(1, "the kind of a change", KINDS.get)]
+    uid, said = fields.text("the uid of a change"), None
+    if kind == "create":
+        said = fields.optional("the primary key")
+    elif kind in ("replace", "update"):
+        key, count = fields.optional("the primary key"), fields.number(4, "the number of documents")
+        said = key, [fields.json(4, "a document", lambda value: isinstance(value, dict)) for _ in range(count)]
+    elif kind == "remove":
+        said = fields.json(4, "the ids that go", are_texts)
+    elif kind == "patch":
+        said = fields.json(4, "the settings that change", lambda value: True)
+    fields.ends("the end of a change")
     return kind, uid, said
 
 
 def journal(disk, content, gate, count):
     """The payloads behind an image, each as the place where it begins and where it ends."""
-    while True:
-        if gate >= len(content):
-            raise Damaged(disk, gate, content)
-        if content[gate] == 0:
-            return
-        fields = Fields(disk, content, gate + 1, len(content))
-        if fields.number(8) != count:
-            raise Damaged(disk, gate + 1, content)
-        fields.piece(4)
-        yield gate + 13, fields.place
-        gate, count = fields.place, count + 1
+    fields = Fields(disk, content, gate, len(content))
+    while fields.number(1, f"the gate in front of change {count}"):
+        fields.number(8, f"the number of change {count}", lambda number, wanted=count: number == wanted)
+        payload, start = fields.piece(4, f"change {count}")
+        yield start, start + len(payload)
+        count += 1
+
+
+def store(index, kind, key, documents):
+    """Puts documents into an index."""
+    if index.key and key not in (None, index.key):
+        raise Refused("the primary key is another one")
+    if documents and not (index.key or key):
+        names = [name for name in documents[0] if re.search(r"id\Z", name, re.ASCII | re.IGNORECASE)]
+        if len(names) != 1:
+            raise Refused("the primary key cannot be told")
+        key = names[0]
+    index.key = index.key or key
+    for document in documents:
+        external = external_id(document, index.key)
+        if external is None:
+            raise Refused("a document has no id")
+        before = index.documents.get(external)
+        if before is None:
+            index.next_id += 1
+        index.documents[external] = {**before, **document} if before and kind == "update" else document
+        index.paths.update(paths_of(document))
+    if index.next_id > MOST_IDS or len(index.paths) > MOST_PATHS:
+        raise Refused("the index has too many documents or paths")
+
+
+def perform(indexes, kind, uid, said):
+    """Makes a change, or says why no server accepts it; then some of it may be made."""
+    index = indexes.get(uid)
+    if not UID.fullmatch(uid) or said == "" or (kind in ("replace", "update") and said[0] == ""):
+        raise Refused("a uid or a primary key is none")
+    if kind == "patch" and not is_patch(said):
+        raise Refused("the settings have a member that is none")
+    if index is None and kind in ("drop", "remove", "clear", "reset"):
+        raise Refused("there is no such index")
+    if index is not None and kind == "create":
+        raise Refused("the index is there already")
+    if index is None:
+        index = indexes[uid] = Index(said if kind == "create" else None)
+    if len(indexes) > MOST_INDEXES:
+        raise Refused("there are too many indexes")
+    if kind == "drop":
+        del indexes[uid]
+    elif kind in ("replace", "update"):
+        store(index, kind, *said)
+    elif kind == "remove":
+        for external in said:
+            index.documents.pop(external, None)
+    elif kind == "clear":
+        index.documents = {}
+
+
+def change_line(number, kind, uid, said):
+    return f"change {number}: {kind} {uid}" + (f", {len(said[1])} documents" if kind in ("replace", "update") else "")
+
+
+def held(contents, tell=lambda line: None):
+    """The indexes that are held, told line by line as they are read."""
+    found = active(contents)
+    if found is None:
+        tell("nothing is held: no file is open")
+        return {}
+    generation, disk, length = found
+    content = contents[disk]
+    changes, indexes = image(Fields(disk, content, HEADER, HEADER + length))
+    payloads = list(journal(disk, content, HEADER + length, changes))
+    tell(f"{FILES[disk]} counts, generation {generation}: an image of {length} bytes after {changes} changes")
+    for uid, index in indexes.items():
+        tell(f"index {uid}: key {index.key}, {len(index.documents)} documents, next id {index.next_id}, "
+             f"{len(index.paths)} paths")
+    for number, (start, end) in enumerate(payloads, changes):
+        asked = change(Fields(disk, content, start, end))
+        try:
+            if number >= MOST_CHANGES:
+                raise Refused("there are too many changes")
+            perform(indexes, *asked)
+        except Refused as refused:
+            raise Damaged(disk, start, content, f"change {number}, which no server accepts: {refused}") from None
+        tell(change_line(number, *asked))
+    return indexes
+
+
+def contents_of(folder):
+    return [(folder / name).read_bytes() if (folder / name).exists() else b"" for name in FILES]
 
 
 def main():
     words = [word for word in sys.argv[1:] if word != "--documents"]
-    folder = pathlib.Path(words[0] if words else ".")
-    contents = [(folder / name).read_bytes() if (folder / name).exists() else b"" for name in FILES]
-    found = active(contents)
-    if found is None:
-        print("nothing is held: no file is open")
-        return
-    generation, disk, length = found
-    content = contents[disk]
-    changes, indexes = image(Fields(disk, content, 24, 24 + length))
-    print(f"{FILES[disk]} counts, generation {generation}: an image of {length} bytes after {changes} changes")
-    for uid, (key, next_id, paths, settings, documents) in indexes.items():
-        print(f"index {uid}: key {key}, {len(documents)} documents, next id {next_id}, {len(paths)} paths")
-        if "--documents" in sys.argv:
-            for _, document in documents:
+    indexes = held(contents_of(pathlib.Path(words[0] if words else ".")), print)
+    if "--documents" in sys.argv:
+        for uid, index in sorted(indexes.items()):
+            print(f"documents of {uid}:")
+            for document in index.documents.values():
                 print(json.dumps(document, ensure_ascii=False))
-    for number, (start, end) in enumerate(list(journal(disk, content, 24 + length, changes)), changes):
-        kind, uid, said = change(Fields(disk, content, start, end))
-        documents = f", {len(said[1])} documents" if kind in ("replace", "update") else ""
-        print(f"change {number}: {kind} {uid}{documents}")
 
 
 if __name__ == "__main__":
