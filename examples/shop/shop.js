@@ -36,7 +36,8 @@ function readAddress() {
   wanted.least = pairs.get("least") ?? "";
   wanted.most = pairs.get("most") ?? "";
   wanted.stock = pairs.has("stock");
-  wanted.sort = pairs.get("sort") ?? "";
+  const orders = [...part("sort").options].map((option) => option.value);
+  wanted.sort = orders.includes(pairs.get("sort")) ? pairs.get("sort") : "";
   wanted.page = Math.max(1, parseInt(pairs.get("page"), 10) || 1);
   for (const { attribute } of FACETS) wanted.values[attribute] = new Set(pairs.getAll(attribute));
 }
