@@ -57,14 +57,14 @@ const DOCUMENTS: [(u32, u32, &str); 2] = [
 ];
 
 fn tell_documents(rt: &impl Abort, step: &Step, told: &mut String) {
-    let mut comma = "";
     for part in str::from_utf8(&step.wire.body)
         .unwrap_or("no text")
         .split(",{")
     {
-        add(rt, told, comma);
+        if !told.as_str().is_empty() {
+            add(rt, told, ",\n{");
+        }
         add(rt, told, part);
-        comma = ",\n{";
     }
 }
 
