@@ -3,9 +3,9 @@ ghost use Rattle.std.specs.Prelude.{◌≡◌, true, false, IsTrue};
 use link_doors::{Door, MemoryDoor, TcpDoor};
 use outside_io::{Failed, Link, MemoryLink};
 use std::alloc::Global;
-use std::io::{Read, Write};
+use std::io::{self, Read, Write};
 use std::net::{Ipv4Addr, TcpListener, TcpStream};
-use std::test::Fail;
+use std::process::Abort;
 
 // Whether the door could be opened.
 fn opens<D: Door>(door: &mut D) -> bool
@@ -38,80 +38,89 @@ fn echoes<D: Door>(door: &mut D) -> u8
 }
 
 // What six calls tell: the door is opened, `o`, as soon as that succeeds, and then echoes.
-fn outcomes<D: Door>(alloc: Global, door: &mut D) -> Result<Vec<u8>, Fail>
+fn outcomes<D: Door>(rt: &impl Abort, alloc: Global, door: &mut D) -> Vec<u8>
     requires none_out { D.is_out door.old ≡ false }
 {
     let mut told = Vec::new(alloc);
     let mut open = false;
     for _ in 0..6 {
-        if open {
-            told.push(echoes(door))?;
+        let outcome = if open {
+            echoes(door)
         } else {
             open = opens(door);
-            told.push(if open { b'o' } else { b'f' })?;
-        }
+            if open { b'o' } else { b'f' }
+        };
+        told.push(outcome).expect(rt, "memory");
     }
-    Ok(told)
+    told
 }
 
-#[test]
-fn memory_door_gives_its_links_in_order_and_fails_where_told(rt: HostRuntime) -> Result<(), Fail> {
-    let rows: [(&[u64], &[u8]); 7] = [
-        (&[], b"oab---"),
-        (&[0], b"foab--"),
-        (&[1], b"ofab--"),
-        (&[3], b"oabf--"),
-        (&[3, 2], b"oaffb-"),
-        (&[0, 1, 3], b"ffofab"),
-        (&[6, u64::MAX], b"oab---"),
-    ];
-    for (failing, told) in rows {
-        let mut links = Vec::new(rt.alloc());
-        for input in [b"a", b"b"] {
-            let input = input.to_vec(rt.alloc())?;
-            links.push(MemoryLink::new(rt.alloc(), input, Vec::new(rt.alloc()))?)?;
-        }
-        let mut door = MemoryDoor::new(rt.alloc(), links, failing.to_vec(rt.alloc())?)?;
-        assert_eq!(rt;
-            outcomes(rt.alloc(), &mut door)?.as_slice(),
-            told,
-            "{failing:?}"
-        );
-        let mut written = Vec::new(rt.alloc());
-        for link in door.returned() {
-            written.extend_from_slice(link.written())?;
-        }
-        assert_eq!(rt; written.as_slice(), b"ab".as_slice());
+// A link that gives these bytes.
+fn link(rt: &impl Abort, alloc: Global, input: &[u8]) -> MemoryLink {
+    let input = input.to_vec(alloc).expect(rt, "memory");
+    MemoryLink::new(alloc, input, Vec::new(alloc)).expect(rt, "memory")
+}
+
+// What was written to the links that were given back.
+fn written(rt: &impl Abort, alloc: Global, links: &[MemoryLink]) -> Vec<u8> {
+    let mut written = Vec::new(alloc);
+    for link in links {
+        written
+            .extend_from_slice(link.written())
+            .expect(rt, "memory");
     }
-    Ok(())
+    written
+}
+
+// Of a door whose calls of these numbers fail, six calls tell this.
+fn check(rt: &impl Abort, alloc: Global, failing: &[u64], told: &[u8]) {
+    let mut links = Vec::new(alloc);
+    links.push(link(rt, alloc, b"a")).expect(rt, "memory");
+    links.push(link(rt, alloc, b"b")).expect(rt, "memory");
+    let failing = failing.to_vec(alloc).expect(rt, "memory");
+    let mut door = MemoryDoor::new(alloc, links, failing).expect(rt, "memory");
+    assert!(rt; outcomes(rt, alloc, &mut door).as_slice() == told);
+    assert!(rt; written(rt, alloc, door.returned()).as_slice() == b"ab".as_slice());
+}
+
+const DOORS: [(&[u64], &[u8]); 7] = [
+    (&[], b"oab---"),
+    (&[0], b"foab--"),
+    (&[1], b"ofab--"),
+    (&[3], b"oabf--"),
+    (&[3, 2], b"oaffb-"),
+    (&[0, 1, 3], b"ffofab"),
+    (&[6, u64::MAX], b"oab---"),
+];
+
+#[test]
+fn memory_door_gives_its_links_in_order_and_fails_where_told(rt: HostRuntime) {
+    for (failing, told) in DOORS {
+        check(&rt, rt.alloc(), failing, told);
+    }
 }
 
 // A port that is free.
-fn free_port(rt: &HostRuntime) -> Result<u16, Fail> {
+fn free_port(rt: &HostRuntime) -> io::Result<u16> {
     let listener = TcpListener::bind(rt, (Ipv4Addr::LOCALHOST, 0))?;
     Ok(listener.local_addr()?.port())
 }
 
 #[test]
-fn tcp_door_gives_a_connection_and_closes_it(rt: HostRuntime) -> Result<(), Fail> {
-    let port = free_port(&rt)?;
+fn tcp_door_gives_a_connection_and_closes_it(rt: HostRuntime) {
+    let port = free_port(&rt).expect(&rt, "a port");
     let mut door = TcpDoor::new(&rt);
-    door.open(port)?;
-    assert_eq!(rt; TcpDoor::new(&rt).open(port), Err(Failed));
-    let mut client = TcpStream::connect(&rt, (Ipv4Addr::LOCALHOST, port))?;
-    client.write_all(b"request")?;
-    match door.next()? {
-        Some(mut link) => {
-            let mut into = [0; 16];
-            assert_eq!(rt; link.read(&mut into), Ok(7));
-            assert_eq!(rt; &into[..7], b"request".as_slice());
-            assert_eq!(rt; link.write(b"answer"), Ok(6));
-            door.give_back(link);
-        }
-        None => return Err(Failed.into()),
-    }
+    door.open(port).expect(&rt, "the port");
+    assert!(rt; TcpDoor::new(&rt).open(port) == Err(Failed));
+    let mut client = TcpStream::connect(&rt, (Ipv4Addr::LOCALHOST, port)).expect(&rt, "a client");
+    client.write_all(b"request").expect(&rt, "a request");
+    let mut link = door.next().expect(&rt, "a link").expect(&rt, "a link");
+    let mut into = [0; 16];
+    assert!(rt; link.read(&mut into) == Ok(7));
+    assert!(rt; &into[..7] == b"request".as_slice());
+    assert!(rt; link.write(b"answer") == Ok(6));
+    door.give_back(link);
     let mut answer = Vec::new(rt.alloc());
-    client.read_to_end(&mut answer)?;
-    assert_eq!(rt; answer.as_slice(), b"answer".as_slice());
-    Ok(())
+    client.read_to_end(&mut answer).expect(&rt, "an answer");
+    assert!(rt; answer.as_slice() == b"answer".as_slice());
 }

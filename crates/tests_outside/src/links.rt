@@ -1,67 +1,75 @@
 use outside_io::{Disk, Failed, FileDisk, Link, MemoryDisk, MemoryLink, StdLink};
+use std::alloc::Global;
 use std::fs;
 use std::process::Abort;
-use std::test::Fail;
 
-#[test]
-fn memory_link_gives_takes_and_fails(rt: HostRuntime) -> Result<(), Fail> {
-    let input = b"head".to_vec(rt.alloc())?;
-    let failing = [1].to_vec(rt.alloc())?;
-    let mut link = MemoryLink::paced(rt.alloc(), input, failing, 3)?;
-    let mut into = [0; 8];
-    assert_eq!(rt; link.read(&mut into), Ok(3));
-    assert_eq!(rt; link.read(&mut into), Err(Failed));
-    assert_eq!(rt; link.write(b"reply"), Ok(3));
-    assert_eq!(rt; link.written(), b"rep".as_slice());
-    assert_eq!(rt; link.read(&mut into), Ok(1));
-    assert_eq!(rt; link.read(&mut into), Ok(0));
-    assert_eq!(rt; into.as_slice(), b"dea\0\0\0\0\0".as_slice());
-    assert_eq!(rt; link.starved(), 0);
-    Ok(())
+// A link that gives `head`, at most so many bytes a call, and whose calls of these numbers fail.
+fn link(rt: &impl Abort, alloc: Global, failing: &[u64], most: usize) -> MemoryLink
+    requires { 0 < most }
+{
+    let input = b"head".to_vec(alloc).expect(rt, "memory");
+    let failing = failing.to_vec(alloc).expect(rt, "memory");
+    MemoryLink::paced(alloc, input, failing, most).expect(rt, "memory")
 }
 
 #[test]
-fn memory_link_of_full_pace_gives_all_at_once(rt: HostRuntime) -> Result<(), Fail> {
-    let input = b"head".to_vec(rt.alloc())?;
-    let mut link = MemoryLink::new(rt.alloc(), input, Vec::new(rt.alloc()))?;
+fn memory_link_gives_takes_and_fails(rt: HostRuntime) {
+    let mut link = link(&rt, rt.alloc(), &[1], 3);
     let mut into = [0; 8];
-    assert_eq!(rt; link.read(&mut into), Ok(4));
-    Ok(())
+    assert!(rt; link.read(&mut into) == Ok(3));
+    assert!(rt; link.read(&mut into) == Err(Failed));
+    assert!(rt; link.write(b"reply") == Ok(3));
+    assert!(rt; link.written() == b"rep".as_slice());
+    assert!(rt; link.read(&mut into) == Ok(1));
+    assert!(rt; link.read(&mut into) == Ok(0));
+    assert!(rt; into == *b"dea\0\0\0\0\0");
+    assert!(rt; link.starved() == 0);
+}
+
+#[test]
+fn memory_link_of_full_pace_gives_all_at_once(rt: HostRuntime) {
+    let input = b"head".to_vec(rt.alloc()).expect(&rt, "memory");
+    let mut link = MemoryLink::new(rt.alloc(), input, Vec::new(rt.alloc())).expect(&rt, "memory");
+    let mut into = [0; 8];
+    assert!(rt; link.read(&mut into) == Ok(4));
 }
 
 #[test]
 fn std_link_writes(rt: HostRuntime) {
     let mut link = StdLink::new(&rt);
-    assert_eq!(rt; link.write(b"written by a test\n"), Ok(18));
+    assert!(rt; link.write(b"written by a test\n") == Ok(18));
 }
 
-#[test]
-fn memory_disk_keeps_bytes_and_answers_for_a_crash(rt: HostRuntime) -> Result<(), Fail> {
-    let content = b"first".to_vec(rt.alloc())?;
-    let failing = [4].to_vec(rt.alloc())?;
-    let mut disk = MemoryDisk::new(rt.alloc(), content, failing)?;
-    assert_eq!(rt; disk.write_at(5, b" words"), Ok(()));
-    assert_eq!(rt; disk.sync(), Ok(()));
-    assert_eq!(rt; disk.cut(8), Ok(()));
-    assert_eq!(rt; disk.write_at(6, b"try"), Ok(()));
-    assert_eq!(rt; disk.write_at(0, b"F"), Err(Failed));
-    assert_eq!(rt; disk.content(), b"first try".as_slice());
-    assert_eq!(rt; disk.len(), Ok(9));
-    let mut into = [0; 8];
-    assert_eq!(rt; disk.read_at(6, &mut into), Ok(3));
-    assert_eq!(rt; into.as_slice(), b"try\0\0\0\0\0".as_slice());
-    assert_eq!(rt; disk.read_at(9, &mut into), Ok(0));
-    assert_eq!(rt; disk.starved(), 0);
-    assert_eq!(rt; disk.after_crash(0)?.content(), b"first words".as_slice());
-    assert_eq!(rt; disk.after_crash(1)?.content(), b"first wo".as_slice());
-    assert_eq!(rt; disk.after_crash(2)?.content(), b"first try".as_slice());
+// What a crash leaves of the disk where so many of the calls since its last sync were carried out.
+const CRASHES: [(u64, &[u8]); 5] = [
+    (0, b"first words"),
+    (1, b"first wo"),
+    (2, b"first try"),
     // The write that failed counts as made.
-    assert_eq!(rt; disk.after_crash(3)?.content(), b"First try".as_slice());
-    assert_eq!(rt;
-        disk.after_crash(u64::MAX)?.content(),
-        b"First try".as_slice()
-    );
-    Ok(())
+    (3, b"First try"),
+    (u64::MAX, b"First try"),
+];
+
+#[test]
+fn memory_disk_keeps_bytes_and_answers_for_a_crash(rt: HostRuntime) {
+    let content = b"first".to_vec(rt.alloc()).expect(&rt, "memory");
+    let failing = [4].to_vec(rt.alloc()).expect(&rt, "memory");
+    let mut disk = MemoryDisk::new(rt.alloc(), content, failing).expect(&rt, "memory");
+    assert!(rt; disk.write_at(5, b" words") == Ok(()));
+    assert!(rt; disk.sync() == Ok(()));
+    assert!(rt; disk.cut(8) == Ok(()));
+    assert!(rt; disk.write_at(6, b"try") == Ok(()));
+    assert!(rt; disk.write_at(0, b"F") == Err(Failed));
+    assert!(rt; disk.content() == b"first try".as_slice());
+    assert!(rt; disk.len() == Ok(9));
+    let mut into = [0; 8];
+    assert!(rt; disk.read_at(6, &mut into) == Ok(3));
+    assert!(rt; into == *b"try\0\0\0\0\0");
+    assert!(rt; disk.read_at(9, &mut into) == Ok(0));
+    assert!(rt; disk.starved() == 0);
+    for (calls, content) in CRASHES {
+        assert!(rt; disk.after_crash(calls).expect(&rt, "memory").content() == content);
+    }
 }
 
 // Writes two pieces, cuts the second and lets the disk go.
