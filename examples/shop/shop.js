@@ -9,6 +9,7 @@ const FACETS = [
   { attribute: "brand", title: "Brand" },
   { attribute: "colour", title: "Colour" },
 ];
+const LONG = 12; // values of a facet above which a box over them finds some
 const ON_A_PAGE = 24;
 const PAUSE_FOR_WORDS = 120; // milliseconds without a key before a search is sent
 const PAUSE_FOR_PRICES = 400;
@@ -202,8 +203,22 @@ function card(hit, asked) {
 
 function showFacets() {
   for (const { attribute, title } of FACETS) {
+    const label = `Find in ${title.toLowerCase()}`;
+    const box = make("input", { type: "search", class: "within", id: `within-${attribute}`, "aria-label": label,
+      placeholder: label, autocomplete: "off" });
+    box.addEventListener("input", () => showWithin(attribute));
     const list = make("div", { class: "choices", id: `facet-${attribute}` });
-    part("facets").append(make("fieldset", {}, make("legend", {}, title), list));
+    part("facets").append(make("fieldset", {}, make("legend", {}, title), box, list));
+  }
+}
+
+/** Of a long facet only the values with the text of its box, and those that are chosen. */
+function showWithin(attribute) {
+  const box = part(`within-${attribute}`);
+  box.hidden = shown[attribute].size <= LONG;
+  const asked = plain(box.value.trim());
+  for (const [value, { label }] of shown[attribute]) {
+    label.hidden = !plain(value).includes(asked) && !wanted.values[attribute].has(value);
   }
 }
 
@@ -230,6 +245,7 @@ function showCounts(distribution) {
       count.textContent = counts[value] ?? 0;
       label.classList.toggle("none", !counts[value]);
     }
+    showWithin(attribute);
   }
 }
 
@@ -344,6 +360,7 @@ function listen() {
   });
   part("facets").addEventListener("change", ({ target }) => {
     const values = wanted.values[target.name];
+    if (!values) return;
     if (target.checked) values.add(target.value);
     else values.delete(target.value);
     changed();
