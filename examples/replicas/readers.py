@@ -67,7 +67,7 @@ class Reader:
     def __init__(self, program, held, folder, ports):
         self.program, self.held, self.ports = program, held, ports
         self.folders = [folder / "even", folder / "odd"]
-        self.process, self.turn, self.mark, self.copies = None, 0, None, 0
+        self.process, self.next, self.turn, self.mark, self.copies = None, None, 0, None, 0
 
     def port(self):
         """The port at which it answers now."""
@@ -90,15 +90,16 @@ class Reader:
         self.copies = copy_disk.copy(self.held, self.folders[other])
         if self.copies is None:
             raise Silent(f"no copy of {self.held} was made")
-        process = started(self.program, self.folders[other], self.ports[other])
+        self.next = started(self.program, self.folders[other], self.ports[other])
         try:
-            wait_for(process, self.ports[other])
+            wait_for(self.next, self.ports[other])
         except Silent:
-            ended(process)
+            ended(self.next)
             raise
         ended(self.process)
-        self.process, self.turn, self.mark = process, other, now
+        self.process, self.next, self.turn, self.mark = self.next, None, other, now
         return True
 
     def end(self):
         ended(self.process)
+        ended(self.next)
