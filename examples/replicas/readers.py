@@ -21,7 +21,7 @@ class Silent(Exception):
 
 def started(program, folder, port):
     """The program, serving what the folder holds at a port."""
-    with open(folder / "links.log", "ab") as links:
+    with open(folder / "links.log", "wb") as links:
         return subprocess.Popen([program, "serve", str(port), CONNECTIONS], cwd=folder, stdin=subprocess.DEVNULL,
                                 stdout=links)
 
@@ -32,7 +32,7 @@ def answers(port):
     try:
         link.request("GET", "/health", headers={"Connection": "close"})
         return link.getresponse().status == 200
-    except OSError:
+    except (OSError, http.client.HTTPException):
         return False
     finally:
         link.close()
