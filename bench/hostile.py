@@ -29,6 +29,7 @@ import serve
 
 MANY = 60_000
 VALUES = 20_000
+BODY = 4 << 20
 MOST_MEMORY = 6 << 30
 MOST_SECONDS = 300
 SETTINGS = {"searchableAttributes": ["name"], "filterableAttributes": ["size", "stock", "tags"],
@@ -62,6 +63,19 @@ DOCUMENTS = {
     "large": lambda: [{"id": 1, "text": "a" * 800_000}],
     "none": lambda: [],
 }
+
+
+def bodies(rows):
+    """The documents as lists of at most about so many bytes."""
+    texts, size = [], 0
+    for text in map(compact, rows):
+        if texts and BODY < size + len(text):
+            yield b"[%s]" % b",".join(texts)
+            texts, size = [], 0
+        texts.append(text)
+        size += len(text) + 1
+    if texts:
+        yield b"[%s]" % b",".join(texts)
 
 
 def search(members):
@@ -100,6 +114,10 @@ SHAPES = [
           lambda n: filtered([f"size > {number}" for number in range(n)], "AND"), False),
     Shape("ranges joined by OR", "many", 1_000,
           lambda n: filtered([f"size > {number}" for number in range(n)], "OR"), False),
+    Shape("ranges that cross joined by AND", "many", 200,
+          lambda n: filtered([f"size {number} TO {number + MANY // 2}" for number in range(n)], "AND"), False),
+    Shape("ranges that cross joined by OR", "many", 200,
+          lambda n: filtered([f"size {number} TO {number + MANY // 2}" for number in range(n)], "OR"), False),
     Shape("one condition again and again", "many", 50_000, lambda n: filtered(["stock = 1"] * n, "AND"), False),
     Shape("IN with frequent values", "many", 20_000,
           lambda n: one_of("stock", [str(number % 10) for number in range(n)]), False),
@@ -130,9 +148,8 @@ class Program:
         self.process = load.started(binary, *words, stdin=subprocess.PIPE, preexec_fn=limited,
                                     stdout=subprocess.DEVNULL if over_connections else subprocess.PIPE)
         self.ask(demo.request(b"PATCH", b"/indexes/c/settings", SETTINGS))
-        rows = DOCUMENTS[documents]()
-        for first in range(0, len(rows), demo.BATCH):
-            status, reply = self.ask(put_in(b"POST", compact(rows[first:first + demo.BATCH])))
+        for body in bodies(DOCUMENTS[documents]()):
+            status, reply = self.ask(put_in(b"POST", body))
             if status != 202:
                 sys.exit(f"{documents}: {reply.decode()}")
 

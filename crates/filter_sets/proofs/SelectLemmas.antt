@@ -1,10 +1,12 @@
 -- Filters of filters.
-use Rattle.std.proofs.Common.{◌≡◌, ℕ, zero, suc, ◌+◌, ◌<◌, ◌≤◌, Bool, true, false, ◌&&◌, ◌||◌, List, [], ◌∷◌, map, drop, length, get_or, refl, sym, ap, ap₂, ◌∙◌, arith, drop-cons}
-use Rattle.std.specs.List.{filter}
+use Rattle.std.proofs.Common.{◌≡◌, ℕ, zero, suc, ◌+◌, ◌<◌, ◌≤◌, Bool, true, false, ◌&&◌, ◌||◌, List, [], ◌∷◌, ◌++◌, map, drop, length, get_or, Result, Ok, Err, refl, sym, ap, ap₂, ◌∙◌, arith, drop-cons}
+use Rattle.std.specs.List.{filter, list_all, list_any}
+use Rattle.std.specs.Result.{IfOk}
 use Rattle.search_base.specs.RowsView.{RowsView}
 use Rattle.doc_sets.specs.Sets.{has}
 use Rattle.doc_sets.specs.Membership.{AreByMembers}
 use Rattle.doc_sets.specs.Sets.{union}
+use Rattle.doc_sets.specs.SetView.{SetView}
 use Rattle.filter_tree.specs.declared.tree.Filter.{Filter, Filter-F, fold-roll-Filter}
 use Rattle.filter_tree.specs.declared.tree.Filter.TheVariants as filter
 use Rattle.filter_tree.specs.Tree.{Tree, Trees, all, no_trees, tree, trees_of}
@@ -13,9 +15,12 @@ use Rattle.row_filter.specs.Holds.{holds, all_hold, one_holds}
 use Rattle.postings.specs.Dictionary.{PostingsView}
 use Rattle.facet_index.specs.LeavesView.{LeavesView}
 use Rattle.facet_index.specs.Places.{IsIndexOf}
+use Rattle.filter_sets.specs.declared.conditions.Condition.{Condition}
 use Rattle.filter_sets.specs.Selects.{AreRowsOf, Selects}
+use Rattle.filter_sets.specs.Conditions.{is_met}
 use Rattle.filter_sets.proofs.JoinLemmas.{filter_twice, filter_all, one_more}
-use Rattle.facet_index.proofs.TestLemmas.{has_filter}
+use Rattle.filter_sets.proofs.SweepLemmas.{all_pushed, any_pushed}
+use Rattle.facet_index.proofs.TestLemmas.{filter_same, has_filter}
 
 -- ---- the members of a filter
 
@@ -39,50 +44,126 @@ no_more members i past = ap (λ fs. trees_of (map view fs)) (none members i past
     none (f ∷ fs) zero h = absurd (omega arith)
     none (f ∷ fs) (suc n) h = none fs n (omega arith)
 
--- what is left narrows the documents as all members do
-abbrev pub Narrows : PostingsView → List (List ℕ) → Trees → List ℕ → Trees → List ℕ → Type 0
-Narrows index paths left docs members ids = (documents : List LeavesView) (rows : ℕ → RowsView) → IsIndexOf index documents → AreRowsOf rows documents
-    → filter (λ d. all_hold paths (rows d) left) docs ≡ filter (λ d. all_hold paths (rows d) members) ids
+-- what is left, and the conditions that are not asked yet, narrow the documents as all members do
+abbrev pub Narrows : PostingsView → List (List ℕ) → Trees → List Condition → List ℕ → Trees → List ℕ → Type 0
+Narrows index paths left conditions docs members ids = (documents : List LeavesView) (rows : ℕ → RowsView) → IsIndexOf index documents → AreRowsOf rows documents
+    → filter (λ d. all_hold paths (rows d) left && list_all (is_met (rows d)) conditions) docs ≡ filter (λ d. all_hold paths (rows d) members) ids
 
-pub narrower : (index : PostingsView) (paths : List (List ℕ)) (members : List Filter) (i : ℕ) (member : Filter) (docs more ids : List ℕ) (whole : Trees)
+pub narrower : (index : PostingsView) (paths : List (List ℕ)) (members : List Filter) (i : ℕ) (member : Filter) (conditions : List Condition) (docs more ids : List ℕ) (whole : Trees)
     → i < length members → member ≡ get_or members i member → Selects index (λ rows. holds paths rows (view member)) docs more
-    → Narrows index paths (trees_from i members) docs whole ids → Narrows index paths (trees_from (i + 1) members) more whole ids
-narrower index paths members i member docs more ids whole inside is selects narrows = λ documents rows of are.
-    ap (filter (λ d. all_hold paths (rows d) (trees_from (i + 1) members))) (selects documents rows of are)
-    ∙ filter_twice (λ d. all_hold paths (rows d) (trees_from (i + 1) members)) (λ d. holds paths (rows d) (view member)) docs
-    ∙ ap (λ ts. filter (λ d. all_hold paths (rows d) ts) docs) (sym (next_trees members i member inside is)) ∙ narrows documents rows of are
+    → Narrows index paths (trees_from i members) conditions docs whole ids → Narrows index paths (trees_from (i + 1) members) conditions more whole ids
+narrower index paths members i member conditions docs more ids whole inside is selects narrows = λ documents rows of are.
+    ap (filter (λ d. all_hold paths (rows d) (trees_from (i + 1) members) && list_all (is_met (rows d)) conditions)) (selects documents rows of are)
+    ∙ filter_twice (λ d. all_hold paths (rows d) (trees_from (i + 1) members) && list_all (is_met (rows d)) conditions) (λ d. holds paths (rows d) (view member)) docs
+    ∙ filter_same (λ d. holds paths (rows d) (view member) && (all_hold paths (rows d) (trees_from (i + 1) members) && list_all (is_met (rows d)) conditions))
+    (λ d. all_hold paths (rows d) (trees_from i members) && list_all (is_met (rows d)) conditions) docs
+    (λ d. and_assoc (holds paths (rows d) (view member)) (all_hold paths (rows d) (trees_from (i + 1) members)) (list_all (is_met (rows d)) conditions)
+    ∙ ap (λ ts. all_hold paths (rows d) ts && list_all (is_met (rows d)) conditions) (sym (next_trees members i member inside is)))
+    ∙ narrows documents rows of are
+  where
+    and_assoc : (h r l : Bool) → (h && (r && l)) ≡ ((h && r) && l)
+    and_assoc true r l = refl
+    and_assoc false r l = refl
 
-pub narrowed : (index : PostingsView) (paths : List (List ℕ)) (members : List Filter) (i : ℕ) (docs ids : List ℕ) (whole : Trees)
-    → length members ≤ i → Narrows index paths (trees_from i members) docs whole ids → Selects index (λ rows. all_hold paths rows whole) ids docs
-narrowed index paths members i docs ids whole past narrows = λ documents rows of are.
-    sym (filter_all docs) ∙ ap (λ ts. filter (λ d. all_hold paths (rows d) ts) docs) (sym (no_more members i past)) ∙ narrows documents rows of are
+-- a member that is a condition is asked later
+pub kept : (index : PostingsView) (paths : List (List ℕ)) (members : List Filter) (i : ℕ) (member : Filter) (conditions more : List Condition) (condition : Condition)
+    → (docs ids : List ℕ) (whole : Trees) → i < length members → member ≡ get_or members i member
+    → ((rows : RowsView) → holds paths rows (view member) ≡ is_met rows condition) → more ≡ conditions ++ condition ∷ []
+    → Narrows index paths (trees_from i members) conditions docs whole ids → Narrows index paths (trees_from (i + 1) members) more docs whole ids
+kept index paths members i member conditions more condition docs ids whole inside is says pushed narrows = λ documents rows of are.
+    filter_same (λ d. all_hold paths (rows d) (trees_from (i + 1) members) && list_all (is_met (rows d)) more)
+    (λ d. all_hold paths (rows d) (trees_from i members) && list_all (is_met (rows d)) conditions) docs
+    (λ d. ap (λ b. all_hold paths (rows d) (trees_from (i + 1) members) && b)
+    (ap (list_all (is_met (rows d))) pushed ∙ all_pushed (is_met (rows d)) conditions condition
+    ∙ ap (λ b. list_all (is_met (rows d)) conditions && b) (sym (says (rows d))))
+    ∙ by (all_hold paths (rows d) (trees_from (i + 1) members)) (list_all (is_met (rows d)) conditions) (holds paths (rows d) (view member))
+    ∙ ap (λ ts. all_hold paths (rows d) ts && list_all (is_met (rows d)) conditions) (sym (next_trees members i member inside is)))
+    ∙ narrows documents rows of are
+  where
+    by : (r l m : Bool) → (r && (l && m)) ≡ ((m && r) && l)
+    by true true true = refl
+    by true true false = refl
+    by true false true = refl
+    by true false false = refl
+    by false l true = refl
+    by false l false = refl
 
--- what is left adds to the documents that were found as all members do
-abbrev pub Adds : PostingsView → List (List ℕ) → Trees → List ℕ → Trees → List ℕ → Type 0
-Adds index paths left found members ids = (documents : List LeavesView) (rows : ℕ → RowsView) → IsIndexOf index documents → AreRowsOf rows documents
-    → (d : ℕ) → ((one_holds paths (rows d) left && has ids d) || has found d) ≡ (one_holds paths (rows d) members && has ids d)
+pub narrowed : (index : PostingsView) (paths : List (List ℕ)) (members : List Filter) (i : ℕ) (conditions : List Condition) (docs more ids : List ℕ) (whole : Trees)
+    → length members ≤ i → Narrows index paths (trees_from i members) conditions docs whole ids
+    → Selects index (λ rows. list_all (is_met rows) conditions) docs more → Selects index (λ rows. all_hold paths rows whole) ids more
+narrowed index paths members i conditions docs more ids whole past narrows selects = λ documents rows of are.
+    selects documents rows of are
+    ∙ ap (λ ts. filter (λ d. all_hold paths (rows d) ts && list_all (is_met (rows d)) conditions) docs) (sym (no_more members i past)) ∙ narrows documents rows of are
 
-or_false : (b : Bool) → (b || false) ≡ b
-or_false true = refl
-or_false false = refl
+pub narrowed_answer : {E : Type 0} (index : PostingsView) (paths : List (List ℕ)) (members : List Filter) (i : ℕ) (conditions : List Condition) (docs ids : List ℕ) (whole : Trees)
+    → length members ≤ i → Narrows index paths (trees_from i members) conditions docs whole ids → (r : Result SetView E)
+    → IfOk r (λ more. Selects index (λ rows. list_all (is_met rows) conditions) docs more.ids) → IfOk r (λ more. Selects index (λ rows. all_hold paths rows whole) ids more.ids)
+narrowed_answer index paths members i conditions docs ids whole past narrows (Ok more) h = narrowed index paths members i conditions docs more.ids ids whole past narrows h
+narrowed_answer index paths members i conditions docs ids whole past narrows (Err e) h = tt
 
-pub adds_more : AreByMembers → (index : PostingsView) (paths : List (List ℕ)) (members : List Filter) (i : ℕ) (member : Filter) (docs found more ids : List ℕ) (whole : Trees)
+-- what is left, and the conditions that are not asked yet, add to the documents that were found as all members do
+abbrev pub Adds : PostingsView → List (List ℕ) → Trees → List Condition → List ℕ → Trees → List ℕ → Type 0
+Adds index paths left conditions found members ids = (documents : List LeavesView) (rows : ℕ → RowsView) → IsIndexOf index documents → AreRowsOf rows documents
+    → (d : ℕ) → (((one_holds paths (rows d) left || list_any (is_met (rows d)) conditions) && has ids d) || has found d) ≡ (one_holds paths (rows d) members && has ids d)
+
+pub adds_more : AreByMembers → (index : PostingsView) (paths : List (List ℕ)) (members : List Filter) (i : ℕ) (member : Filter) (conditions : List Condition) (docs found more ids : List ℕ) (whole : Trees)
     → i < length members → member ≡ get_or members i member → Selects index (λ rows. holds paths rows (view member)) ids docs → more ≡ union docs found
-    → Adds index paths (trees_from i members) found whole ids → Adds index paths (trees_from (i + 1) members) more whole ids
-adds_more by_members index paths members i member docs found more ids whole inside is selects made adds = λ documents rows of are d.
-    ap (λ b. (one_holds paths (rows d) (trees_from (i + 1) members) && has ids d) || b)
+    → Adds index paths (trees_from i members) conditions found whole ids → Adds index paths (trees_from (i + 1) members) conditions more whole ids
+adds_more by_members index paths members i member conditions docs found more ids whole inside is selects made adds = λ documents rows of are d.
+    ap (λ b. ((one_holds paths (rows d) (trees_from (i + 1) members) || list_any (is_met (rows d)) conditions) && has ids d) || b)
     (ap (λ xs. has xs d) made ∙ by_members.union docs found d
     ∙ ap (λ b. b || has found d) (ap (λ xs. has xs d) (selects documents rows of are) ∙ has_filter (λ e. holds paths (rows e) (view member)) ids d))
-    ∙ one_more (one_holds paths (rows d) (trees_from (i + 1) members)) (holds paths (rows d) (view member)) (has ids d) (has found d)
-    ∙ ap (λ ts. (one_holds paths (rows d) ts && has ids d) || has found d) (sym (next_trees members i member inside is)) ∙ adds documents rows of are d
+    ∙ one_more (one_holds paths (rows d) (trees_from (i + 1) members) || list_any (is_met (rows d)) conditions) (holds paths (rows d) (view member)) (has ids d) (has found d)
+    ∙ ap (λ b. (b && has ids d) || has found d)
+    (or_assoc (holds paths (rows d) (view member)) (one_holds paths (rows d) (trees_from (i + 1) members)) (list_any (is_met (rows d)) conditions))
+    ∙ ap (λ ts. ((one_holds paths (rows d) ts || list_any (is_met (rows d)) conditions) && has ids d) || has found d) (sym (next_trees members i member inside is))
+    ∙ adds documents rows of are d
+  where
+    or_assoc : (m r l : Bool) → (m || (r || l)) ≡ ((m || r) || l)
+    or_assoc true r l = refl
+    or_assoc false r l = refl
 
-pub added : (index : PostingsView) (paths : List (List ℕ)) (members : List Filter) (i : ℕ) (found docs ids : List ℕ) (whole : Trees) → length members ≤ i
-    → Adds index paths (trees_from i members) found whole ids
-    → ((passes : ℕ → Bool) → ((d : ℕ) → has found d ≡ (passes d && has ids d)) → docs ≡ filter passes ids)
-    → Selects index (λ rows. one_holds paths rows whole) ids docs
-added index paths members i found docs ids whole past adds finish = λ documents rows of are.
+pub adds_kept : (index : PostingsView) (paths : List (List ℕ)) (members : List Filter) (i : ℕ) (member : Filter) (conditions more : List Condition) (condition : Condition)
+    → (found ids : List ℕ) (whole : Trees) → i < length members → member ≡ get_or members i member
+    → ((rows : RowsView) → holds paths rows (view member) ≡ is_met rows condition) → more ≡ conditions ++ condition ∷ []
+    → Adds index paths (trees_from i members) conditions found whole ids → Adds index paths (trees_from (i + 1) members) more found whole ids
+adds_kept index paths members i member conditions more condition found ids whole inside is says pushed adds = λ documents rows of are d.
+    ap (λ b. (b && has ids d) || has found d)
+    (ap (λ b. one_holds paths (rows d) (trees_from (i + 1) members) || b)
+    (ap (list_any (is_met (rows d))) pushed ∙ any_pushed (is_met (rows d)) conditions condition
+    ∙ ap (λ b. list_any (is_met (rows d)) conditions || b) (sym (says (rows d))))
+    ∙ by (one_holds paths (rows d) (trees_from (i + 1) members)) (list_any (is_met (rows d)) conditions) (holds paths (rows d) (view member)))
+    ∙ ap (λ ts. ((one_holds paths (rows d) ts || list_any (is_met (rows d)) conditions) && has ids d) || has found d) (sym (next_trees members i member inside is))
+    ∙ adds documents rows of are d
+  where
+    by : (r l m : Bool) → (r || (l || m)) ≡ ((m || r) || l)
+    by true l true = refl
+    by true l false = refl
+    by false true true = refl
+    by false true false = refl
+    by false false true = refl
+    by false false false = refl
+
+pub added : AreByMembers → (index : PostingsView) (paths : List (List ℕ)) (members : List Filter) (i : ℕ) (conditions : List Condition) (docs found more those ids : List ℕ) (whole : Trees)
+    → length members ≤ i → Adds index paths (trees_from i members) conditions found whole ids
+    → Selects index (λ rows. list_any (is_met rows) conditions) ids docs → more ≡ union docs found
+    → ((passes : ℕ → Bool) → ((d : ℕ) → has more d ≡ (passes d && has ids d)) → those ≡ filter passes ids)
+    → Selects index (λ rows. one_holds paths rows whole) ids those
+added by_members index paths members i conditions docs found more those ids whole past adds selects made finish = λ documents rows of are.
     finish (λ d. one_holds paths (rows d) whole) (λ d.
-    ap (λ ts. (one_holds paths (rows d) ts && has ids d) || has found d) (sym (no_more members i past)) ∙ adds documents rows of are d)
+    ap (λ xs. has xs d) made ∙ by_members.union docs found d
+    ∙ ap (λ b. b || has found d) (ap (λ xs. has xs d) (selects documents rows of are) ∙ has_filter (λ e. list_any (is_met (rows e)) conditions) ids d)
+    ∙ ap (λ ts. ((one_holds paths (rows d) ts || list_any (is_met (rows d)) conditions) && has ids d) || has found d) (sym (no_more members i past))
+    ∙ adds documents rows of are d)
+
+pub added_answer : {E : Type 0} → AreByMembers → (index : PostingsView) (paths : List (List ℕ)) (members : List Filter) (i : ℕ) (conditions : List Condition) (docs found more ids : List ℕ) (whole : Trees)
+    → length members ≤ i → Adds index paths (trees_from i members) conditions found whole ids
+    → Selects index (λ rows. list_any (is_met rows) conditions) ids docs → more ≡ union docs found → (r : Result SetView E)
+    → IfOk r (λ those. (passes : ℕ → Bool) → ((d : ℕ) → has more d ≡ (passes d && has ids d)) → those.ids ≡ filter passes ids)
+    → IfOk r (λ those. Selects index (λ rows. one_holds paths rows whole) ids those.ids)
+added_answer by_members index paths members i conditions docs found more ids whole past adds selects made (Ok those) h =
+    added by_members index paths members i conditions docs found more those.ids ids whole past adds selects made h
+added_answer by_members index paths members i conditions docs found more ids whole past adds selects made (Err e) h = tt
 
 -- ---- the levels of a filter
 

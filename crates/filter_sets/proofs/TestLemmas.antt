@@ -1,8 +1,11 @@
 -- What the facet index answers is what tests ask of rows.
-use Rattle.std.proofs.Common.{◌≡◌, ℕ, ℤ, suc, zero, ◌+◌, ◌<◌, ◌≤◌, Bool, true, false, not, ◌&&◌, ◌||◌, ◌==◌, cond, int_lt, List, [], ◌∷◌, ◌++◌, drop, length, get_or, Option, Some, None, Result, Ok, Err, refl, sym, ap, ap₂, subst, ◌∙◌, arith, drop-cons}
+use Rattle.std.proofs.Common.{◌≡◌, ℕ, ℤ, ◌≤◌, Bool, true, false, not, ◌&&◌, ◌||◌, ◌==◌, cond, int_lt, List, [], ◌∷◌, ◌++◌, drop, length, Option, Some, None, Result, Ok, Err, refl, sym, ap, ap₂, subst, ◌∙◌}
 use Rattle.std.specs.List.{filter, list_any, AllByRecursion}
 use Rattle.std.specs.Result.{IfOk}
 use Rattle.std.specs.Str.{bytes_eq}
+use Rattle.std.specs.Ordering.{is_eq}
+use Rattle.std.specs.BTreeSet.{BTreeSet, contains}
+use Rattle.std.proofs.lemmas.Map.Text.{is_eq-slice_cmp}
 use Rattle.std.specs.Int.{w128}
 use Rattle.std.specs.Int.RustNames.{FitsSigned}
 use Rattle.search_base.specs.declared.document.Leaf.{Leaf}
@@ -20,7 +23,7 @@ use Rattle.row_filter.specs.Holds.{is_equal, some_value, some_number, marks_unde
 use Rattle.doc_sets.specs.Sets.{has, union}
 use Rattle.doc_sets.specs.SetView.{SetView}
 use Rattle.doc_sets.specs.Membership.{AreByMembers}
-use Rattle.postings.specs.Dictionary.{PostingsView}
+use Rattle.postings.specs.Dictionary.{PostingsView, word_cmp}
 use Rattle.facet_keys.specs.Keys.{leaf, IsNarrowValue, IsNarrow}
 use Rattle.facet_index.specs.LeavesView.{LeavesView}
 use Rattle.facet_index.specs.Documents.{is_same, is_kind, is_number_that, is_between, has_value, has_mark, has_number_that, passes_at}
@@ -28,13 +31,14 @@ use Rattle.facet_index.specs.Batches.{document_at}
 use Rattle.facet_index.specs.Counted.{counted_of}
 use Rattle.facet_index.specs.Ends.{ends_of}
 use Rattle.facet_index.specs.Places.{leaf_facets, mark_facets, IsNarrowDocument, IsIndexOf}
-use Rattle.facet_index.proofs.TestLemmas.{any_same, any_where, filter_same, has_filter}
+use Rattle.facet_index.proofs.TestLemmas.{any_same, any_where, filter_same}
 use Rattle.facet_index.proofs.KeyLemmas.{and_false, bytes_same, bytes_itself}
 use Rattle.facet_index.proofs.RangeLemmas.{leaves_narrow, first_part}
 use Rattle.facet_index.proofs.SortDocLemmas.{if_passes, passes_is, documents_apart}
 use Rattle.facet_index.specs.LeavesView.{leaves_of}
-use Rattle.filter_sets.specs.Selects.{marks_of, AreRowsOf, Selects, AreBetween}
-use Rattle.filter_sets.proofs.JoinLemmas.{one_more, filter_none}
+use Rattle.filter_sets.specs.Selects.{marks_of, Selects, AreBetween}
+use Rattle.filter_sets.proofs.JoinLemmas.{filter_none}
+use Rattle.filter_sets.proofs.SweepLemmas.{AddsAny, AreFound, still_found, any_selected}
 
 -- ---- documents and rows
 
@@ -196,41 +200,29 @@ none_written (x ∷ xs) = none_written xs
 
 -- ---- one of some texts
 
--- whether a document has a value equal to one of the texts
-abbrev pub equals_any : ℕ → List (List ℕ) → RowsView → Bool
-equals_any path texts rows = list_any (λ text. some_value (is_equal text) (leaves_under path rows.leaves)) texts
+-- whether a document has a value equal to a text
+abbrev pub equals : ℕ → RowsView → List ℕ → Bool
+equals path rows text = some_value (is_equal text) (leaves_under path rows.leaves)
 
--- what is left of the texts adds to the documents that were found as all texts do
-abbrev pub AddsEqual : PostingsView → ℕ → List (List ℕ) → List ℕ → List (List ℕ) → List ℕ → Type 0
-AddsEqual index path left found texts ids = (documents : List LeavesView) (rows : ℕ → RowsView) → IsIndexOf index documents → AreRowsOf rows documents
-    → (d : ℕ) → ((equals_any path left (rows d) && has ids d) || has found d) ≡ (equals_any path texts (rows d) && has ids d)
+-- the documents of the texts that were asked for were found
+abbrev pub IsAskedOf : PostingsView → ℕ → BTreeSet (List ℕ) → List ℕ → List ℕ → Type 0
+IsAskedOf index path asked found ids = (text : List ℕ) → contains word_cmp asked text ≡ true → AreFound index (λ rows. equals path rows text) found ids
 
-pub equal_more : AreByMembers → (index : PostingsView) (path : ℕ) (texts : List (List ℕ)) (i : ℕ) (text docs found more ids : List ℕ) → i < length texts
-    → text ≡ get_or texts i text → Selects index (λ rows. some_value (is_equal text) (leaves_under path rows.leaves)) ids docs → more ≡ union docs found
-    → AddsEqual index path (drop i texts) found texts ids → AddsEqual index path (drop (i + 1) texts) more texts ids
-equal_more by_members index path texts i text docs found more ids inside is selects made adds = λ documents rows of are d.
-    let e : suc i ≡ i + 1 = omega arith in
-    ap (λ b. (equals_any path (drop (i + 1) texts) (rows d) && has ids d) || b)
-    (ap (λ xs. has xs d) made ∙ by_members.union docs found d
-    ∙ ap (λ b. b || has found d) (ap (λ xs. has xs d) (selects documents rows of are)
-    ∙ has_filter (λ e. some_value (is_equal text) (leaves_under path (rows e).leaves)) ids d))
-    ∙ one_more (equals_any path (drop (i + 1) texts) (rows d)) (some_value (is_equal text) (leaves_under path (rows d).leaves)) (has ids d) (has found d)
-    ∙ ap (λ ts. (equals_any path ts (rows d) && has ids d) || has found d)
-    (ap₂ (λ t n. t ∷ drop n texts) is (sym e) ∙ sym (drop-cons texts i text inside)) ∙ adds documents rows of are d
-
-pub equal_added : (index : PostingsView) (path : ℕ) (texts : List (List ℕ)) (i : ℕ) (found docs ids : List ℕ) → length texts ≤ i
-    → AddsEqual index path (drop i texts) found texts ids
-    → ((passes : ℕ → Bool) → ((d : ℕ) → has found d ≡ (passes d && has ids d)) → docs ≡ filter passes ids)
-    → Selects index (equals_any path texts) ids docs
-equal_added index path texts i found docs ids past adds finish = λ documents rows of are.
-    finish (λ d. equals_any path texts (rows d)) (λ d.
-    ap (λ ts. (equals_any path ts (rows d) && has ids d) || has found d) (sym (none texts i past)) ∙ adds documents rows of are d)
+pub asked_more : (index : PostingsView) (path : ℕ) (asked more : BTreeSet (List ℕ)) (text copy found ids : List ℕ) → copy ≡ text
+    → ((q : List ℕ) → contains word_cmp more q ≡ cond (is_eq (word_cmp copy q)) true (contains word_cmp asked q))
+    → AreFound index (λ rows. equals path rows text) found ids → IsAskedOf index path asked found ids → IsAskedOf index path more found ids
+asked_more index path asked more text copy found ids same made there before = λ other is. by other (is_eq (word_cmp copy other)) refl (sym (made other) ∙ is)
   where
-    none : (ts : List (List ℕ)) (n : ℕ) → length ts ≤ n → drop n ts ≡ []
-    none [] zero h = refl
-    none [] (suc n) h = refl
-    none (t ∷ ts) zero h = absurd (omega arith)
-    none (t ∷ ts) (suc n) h = none ts n (omega arith)
+    by : (other : List ℕ) (b : Bool) → b ≡ is_eq (word_cmp copy other) → cond (is_eq (word_cmp copy other)) true (contains word_cmp asked other) ≡ true
+        → AreFound index (λ rows. equals path rows other) found ids
+    by other true s is = subst (λ t. AreFound index (λ rows. equals path rows t) found ids)
+        (sym same ∙ bytes_same copy other (sym (is_eq-slice_cmp copy other) ∙ sym s)) there
+    by other false s is = before other (ap (λ b. cond b true (contains word_cmp asked other)) s ∙ is)
+
+pub still_asked : AreByMembers → (index : PostingsView) (path : ℕ) (asked : BTreeSet (List ℕ)) (docs found more ids : List ℕ) → more ≡ union docs found
+    → IsAskedOf index path asked found ids → IsAskedOf index path asked more ids
+still_asked by_members index path asked docs found more ids made before = λ text is.
+    still_found by_members index (λ rows. equals path rows text) docs found more ids made (before text is)
 
 -- ---- answers of the index
 
@@ -308,12 +300,12 @@ either_answer index path text form n n' ids docs more e is written forms numbers
     (subst (λ (k : ℤ). Selects index (λ rows. some_value (is_same (facet.Number k)) (leaves_under path rows.leaves)) ids more) e numbers) h
 either_answer index path text form n n' ids docs more e is written forms numbers (Err x) h = tt
 
-pub equal_added_answer : {E : Type 0} (index : PostingsView) (path : ℕ) (texts : List (List ℕ)) (i : ℕ) (found ids : List ℕ) → length texts ≤ i
-    → AddsEqual index path (drop i texts) found texts ids → (r : Result SetView E)
+pub equal_selected_answer : {E : Type 0} (index : PostingsView) (path : ℕ) (texts : List (List ℕ)) (i : ℕ) (found ids : List ℕ) → length texts ≤ i
+    → AddsAny index (equals path) (drop i texts) found texts ids → (r : Result SetView E)
     → IfOk r (λ docs. (passes : ℕ → Bool) → ((d : ℕ) → has found d ≡ (passes d && has ids d)) → docs.ids ≡ filter passes ids)
-    → IfOk r (λ docs. Selects index (equals_any path texts) ids docs.ids)
-equal_added_answer index path texts i found ids past adds (Ok docs) h = equal_added index path texts i found docs.ids ids past adds h
-equal_added_answer index path texts i found ids past adds (Err e) h = tt
+    → IfOk r (λ docs. Selects index (λ rows. list_any (equals path rows) texts) ids docs.ids)
+equal_selected_answer index path texts i found ids past adds (Ok docs) h = any_selected index (equals path) texts i found docs.ids ids past adds h
+equal_selected_answer index path texts i found ids past adds (Err e) h = tt
 
 -- a path that is not there is met by none
 pub none_at : (index : PostingsView) (ids docs : List ℕ) → docs ≡ [] → Selects index (λ rows. false) ids docs

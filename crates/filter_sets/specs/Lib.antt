@@ -1,2 +1,3 @@
 -- Sets of documents that pass a filter.
 pub mod Selects
+pub mod Conditions

@@ -3,7 +3,6 @@ use Rattle.std.specs.Prelude.{◌≡◌, ℕ, ℤ, Bool, List, [], Option, Some,
 use Rattle.std.specs.List.{filter}
 use Rattle.std.specs.Int.{w128}
 use Rattle.std.specs.Int.RustNames.{FitsSigned}
-use Rattle.search_base.specs.declared.document.Leaf.{Leaf}
 use Rattle.search_base.specs.declared.document.Mark.{Mark}
 use Rattle.search_base.specs.RowsView.{RowsView}
 use Rattle.postings.specs.Dictionary.{PostingsView}

@@ -1,16 +1,16 @@
-ghost use Rattle.std.specs.Prelude.{◌≡◌, ◌≤◌, ◌<◌, length, map, IfOk, IfSome};
-ghost use Rattle.std.specs.Option.{option_map};
+ghost use Rattle.std.specs.Prelude.{◌≤◌, length, map, IfOk};
 ghost use Rattle.filter_tree.specs.Tree.{trees_of};
 ghost use Rattle.filter_tree.specs.View.{view};
-ghost use Rattle.row_filter.specs.Holds.{holds, all_hold, one_holds, number_named as number_named_in};
+ghost use Rattle.row_filter.specs.Holds.{holds, all_hold, one_holds};
 ghost use Rattle.filter_sets.specs.Selects.{Selects};
 
+use crate::conditions::{condition_of, each_met, one_met, path_named};
 use crate::join::{except, finish};
 use crate::test::select_test;
 use doc_sets::{DocSet, DocSetBuilder, operations_are_on_members};
 use facet_index::FacetIndex;
 use filter_tree::Filter;
-use search_base::{NoMemory, PathId, Word};
+use search_base::{NoMemory, Word};
 use std::alloc::Global;
 
 /// The documents of a set that pass a filter, in an index with this registry of paths. A negation is the complement
@@ -54,11 +54,16 @@ fn select_each(
         Selects index.now (λ rows. all_hold paths.now rows (trees_of (map view members.now))) all.now.ids docs.ids) }
 {
     let mut docs = all.clone()?;
+    let mut conditions = Vec::new(alloc);
     for member in members {
+        if let Some(condition) = condition_of(member, paths) {
+            conditions.push(condition)?;
+            continue;
+        }
         let fewer = select(alloc, index, member, paths, &docs)?;
         docs = fewer;
     }
-    Ok(docs)
+    each_met(alloc, index, conditions, &docs)
 }
 
 // The documents of a set that pass one of some filters.
@@ -76,27 +81,16 @@ fn select_any(
 {
     operations_are_on_members();
     let mut found = DocSetBuilder::new(alloc, 0)?;
+    let mut conditions = Vec::new(alloc);
     for member in members {
+        if let Some(condition) = condition_of(member, paths) {
+            conditions.push(condition)?;
+            continue;
+        }
         let docs = select(alloc, index, member, paths, all)?;
         found.add(&docs)?;
     }
+    let meeting = one_met(alloc, index, conditions, all)?;
+    found.add(&meeting)?;
     finish(alloc, found, all)
-}
-
-// The path of this name in a registry, where it has one.
-fn path_named(paths: &[Word], name: &Word) -> Option<PathId>
-    requires { length paths.now ≤ 1000 }
-    ensures { option_map (λ path. path.0) result ≡ number_named_in paths.now name.now }
-{
-    match number_named(paths, name) {
-        Some(number) => Some(PathId(number as u16)),
-        None => None,
-    }
-}
-
-fn number_named(paths: &[Word], name: &Word) -> Option<usize>
-    ensures number { result ≡ number_named_in paths.now name.now }
-    ensures within { IfSome result (λ number. number < length paths.now) }
-{
-    paths.iter().position(|path| path.as_str() == name.as_str())
 }

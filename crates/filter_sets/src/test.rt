@@ -13,6 +13,7 @@ use facet_index::FacetIndex;
 use filter_tree::{Test, whole_number};
 use search_base::{FacetValue, MarkKind, NoMemory, PathId, Word};
 use std::alloc::Global;
+use std::collections::BTreeSet;
 use token_words::normal;
 
 /// The documents of a set that meet a test at a path; a path that is not there is met by none.
@@ -32,8 +33,8 @@ pub(crate) fn select_test(
     }
 }
 
-// The documents of a set whose values under a path meet a test.
-fn select_at(
+/// The documents of a set whose values under a path meet a test.
+pub(crate) fn select_at(
     alloc: Global,
     index: &FacetIndex,
     path: PathId,
@@ -214,9 +215,14 @@ fn one_of(
 {
     operations_are_on_members();
     let mut found = DocSetBuilder::new(alloc, 0)?;
+    let mut asked = BTreeSet::new(alloc);
     for text in texts {
+        if asked.contains(text) {
+            continue;
+        }
         let docs = equal(alloc, index, path, text, all)?;
         found.add(&docs)?;
+        asked.insert(text.clone()?)?;
     }
     finish(alloc, found, all)
 }
