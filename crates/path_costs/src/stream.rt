@@ -10,6 +10,7 @@ use crate::fill::fill;
 use crate::found::{Found, NO_COST, filled_at, nothing_found};
 use crate::links::{Links, links_of};
 use crate::resolve::Resolve;
+use crate::usable::usable_graph;
 use condition_graph::ConditionGraph;
 use doc_sets::DocSet;
 use search_base::NoMemory;
@@ -87,7 +88,8 @@ fn advance<R: Resolve>(
 }
 
 impl<R: Resolve + Drop> PathCosts<R> {
-    /// The costs of the universe's documents. No condition is asked for yet.
+    /// The costs of the universe's documents. The conditions on a number are asked for at once, those of the same words
+    /// or term in one go where their edges stand in a row; the others when a cost needs them.
     pub fn new(
         alloc: Global,
         graph: ConditionGraph,
@@ -95,14 +97,15 @@ impl<R: Resolve + Drop> PathCosts<R> {
         universe: DocSet,
     ) -> Result<PathCosts<R>, NoMemory>
         requires { IsConditionGraph graph }
-        ensures cost { IfOk result (λ costs. cost_in R.meets costs ≡ cost_of (R.meets source) graph) }
+        ensures cost { IfOk result (λ costs. (d : ℕ) → has universe.ids d ≡ true
+            → cost_in R.meets costs d ≡ cost_of (R.meets source) graph d) }
         ensures remaining { IfOk result (λ costs. costs.remaining ≡ universe.ids) }
         ensures failed { IfOk result (λ costs. costs.failed ≡ false) }
     {
-        let links = links_of(alloc, graph)?;
+        let (usable, met) = usable_graph(alloc, &source, &universe, graph)?;
+        let links = links_of(alloc, usable)?;
         let nodes = links.out.as_slice().len();
-        let edges = links.edges.as_slice().len();
-        let found = nothing_found(alloc, nodes, edges)?;
+        let found = nothing_found(alloc, nodes, met)?;
         Ok(PathCosts {
             links,
             source,
