@@ -15,6 +15,7 @@ use Rattle.doc_sets.specs.SetView.{SetView}
 use Rattle.doc_sets.proofs.SetLemmas.{has-filter}
 use Rattle.path_costs.specs.Costs.{is_cost, IsBucket}
 use Rattle.path_costs.proofs.ListLemmas.{slice_get-some, slice_get-push}
+use Rattle.path_costs.proofs.SetLemmas.{filter-agree}
 use Rattle.rule_buckets.specs.Entries.{is_match}
 use Rattle.rule_buckets.specs.Rules.{AreLevels, IsCount}
 use Rattle.rule_buckets.proofs.Members.{alike, some-member, any-at, any-where, any-more}
@@ -116,6 +117,15 @@ pub record AreFirst (rows : ℕ → RowsView) (lvs : List LevelView) (universe :
   pub each : (k : ℕ) (set : SetView) (view : LevelView) → slice_get levels k ≡ Some set → slice_get lvs k ≡ Some view → (d : ℕ)
       → has set.ids d ≡ (has universe d && (not (list_any (level_matches (rows d).places) (take k lvs)) && level_matches (rows d).places view))
   pub rest : (d : ℕ) → has others d ≡ (has universe d && not (list_any (level_matches (rows d).places) (take at lvs)))
+
+-- where costs agree on the documents that remain, they have the same bucket
+pub bucket-agree : (p q : ℕ → Option ℕ) (old new : List ℕ) (least : ℕ) (docs : List ℕ) → ((d : ℕ) → has old d ≡ true → p d ≡ q d) → IsBucket p old new least docs → IsBucket q old new least docs
+bucket-agree p q old new least docs same is = record {
+  some = is.some;
+  docs_are = is.docs_are ∙ filter-agree (λ d. is_cost least (p d)) (λ d. is_cost least (q d)) old (λ d h. ap (is_cost least) (same d h));
+  rest_are = is.rest_are ∙ filter-agree (λ d. not (is_cost least (p d))) (λ d. not (is_cost least (q d))) old (λ d h. ap (λ o. not (is_cost least o)) (same d h));
+  is_least = λ d c h e. is.is_least d c h (same d h ∙ e);
+}
 
 -- the documents that a level of the query matches, where a bucket of the costs of words has them
 pub matched : (rows : ℕ → RowsView) (cost : ℕ → Option ℕ) (old universe new docs : List ℕ) (c : ℕ) (view : LevelView) → old ≡ universe

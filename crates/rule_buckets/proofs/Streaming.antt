@@ -1,5 +1,5 @@
 -- The streams of a query's levels, and what is taken from them.
-use Rattle.std.proofs.Common.{◌≡◌, ℕ, zero, suc, map, min, nat_lt, flat_map, ◌+◌, ◌<◌, ◌≤◌, ◌==◌, Bool, true, false, not, ◌&&◌, ◌||◌, cond, List, [], ◌∷◌, length, refl, sym, ap, ap₂, subst, ◌∙◌, ◌++◌, arith, Option, Some, None, is_some, IfSome, unwrap_or}
+use Rattle.std.proofs.Common.{◌≡◌, ℕ, zero, suc, map, min, nat_lt, flat_map, ◌<◌, ◌≤◌, ◌==◌, Bool, true, false, not, ◌&&◌, ◌||◌, cond, List, [], ◌∷◌, length, refl, sym, ap, ap₂, subst, ◌∙◌, ◌++◌, arith, Option, Some, None, is_some, IfSome, unwrap_or}
 use Rattle.std.specs.List.{list_any, slice_get, AllByRecursion}
 use Rattle.std.specs.Option.{option_and_then, option_map}
 use Rattle.search_base.specs.declared.cost_key.CostKey.{CostKey}

@@ -1,5 +1,5 @@
 -- The entry of a document under a rule, whether the query matches it or not.
-use Rattle.std.specs.Prelude.{ℕ, Bool, if◌then◌else◌, ◌==◌, true, false, List, [], ◌∷◌, length, map, slice_get, Option, Some, None, unwrap_or, is_some}
+use Rattle.std.specs.Prelude.{ℕ, Bool, ◌==◌, true, false, List, length, slice_get, Option, Some, None, unwrap_or, is_some}
 use Rattle.search_base.specs.declared.cost_key.CostKey.{CostKey}
 use Rattle.search_base.specs.declared.cost_key.CostKey.TheVariants.{Number, Up, Down}
 use Rattle.search_base.specs.declared.cost_key.SortKey.{SortKey}
@@ -8,7 +8,7 @@ use Rattle.search_base.specs.declared.document.Leaf.{Leaf}
 use Rattle.search_base.specs.declared.document.Place.{Place}
 use Rattle.search_base.specs.declared.rule.Rule.{Rule}
 use Rattle.search_base.specs.declared.rule.Rule.TheVariants.{Words}
-use Rattle.search_base.specs.GraphView.{GraphView, LevelView}
+use Rattle.search_base.specs.GraphView.{GraphView}
 use Rattle.search_base.specs.RowsView.{RowsView}
 use Rattle.search_base.specs.SortKeys.{leaves_under, least_key, greatest_key}
 use Rattle.search_base.specs.Tuple.{cost_of, entry}

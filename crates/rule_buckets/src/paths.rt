@@ -62,7 +62,7 @@ impl<'a, S: RuleSource> Model for PathBuckets<'a, S> {
     ghost invariant = { λ p. AllByRecursion (IsStream S.rows p.query) p.streams.items };
 }
 
-// A level's documents by their costs. No cost is asked for yet.
+// A level's documents by their costs. No cost is asked for yet, but the conditions on numbers are.
 fn level_costs<'a, S: RuleSource>(
     alloc: Global,
     query: &RuleQuery<'a, S>,

@@ -1,11 +1,13 @@
-ghost use Rattle.std.specs.Prelude.{◌≡◌, ◌==◌, ◌<◌, ℕ, Bool, List, filter, reverse, IfOk, IfSome, IfNone};
+ghost use Rattle.std.specs.Prelude.{◌≡◌, ◌==◌, ◌<◌, ℕ, Bool, true, List, filter, reverse, IfOk, IfSome, IfNone, is_some};
 ghost use Rattle.std.specs.List.{AllByRecursion};
 ghost use Rattle.std.specs.Option.{option_copied};
 ghost use Rattle.search_base.specs.RowsView.{RowsView};
 ghost use Rattle.search_base.specs.Whole.{whole_cost};
 ghost use Rattle.search_base.specs.declared.cost_key.CostKey.{CostKey as Key};
 ghost use Rattle.condition_graph.specs.Meets.{meets, IsRanked};
+ghost use Rattle.condition_graph.specs.Numbers.{number_of};
 ghost use Rattle.condition_graph.specs.Promise.{IsCondition};
+ghost use Rattle.path_costs.specs.Sets.{AreByNumber};
 ghost use Rattle.sort_rule.specs.Rows.{AreRows, is_under, IsNextFor, HasNoneAfter};
 ghost use Rattle.sort_rule.specs.Ordered.{AreOrdered};
 ghost use Rattle.rule_buckets.specs.Entries.{sort_entry, missing_entry};
@@ -39,6 +41,20 @@ pub trait RuleSource {
         requires { IsCondition condition.now }
         ensures { IfOk result (λ set.
             set.ids ≡ filter (λ d. meets (rows self.now d).places condition.now) universe.now.ids) };
+
+    /// The same of a condition on a number, for all its numbers at once: rows with a number and the documents that meet
+    /// the condition on it. Of a number that is in no row there are none, and of two rows with one number the first
+    /// counts.
+    fn meeting_by_number(
+        &self,
+        alloc: Global,
+        condition: &Condition,
+        universe: &DocSet,
+    ) -> Result<Vec<(u16, DocSet)>, NoMemory>
+        requires condition { IsCondition condition.now }
+        requires number { is_some (number_of condition.now) ≡ true }
+        ensures { IfOk result (λ sets. AreByNumber (λ asked d. meets (rows self.now d).places asked)
+            condition.now universe.now.ids sets.items) };
 
     /// The documents of the universe that have a path whose words are exactly these (cost 0), or have none such and
     /// one that begins so (cost 1).
@@ -120,5 +136,14 @@ impl<'a, S: RuleSource> Resolve for Asked<'a, S> {
         universe: &DocSet,
     ) -> Result<DocSet, NoMemory> {
         self.source.meeting(alloc, condition, universe)
+    }
+
+    fn docs_by_number(
+        &self,
+        alloc: Global,
+        condition: &Condition,
+        universe: &DocSet,
+    ) -> Result<Vec<(u16, DocSet)>, NoMemory> {
+        self.source.meeting_by_number(alloc, condition, universe)
     }
 }

@@ -1,4 +1,4 @@
-use Rattle.std.proofs.Common.{◌≡◌, ◌<◌, ℕ, Option, true, length, sym, ap, subst, ◌∙◌}
+use Rattle.std.proofs.Common.{◌≡◌, ◌<◌, true, length, sym, ap, subst, ◌∙◌}
 use Rattle.search_base.specs.declared.cost_key.CostKey.TheVariants.{Number}
 use Rattle.search_base.specs.Tuple.{cost_of}
 use Rattle.doc_sets.specs.Sets.{has}
@@ -22,6 +22,6 @@ returns-clause-stream g c =
           (c.ranks.ensures d)
           (subst (λ (v : QueryView g.row.S.Denot). is_cost c.args.level (cost_of (rows v.source d).places v.graph.levels) ≡ true) (sym is)
           (c.requires.docs d (ap (λ l. has l d) (sym c.in_ok-costs.ensures.remaining) ∙ h)))
-          in (w.0, ap (λ (f : ℕ → Option ℕ). f d) c.in_ok-costs.ensures.cost ∙ w.1, subst (λ v. entry_in rows v d ≡ Number w.0) is w.2);
+          in (w.0, c.in_ok-costs.ensures.cost d (ap (λ l. has l d) (sym c.in_ok-costs.ensures.remaining) ∙ h) ∙ w.1, subst (λ v. entry_in rows v d ≡ Number w.0) is w.2);
       next = tt;
     }

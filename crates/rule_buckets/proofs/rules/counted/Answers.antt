@@ -1,4 +1,4 @@
-use Rattle.std.proofs.Common.{true, false, sym, ap, ◌∙◌}
+use Rattle.std.proofs.Common.{sym, ap, ◌∙◌}
 use Rattle.rule_buckets.specs.Entries.{QueryView}
 use Rattle.rule_buckets.specs.Rules.{is_listed}
 use Rattle.rule_buckets.proofs.Within.{listed-entries, why-listed, path-rule, path-count}
