@@ -1,6 +1,7 @@
 -- The documents that meet a condition, by what posting lists say of them.
-use Rattle.std.proofs.Common.{◌≡◌, ℕ, zero, suc, ◌+◌, ◌<◌, Bool, true, List, [], ◌∷◌, map, length, slice_get, Option, Some, refl, sym, ap, ◌∙◌, arith}
-use Rattle.std.specs.List.{filter, range_with_len}
+use Rattle.std.proofs.Common.{◌≡◌, ℕ, zero, suc, ◌+◌, ◌<◌, ◌==◌, Bool, true, false, List, [], ◌∷◌, map, length, take, slice_get, cond, Option, Some, refl, sym, ap, ◌∙◌, arith}
+use Rattle.std.specs.List.{filter, range_with_len, enumerate_from}
+use Rattle.std.proofs.lemmas.List.{take_all}
 use Rattle.search_base.specs.Bucket.{bucket_of}
 use Rattle.search_base.specs.PairCost.{asked_cost}
 use Rattle.search_base.specs.TermView.{TermView}
@@ -12,7 +13,7 @@ use Rattle.posting_sets.specs.Blocks.{AreOfBlocks}
 use Rattle.posting_sets.specs.Numbers.{rank_at, set_at, AreNumbered}
 use Rattle.near_words.specs.ByCost.{ids_at, ids_by_cost}
 use Rattle.condition_graph.specs.declared.condition.Condition.TheVariants.{Free, Pair, AtRank, AtBucket}
-use Rattle.list_conditions.specs.Meeting.{AreMeeting}
+use Rattle.list_conditions.specs.Meeting.{AreMeeting, AreMeetingByNumber}
 
 all_pass : (ids : List ℕ) → ids ≡ filter (λ id. true) ids
 all_pass [] = refl
@@ -64,3 +65,45 @@ pub bucket_is : AreOfBlocks → (view : PostingsView) (ranks : List (Option ℕ)
     → AreNumbered view term (λ place. Some (bucket_of place.position)) universe rows → ids ≡ set_at at rows → AreMeeting view ranks (AtBucket term at) universe ids
 bucket_is law view ranks term at universe ids rows are is documents fresh have =
     is ∙ are.each documents fresh at ∙ law.bucket documents term universe at
+
+-- ---- the sets of all numbers
+slice_get-some : (sets : List SetView) (k : ℕ) → k < length sets → (set : SetView) × (slice_get sets k ≡ Some set)
+slice_get-some [] k low = absurd (omega arith)
+slice_get-some (s ∷ ss) zero low = (s, refl)
+slice_get-some (s ∷ ss) (suc k) low = slice_get-some ss k (omega arith)
+
+set_at-listed : (sets : List SetView) (a k : ℕ) (set : SetView) → slice_get sets k ≡ Some set → set_at (a + k) (enumerate_from a sets) ≡ set.ids
+set_at-listed [] a k set e = absurd (cc)
+set_at-listed (s ∷ ss) a zero set e =
+    let here : (a == a + zero) ≡ true = grind arith in
+    let same : s ≡ set = cc in
+    ap (λ b. cond b s.ids (set_at (a + zero) (enumerate_from (a + 1) ss))) here ∙ ap (λ (v : SetView). v.ids) same
+set_at-listed (s ∷ ss) a (suc k) set e =
+    let other : (a == a + suc k) ≡ false = grind arith in
+    let next : a + suc k ≡ a + 1 + k = omega arith in
+    ap (λ b. cond b s.ids (set_at (a + suc k) (enumerate_from (a + 1) ss))) other
+    ∙ ap (λ n. set_at n (enumerate_from (a + 1) ss)) next ∙ set_at-listed ss (a + 1) k set e
+
+map-length : (sets : List SetView) → length (map (λ (s : SetView). s.ids) sets) ≡ length sets
+map-length [] = refl
+map-length (s ∷ ss) = ap suc (map-length ss)
+
+pub pairs_are : (view : PostingsView) (ranks : List (Option ℕ)) (left right : List ℕ) (prefix : Bool) (cost : ℕ) (universe : List ℕ) (sets : List SetView) (rows : List (ℕ × SetView))
+    → ((documents : List Document) → StandsFor view documents → map (λ (s : SetView). s.ids) sets ≡ ids_by_cost (λ id. asked_cost (places_of id documents) left prefix right) universe)
+    → rows ≡ enumerate_from 0 (take 7 sets) → AreMeetingByNumber view ranks (Pair left right prefix cost) universe rows
+pairs_are view ranks left right prefix cost universe sets rows all is n low documents fresh have =
+    let told = all documents fresh in
+    let seven : length sets ≡ 7 = sym (map-length sets) ∙ ap length told in
+    let here = slice_get-some sets n (omega arith) in
+    let plain : n ≡ 0 + n = omega arith in
+    ap (set_at n) is ∙ ap (λ l. set_at n (enumerate_from 0 l)) (take_all 7 sets (omega arith))
+    ∙ ap (λ k. set_at k (enumerate_from 0 sets)) plain ∙ set_at-listed sets 0 n here.0 here.1
+    ∙ nth_is (λ id. asked_cost (places_of id documents) left prefix right) universe sets here.0 n low told here.1
+
+pub ranks_are : AreOfBlocks → (view : PostingsView) (ranks : List (Option ℕ)) (term : TermView) (rank : ℕ) (universe : List ℕ) (rows : List (ℕ × SetView))
+    → AreNumbered view term (λ place. rank_at ranks place.path.0) universe rows → AreMeetingByNumber view ranks (AtRank term rank) universe rows
+ranks_are law view ranks term rank universe rows are n is = rank_is law view ranks term n universe (set_at n rows) rows are refl
+
+pub buckets_are : AreOfBlocks → (view : PostingsView) (ranks : List (Option ℕ)) (term : TermView) (at : ℕ) (universe : List ℕ) (rows : List (ℕ × SetView))
+    → AreNumbered view term (λ place. Some (bucket_of place.position)) universe rows → AreMeetingByNumber view ranks (AtBucket term at) universe rows
+buckets_are law view ranks term at universe rows are n is = bucket_is law view ranks term n universe (set_at n rows) rows are refl

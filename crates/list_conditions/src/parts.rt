@@ -1,4 +1,5 @@
-ghost use Rattle.std.specs.Prelude.{◌≡◌, ◌<◌, length, slice_get, Some, IfOk};
+ghost use Rattle.std.specs.Prelude.{◌≡◌, ◌<◌, length, slice_get, take, Some, IfOk};
+ghost use Rattle.std.specs.List.{enumerate_from};
 ghost use Rattle.posting_sets.specs.Numbers.{set_at};
 
 use doc_sets::DocSet;
@@ -34,4 +35,22 @@ pub(crate) fn nth(alloc: Global, sets: Vec<DocSet>, index: usize) -> DocSet
         return sets.swap_remove(index);
     }
     DocSet::new(alloc)
+}
+
+// One more than the greatest pair cost by which documents are told.
+const PAIR_COSTS: usize = 7;
+
+// The sets of pair costs, each with its cost.
+pub(crate) fn numbered(alloc: Global, sets: Vec<DocSet>) -> Result<Vec<(u16, DocSet)>, NoMemory>
+    ensures { IfOk result (λ rows. rows.items ≡ enumerate_from 0 (take 7 sets.items)) }
+{
+    let mut sets = sets;
+    sets.truncate(PAIR_COSTS);
+    let mut rows = Vec::with_capacity(alloc, sets.len())?;
+    let mut cost: u16 = 0;
+    for set in sets {
+        rows.push((cost, set))?;
+        cost += 1;
+    }
+    Ok(rows)
 }
