@@ -1,31 +1,5 @@
+use crate::member::SearchMember;
 use search_base::Word;
-
-/// The members of a search. A wrong shape of each is a refusal.
-#[derive(Clone, Copy, Debug, PartialEq, Eq)]
-pub enum SearchMember {
-    /// `q`
-    Query,
-    /// `offset`
-    Offset,
-    /// `limit`
-    Limit,
-    /// `page`
-    Page,
-    /// `hitsPerPage`
-    HitsPerPage,
-    /// `filter`
-    Filter,
-    /// `facets`
-    Facets,
-    /// `sort`
-    Sort,
-    /// `attributesToRetrieve`
-    AttributesToRetrieve,
-    /// `matchingStrategy`
-    MatchingStrategy,
-    /// `showCosts`
-    ShowCosts,
-}
 
 /// Why a request is refused, by its first fault.
 #[derive(Debug, Drop)]
