@@ -5,8 +5,7 @@ use Rattle.serde_json.specs.Written.{compact_text}
 use Rattle.http_wire.specs.Reply.{Answer}
 use Rattle.request_refusals.specs.declared.refusal.Refusal.{Refusal}
 use Rattle.request_refusals.specs.declared.refusal.Refusal.TheVariants.{NoRoute, MethodNotAllowed, InvalidUid, Unknown, NotBuilt, InvalidSearch, NotJson, NotList, NotObject, NumberNotWhole, BadListedId, MissingUid, BadSettings, BadRankingRule, NoIndex, IndexExists, NoDocument, KeyDiffers, NoCandidate, SeveralCandidates, MissingId, BadId, ChangesSpent, IndexesSpent, IdsSpent, PathsSpent, FilterSyntax, FilterTooDeep, FilterNotANumber, NoSortRule, NotSortable, NotFilterable, NotFacet}
-use Rattle.request_refusals.specs.declared.refusal.SearchMember.{SearchMember}
-use Rattle.request_refusals.specs.declared.refusal.SearchMember.TheVariants.{Query, Offset, Limit, Page, HitsPerPage, Filter, Facets, Sort, AttributesToRetrieve, MatchingStrategy, ShowCosts}
+use Rattle.request_refusals.specs.Members.{row_of}
 
 pub record Told : Type 0 where
   pub status : ℕ
@@ -16,29 +15,13 @@ pub record Told : Type 0 where
 abbrev pub told : ℕ → List ℕ → List ℕ → Told
 told status code message = record { status = status; code = code; message = message }
 
--- the code of a member's refusal, and the message, which has the member's name
-abbrev pub told_of_member : SearchMember → Told
-told_of_member Query = told 400 (codes "invalid_search_q") (codes "Invalid `q`.")
-told_of_member Offset = told 400 (codes "invalid_search_offset") (codes "Invalid `offset`.")
-told_of_member Limit = told 400 (codes "invalid_search_limit") (codes "Invalid `limit`.")
-told_of_member Page = told 400 (codes "invalid_search_page") (codes "Invalid `page`.")
-told_of_member HitsPerPage = told 400 (codes "invalid_search_hits_per_page") (codes "Invalid `hitsPerPage`.")
-told_of_member Filter = told 400 (codes "invalid_search_filter") (codes "Invalid `filter`.")
-told_of_member Facets = told 400 (codes "invalid_search_facets") (codes "Invalid `facets`.")
-told_of_member Sort = told 400 (codes "invalid_search_sort") (codes "Invalid `sort`.")
-told_of_member AttributesToRetrieve =
-    told 400 (codes "invalid_search_attributes_to_retrieve") (codes "Invalid `attributesToRetrieve`.")
-told_of_member MatchingStrategy =
-    told 400 (codes "invalid_search_matching_strategy") (codes "Invalid `matchingStrategy`.")
-told_of_member ShowCosts = told 400 (codes "invalid_search_show_costs") (codes "Invalid `showCosts`.")
-
 abbrev pub told_of : Refusal → Told
 told_of NoRoute = told 404 (codes "not_found") (codes "No such route.")
 told_of MethodNotAllowed = told 405 (codes "method_not_allowed") (codes "Method not allowed.")
 told_of InvalidUid = told 400 (codes "invalid_index_uid") (codes "Invalid index uid.")
 told_of (Unknown name) = told 400 (codes "bad_request") (codes "Unknown or malformed `" ++ name ++ codes "`.")
 told_of (NotBuilt name) = told 501 (codes "not_built") (codes "Not built: `" ++ name ++ codes "`.")
-told_of (InvalidSearch m) = told_of_member m
+told_of (InvalidSearch m) = told 400 (row_of m).code (codes "Invalid `" ++ (row_of m).name ++ codes "`.")
 told_of (FilterSyntax text place) =
     told 400 (codes "invalid_search_filter")
     (codes "Filter text " ++ (decimal text ++ (codes ": unexpected at byte " ++ (decimal place ++ codes "."))))

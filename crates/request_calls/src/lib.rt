@@ -11,11 +11,11 @@
 
 mod body;
 mod call;
-mod draft;
 mod members;
 mod reply;
 mod search;
 mod settings;
+mod values;
 
 pub use call::{Call, ReadCall, read_call};
 pub use reply::refusal_reply;

@@ -1,8 +1,8 @@
 ghost use Rattle.std.specs.Prelude.{◌≡◌, IfOk, string_bytes};
-ghost use Rattle.request_refusals.specs.declared.refusal.Refusal.TheVariants.{FilterSyntax, FilterTooDeep, FilterNotANumber, NotSortable, NotFilterable};
+ghost use Rattle.request_refusals.specs.declared.refusal.Refusal.TheVariants.{InvalidSearch, FilterSyntax, FilterTooDeep, FilterNotANumber, NotSortable, NotFilterable};
 ghost use Rattle.serde_json.specs.View.{view};
 ghost use Rattle.http_wire.specs.Sent.{IsSentAs};
-ghost use Rattle.request_calls.specs.Refusals.{told_of, told_of_member, refused, refusal_data};
+ghost use Rattle.request_calls.specs.Refusals.{told_of, refused, refusal_data};
 
 use http::StatusCode;
 use http_wire::{Reply, make_reply};
@@ -34,7 +34,7 @@ fn code_of(refusal: &Refusal) -> &'static str
         Refusal::InvalidUid => "invalid_index_uid",
         Refusal::Unknown { .. } => "bad_request",
         Refusal::NotBuilt { .. } => "not_built",
-        Refusal::InvalidSearch { member } => member_code(*member),
+        Refusal::InvalidSearch { member } => member.row().code,
         Refusal::FilterSyntax { .. }
         | Refusal::FilterTooDeep { .. }
         | Refusal::FilterNotANumber { .. }
@@ -61,40 +61,10 @@ fn code_of(refusal: &Refusal) -> &'static str
     }
 }
 
-fn member_code(member: SearchMember) -> &'static str
-    ensures { result.now ≡ (told_of_member member).code }
+fn member_message(alloc: Global, member: SearchMember) -> Result<String, AllocError>
+    ensures { IfOk result (λ message. string_bytes message ≡ (told_of (InvalidSearch member)).message) }
 {
-    match member {
-        SearchMember::Query => "invalid_search_q",
-        SearchMember::Offset => "invalid_search_offset",
-        SearchMember::Limit => "invalid_search_limit",
-        SearchMember::Page => "invalid_search_page",
-        SearchMember::HitsPerPage => "invalid_search_hits_per_page",
-        SearchMember::Filter => "invalid_search_filter",
-        SearchMember::Facets => "invalid_search_facets",
-        SearchMember::Sort => "invalid_search_sort",
-        SearchMember::AttributesToRetrieve => "invalid_search_attributes_to_retrieve",
-        SearchMember::MatchingStrategy => "invalid_search_matching_strategy",
-        SearchMember::ShowCosts => "invalid_search_show_costs",
-    }
-}
-
-fn member_message(member: SearchMember) -> &'static str
-    ensures { result.now ≡ (told_of_member member).message }
-{
-    match member {
-        SearchMember::Query => "Invalid `q`.",
-        SearchMember::Offset => "Invalid `offset`.",
-        SearchMember::Limit => "Invalid `limit`.",
-        SearchMember::Page => "Invalid `page`.",
-        SearchMember::HitsPerPage => "Invalid `hitsPerPage`.",
-        SearchMember::Filter => "Invalid `filter`.",
-        SearchMember::Facets => "Invalid `facets`.",
-        SearchMember::Sort => "Invalid `sort`.",
-        SearchMember::AttributesToRetrieve => "Invalid `attributesToRetrieve`.",
-        SearchMember::MatchingStrategy => "Invalid `matchingStrategy`.",
-        SearchMember::ShowCosts => "Invalid `showCosts`.",
-    }
+    format!(in alloc; "Invalid `{name}`.", name = member.row().name)
 }
 
 fn syntax_message(alloc: Global, text: u32, place: u32) -> Result<String, AllocError>
@@ -142,7 +112,7 @@ fn message_of(alloc: Global, refusal: &Refusal) -> Result<String, AllocError>
             "Not built: `{name}`.",
             name = name.as_str()
         ),
-        Refusal::InvalidSearch { member } => String::from_str(alloc, member_message(*member)),
+        Refusal::InvalidSearch { member } => member_message(alloc, *member),
         Refusal::FilterSyntax { text, place } => syntax_message(alloc, *text, *place),
         Refusal::FilterTooDeep { text, place } => depth_message(alloc, *text, *place),
         Refusal::FilterNotANumber { value } => number_message(alloc, value.as_str()),

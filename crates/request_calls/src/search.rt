@@ -1,19 +1,22 @@
-ghost use Rattle.std.specs.Prelude.{◌≡◌, IfOk, map};
+ghost use Rattle.std.specs.Prelude.{◌≡◌, IfOk, map, unwrap_or};
+ghost use Rattle.serde_json.specs.Data.{string, put as put_member};
 ghost use Rattle.serde_json.specs.View.{view, members_view};
+ghost use Rattle.filter_tree.specs.View.{view as tree_of};
 ghost use Rattle.search_base.specs.Gives.{Gives};
+ghost use Rattle.request_refusals.specs.Members.{member_named as member_by_name};
+ghost use Rattle.request_refusals.specs.declared.member.SearchMember.TheVariants.{AttributesToRetrieve};
 ghost use Rattle.request_routes.specs.Held.{pair_of};
-ghost use Rattle.request_calls.specs.Held.{draft_view};
-ghost use Rattle.request_calls.specs.Searches.{object_in, given_by, given_as, new_draft, with_members, search_from, search_of, search_by, written as written_in, written_as as written_as_in, list_written, flag_or_text, number_or_text};
 ghost use Rattle.request_routes.specs.Query.{number_of as number_in};
-ghost use Rattle.serde_json.specs.Data.{string};
+ghost use Rattle.request_calls.specs.Searches.{object_in, all_names as all_names_list, said, names_in, window_of, window_in as window_by, search_in as search_with, search_from, search_of, search_by, written as written_in, written_as as written_by, list_written, flag_or_text, number_or_text};
 
 use crate::body::read_json;
-use crate::draft::Draft;
-use crate::members::{Member, member_of};
-use request_refusals::{Refusal, SearchMember};
+use crate::members::{try_member, try_members};
+use crate::values::{count_at, flag_at, names_at, sort_at, strategy_at, text_at};
+use filter_tree::Filter;
+use request_refusals::{Refusal, SearchMember, Shape, member_named};
 use request_routes::{Pair, number_of, texts_of};
 use search_base::{Fault, NoMemory, Word};
-use search_call::SearchCall;
+use search_call::{SearchCall, Window};
 use serde_json::{Map, Value};
 use std::alloc::Global;
 
@@ -39,66 +42,122 @@ fn search_call(alloc: Global, value: &Value) -> Result<SearchCall, Fault<Refusal
     ensures { Gives (λ call. call) result (search_from (view value.now)) }
 {
     match value {
-        Value::Object(members) => Ok(draft_of(alloc, members)?.finish()),
+        Value::Object(members) => {
+            let filter = try_members(alloc, members)?;
+            Ok(search_in(alloc, filter, value)?)
+        }
         _ => Err(Fault::Refused(Refusal::Unknown {
             name: Word::new(alloc, "body")?,
         })),
     }
 }
 
-fn draft_of(alloc: Global, members: &Map<String, Value>) -> Result<Draft, Fault<Refusal>>
-    ensures { Gives draft_view result (with_members (given_by (members_view members.now.entries)) new_draft) }
-{
-    let mut draft = Draft::new(alloc)?;
-    for (name, value) in members.iter() {
-        draft = draft.with(alloc, name.as_str(), value)?;
-    }
-    Ok(draft)
-}
-
 /// The search that the pairs of a query string ask for.
 pub(crate) fn search_by_pairs(alloc: Global, pairs: &[Pair]) -> Result<SearchCall, Fault<Refusal>>
     ensures { Gives (λ call. call) result (search_by (map pair_of pairs.now)) }
 {
-    Ok(draft_by(alloc, pairs)?.finish())
-}
-
-fn draft_by(alloc: Global, pairs: &[Pair]) -> Result<Draft, Fault<Refusal>>
-    ensures { Gives draft_view result (with_members (map given_as (map pair_of pairs.now)) new_draft) }
-{
-    let mut draft = Draft::new(alloc)?;
+    let mut members = Map::new(alloc);
+    let mut filter = Filter::All;
     for pair in pairs {
-        let value = written(alloc, member_of(pair.name.as_str()), pair.value.as_str())?;
-        draft = draft.with(alloc, pair.name.as_str(), &value)?;
+        let value = written(alloc, pair.name.as_str(), pair.value.as_str())?;
+        filter = try_member(alloc, filter, pair.name.as_str(), &value)?;
+        put(alloc, &mut members, pair.name.as_str(), value)?;
     }
-    Ok(draft)
+    Ok(search_in(alloc, filter, &Value::Object(members))?)
 }
 
-// What the text of a member stands for.
-fn written(alloc: Global, member: Option<Member>, text: &str) -> Result<Value, NoMemory>
-    ensures { IfOk result (λ value. view value ≡ written_in member text.now) }
+fn put(
+    alloc: Global,
+    members: &mut Map<String, Value>,
+    name: &str,
+    value: Value,
+) -> Result<(), NoMemory>
+    ensures { IfOk result (λ u.
+        members_view members.new.entries ≡ put_member name.now (view value) (members_view members.old.entries)) }
 {
-    match member {
-        Some(Member::Built(member)) => written_as(alloc, member, text),
-        _ => text_value(alloc, text),
+    let name = String::from_str(alloc, name)?;
+    drop(members.insert(name, value)?);
+    Ok(())
+}
+
+// The search that the members of an object ask for, with its filter. Each has its default until it is given.
+fn search_in(alloc: Global, filter: Filter, object: &Value) -> Result<SearchCall, NoMemory>
+    ensures { IfOk result (λ call. call ≡ search_with (tree_of filter) (view object.now)) }
+{
+    Ok(SearchCall {
+        q: text_at(alloc, object, SearchMember::Query)?,
+        window: window_in(object),
+        filter,
+        facets: names_at(alloc, object, SearchMember::Facets)?,
+        sort: sort_at(alloc, object)?,
+        strategy: strategy_at(object),
+        costs: flag_at(object, SearchMember::ShowCosts),
+        retrieve: retrieved(alloc, object)?,
+    })
+}
+
+fn window_in(object: &Value) -> Window
+    ensures { result ≡ window_by (view object.now) }
+{
+    let slice = Window::Slice {
+        offset: count_at(object, SearchMember::Offset).unwrap_or(0),
+        limit: count_at(object, SearchMember::Limit).unwrap_or(20),
+    };
+    let page = count_at(object, SearchMember::Page);
+    window(page, count_at(object, SearchMember::HitsPerPage), slice)
+}
+
+// A page, where its number or its size is given, or else the slice.
+fn window(page: Option<u64>, per: Option<u64>, slice: Window) -> Window
+    ensures { result ≡ window_of page per slice }
+{
+    match (page, per) {
+        (None, None) => slice,
+        (page, per) => Window::Page {
+            page: page.unwrap_or(1),
+            per: per.unwrap_or(20),
+        },
     }
 }
 
-fn written_as(alloc: Global, member: SearchMember, text: &str) -> Result<Value, NoMemory>
-    ensures { IfOk result (λ value. view value ≡ written_as_in member text.now) }
+// The names of the members that hits show.
+fn retrieved(alloc: Global, object: &Value) -> Result<Vec<Word>, NoMemory>
+    ensures { IfOk result (λ names.
+        names.items ≡ unwrap_or (said names_in AttributesToRetrieve (view object.now)) all_names_list) }
 {
-    match member {
-        SearchMember::Offset
-        | SearchMember::Limit
-        | SearchMember::Page
-        | SearchMember::HitsPerPage => number_value(alloc, text),
-        SearchMember::Facets | SearchMember::Sort | SearchMember::AttributesToRetrieve => {
-            list_value(alloc, text)
-        }
-        SearchMember::ShowCosts => flag_value(alloc, text),
-        SearchMember::Query | SearchMember::Filter | SearchMember::MatchingStrategy => {
-            text_value(alloc, text)
-        }
+    match names_at(alloc, object, SearchMember::AttributesToRetrieve)? {
+        Some(names) => Ok(names),
+        None => all_names(alloc),
+    }
+}
+
+// `*`, which stands for all names.
+fn all_names(alloc: Global) -> Result<Vec<Word>, NoMemory>
+    ensures { IfOk result (λ names. names.items ≡ all_names_list) }
+{
+    let mut names = Vec::new(alloc);
+    names.push(Word::new(alloc, "*")?)?;
+    Ok(names)
+}
+
+// What the text of a name stands for.
+fn written(alloc: Global, name: &str, text: &str) -> Result<Value, NoMemory>
+    ensures { IfOk result (λ value. view value ≡ written_in (member_by_name name.now) text.now) }
+{
+    match member_named(name) {
+        Some(member) => written_as(alloc, member.row().shape, text),
+        None => text_value(alloc, text),
+    }
+}
+
+fn written_as(alloc: Global, shape: Shape, text: &str) -> Result<Value, NoMemory>
+    ensures { IfOk result (λ value. view value ≡ written_by shape text.now) }
+{
+    match shape {
+        Shape::Count => number_value(alloc, text),
+        Shape::Flag => flag_value(alloc, text),
+        Shape::Names | Shape::Criteria => list_value(alloc, text),
+        Shape::Text | Shape::Strategy | Shape::Filter | Shape::Later => text_value(alloc, text),
     }
 }
 

@@ -10,9 +10,7 @@ use Rattle.search_settings.specs.declared.refusal.SearchRefusal.{SearchRefusal}
 use Rattle.search_call.specs.SearchView.{SearchView}
 use Rattle.request_refusals.specs.declared.refusal.Refusal.{Refusal}
 use Rattle.request_refusals.specs.declared.refusal.Refusal.TheVariants.{NoRoute, MethodNotAllowed, InvalidUid, Unknown, NotBuilt, InvalidSearch, FilterSyntax, FilterTooDeep, FilterNotANumber, NotJson, NotList, NotObject, NumberNotWhole, BadListedId, MissingUid, BadSettings, BadRankingRule, NoIndex, IndexExists, NoDocument, KeyDiffers, NoCandidate, SeveralCandidates, MissingId, BadId, ChangesSpent, IndexesSpent, IdsSpent, PathsSpent, NoSortRule, NotSortable, NotFilterable, NotFacet}
-use Rattle.request_refusals.specs.declared.refusal.SearchMember.{SearchMember}
-use Rattle.request_refusals.specs.declared.refusal.SearchMember.TheVariants as member
-use Rattle.request_calls.specs.Refusals.{told_of, told_of_member}
+use Rattle.request_calls.specs.Refusals.{told_of}
 use Rattle.search_base.specs.Trying.{◌>>=◌, or_refuse, refused_as}
 use Rattle.request_calls.specs.Asked.{ReadData, health, indexes, index, documents, document, settings, search, CallData, write, read}
 use Rattle.request_calls.specs.Calls.{call_of}
@@ -79,28 +77,13 @@ good_called s (Err e) = tt
 abbrev IsRefusing : ℕ → Type 0
 IsRefusing status = (status ≢ 202) × (status ≢ 503)
 
-member_400 : (m : SearchMember) → (told_of_member m).status ≡ 400
-member_400 member.Query = refl
-member_400 member.Offset = refl
-member_400 member.Limit = refl
-member_400 member.Page = refl
-member_400 member.HitsPerPage = refl
-member_400 member.Filter = refl
-member_400 member.Facets = refl
-member_400 member.Sort = refl
-member_400 member.AttributesToRetrieve = refl
-member_400 member.MatchingStrategy = refl
-member_400 member.ShowCosts = refl
-
 refusing : (r : Refusal) → IsRefusing (told_of r).status
 refusing NoRoute = (λ e. absurd (omega (arith, e)), λ e. absurd (omega (arith, e)))
 refusing MethodNotAllowed = (λ e. absurd (omega (arith, e)), λ e. absurd (omega (arith, e)))
 refusing InvalidUid = (λ e. absurd (omega (arith, e)), λ e. absurd (omega (arith, e)))
 refusing (Unknown name) = (λ e. absurd (omega (arith, e)), λ e. absurd (omega (arith, e)))
 refusing (NotBuilt name) = (λ e. absurd (omega (arith, e)), λ e. absurd (omega (arith, e)))
-refusing (InvalidSearch m) =
-    let is : (told_of (InvalidSearch m)).status ≡ 400 = member_400 m in
-    (λ e. absurd (omega (arith, e, is)), λ e. absurd (omega (arith, e, is)))
+refusing (InvalidSearch m) = (λ e. absurd (omega (arith, e)), λ e. absurd (omega (arith, e)))
 refusing (FilterSyntax text place) = (λ e. absurd (omega (arith, e)), λ e. absurd (omega (arith, e)))
 refusing (FilterTooDeep text place) = (λ e. absurd (omega (arith, e)), λ e. absurd (omega (arith, e)))
 refusing (FilterNotANumber value) = (λ e. absurd (omega (arith, e)), λ e. absurd (omega (arith, e)))

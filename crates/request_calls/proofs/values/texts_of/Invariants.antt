@@ -2,7 +2,7 @@ use Rattle.std.proofs.Common.{◌≡◌, ◌++◌, drop, option_map}
 use Rattle.serde_json.specs.Find.{as_str}
 use Rattle.serde_json.specs.View.{items_view}
 use Rattle.request_calls.specs.Searches.{each_of}
-use Rattle.request_calls.proofs.members.texts_of.Given as goal
+use Rattle.request_calls.proofs.values.texts_of.Given as goal
 
 -- the texts so far, and those that are left, are all
 abbrev pub invariant-loop-item : goal.invariant-loop-item
