@@ -17,42 +17,45 @@ pub behind_push : (changes : List StoredChange) (change : StoredChange) (w : Wal
 behind_push [] change w = refl
 behind_push (c ∷ changes) change w = ap (λ (v : Walk). entry c.place c.payload.items v) (behind_push changes change w)
 
-module _ (bs : List ℕ) (at n : ℕ) where
-  pub records_end : length bs ≤ at → walk 0 at n (drop at bs) ≡ broken at
+-- in these bytes, from one on that stands at this place of a disk
+module _ (bs : List ℕ) (at place n : ℕ) where
+  pub records_end : length bs ≤ at → walk 0 place n (drop at bs) ≡ broken place
   unfolding walk
-  records_end le = ap (λ (l : List ℕ). walk 0 at n l) (drop_all at bs le)
+  records_end le = ap (λ (l : List ℕ). walk 0 place n l) (drop_all at bs le)
 
   module _ (within : at < length bs) where
     split : drop at bs ≡ get_or bs at 0 ∷ drop (at + 1) bs
     split = drop_more bs at 0 within
 
-    pub records_shut : get_or bs at 0 ≡ 0 → walk 0 at n (drop at bs) ≡ shut at
-    records_shut e = ap (λ (l : List ℕ). walk 0 at n l) (split ∙ ap (λ (b : ℕ). b ∷ drop (at + 1) bs) e) ∙ walk_shut at n (drop (at + 1) bs)
+    pub records_shut : get_or bs at 0 ≡ 0 → walk 0 place n (drop at bs) ≡ shut place
+    records_shut e = ap (λ (l : List ℕ). walk 0 place n l) (split ∙ ap (λ (b : ℕ). b ∷ drop (at + 1) bs) e) ∙ walk_shut place n (drop (at + 1) bs)
 
-    opened_by : get_or bs at 0 ≢ 0 → walk 0 at n (drop at bs) ≡ walk_field at (field_in n (drop (at + 1) bs)) (λ size. walk (12 + size) (at + 1) (n + 1) (drop (at + 1) bs))
-    opened_by ne = ap (λ (l : List ℕ). walk 0 at n l) split ∙ walk_step at n (get_or bs at 0) (drop (at + 1) bs) ne
+    opened_by : get_or bs at 0 ≢ 0 → walk 0 place n (drop at bs) ≡ walk_field place (field_in n (drop (at + 1) bs)) (λ size. walk (12 + size) (place + 1) (n + 1) (drop (at + 1) bs))
+    opened_by ne = ap (λ (l : List ℕ). walk 0 place n l) split ∙ walk_step place n (get_or bs at 0) (drop (at + 1) bs) ne
 
-    pub records_bad : (k : ℕ) → get_or bs at 0 ≢ 0 → field_in n (drop (at + 1) bs) ≡ bad_field k → walk 0 at n (drop at bs) ≡ broken (at + k)
+    pub records_bad : (k : ℕ) → get_or bs at 0 ≢ 0 → field_in n (drop (at + 1) bs) ≡ bad_field k → walk 0 place n (drop at bs) ≡ broken (place + k)
     unfolding walk_field
-    records_bad k ne e = opened_by ne ∙ ap (λ (f : Field). walk_field at f (λ size. walk (12 + size) (at + 1) (n + 1) (drop (at + 1) bs))) e
+    records_bad k ne e = opened_by ne ∙ ap (λ (f : Field). walk_field place f (λ size. walk (12 + size) (place + 1) (n + 1) (drop (at + 1) bs))) e
 
     pub records_step : (size : ℕ) → get_or bs at 0 ≢ 0 → field_in n (drop (at + 1) bs) ≡ payload (take size (drop 12 (drop (at + 1) bs))) → 12 + size ≤ length (drop (at + 1) bs)
-        → walk 0 at n (drop at bs) ≡ entry (at + 13) (take size (drop (at + 13) bs)) (walk 0 (at + (13 + size)) (n + 1) (drop (at + (13 + size)) bs))
+        → walk 0 place n (drop at bs) ≡ entry (place + 13) (take size (drop (at + 13) bs)) (walk 0 (place + (13 + size)) (n + 1) (drop (at + (13 + size)) bs))
     unfolding walk_field
     records_step size ne e fits =
         let rest = drop (at + 1) bs in
         let bytes = take size (drop 12 rest) in
         let long : length bytes ≡ size = omega (arith, length-take size (drop 12 rest), length-drop 12 rest) in
-        let place : at + 1 + (12 + length bytes) ≡ at + (13 + size) = omega (arith, long) in
-        let place_13 : at + 1 + 12 ≡ at + 13 = omega arith in
+        let next : place + 1 + (12 + length bytes) ≡ place + (13 + size) = omega (arith, long) in
+        let behind_it : at + 1 + (12 + length bytes) ≡ at + (13 + size) = omega (arith, long) in
+        let at_13 : at + 1 + 12 ≡ at + 13 = omega arith in
         opened_by ne
-        ∙ ap (λ (f : Field). walk_field at f (λ size. walk (12 + size) (at + 1) (n + 1) rest)) e
-        ∙ ap (λ (v : Walk). entry (at + 13) bytes v)
-        (walk_skip (12 + length bytes) (at + 1) (n + 1) rest (omega (arith, long))
-        ∙ ap (λ (l : List ℕ). walk 0 (at + 1 + (12 + length bytes)) (n + 1) l) (drop-drop (12 + length bytes) (at + 1) bs)
-        ∙ ap (λ (i : ℕ). walk 0 i (n + 1) (drop i bs)) place)
-        ∙ ap (λ (l : List ℕ). entry (at + 13) (take size l) (walk 0 (at + (13 + size)) (n + 1) (drop (at + (13 + size)) bs)))
-        (drop-drop 12 (at + 1) bs ∙ ap (λ (i : ℕ). drop i bs) place_13)
+        ∙ ap (λ (f : Field). walk_field place f (λ size. walk (12 + size) (place + 1) (n + 1) rest)) e
+        ∙ ap (λ (v : Walk). entry (place + 13) bytes v)
+        (walk_skip (12 + length bytes) (place + 1) (n + 1) rest (omega (arith, long))
+        ∙ ap (λ (l : List ℕ). walk 0 (place + 1 + (12 + length bytes)) (n + 1) l) (drop-drop (12 + length bytes) (at + 1) bs)
+        ∙ ap (λ (i : ℕ). walk 0 i (n + 1) (drop (at + 1 + (12 + length bytes)) bs)) next
+        ∙ ap (λ (i : ℕ). walk 0 (place + (13 + size)) (n + 1) (drop i bs)) behind_it)
+        ∙ ap (λ (l : List ℕ). entry (place + 13) (take size l) (walk 0 (place + (13 + size)) (n + 1) (drop (at + (13 + size)) bs)))
+        (drop-drop 12 (at + 1) bs ∙ ap (λ (i : ℕ). drop i bs) at_13)
 
 -- the active disk
 

@@ -1,23 +1,37 @@
 -- What opening gives.
-use Rattle.std.specs.Prelude.{◌≡◌, ◌≢◌, MatchOption, ℕ, ◌+◌, ◌<◌, ◌≤◌, ◌^◌, List, [], ◌∷◌, length, take, drop, Option, Some, None, Result, Ok, Err}
-use Rattle.change_journal.specs.Format.{Look, closed, bad, opened, Field, payload, bad_field, Walk, shut, broken, entry, Spot, Stored}
+use Rattle.std.specs.Prelude.{◌≡◌, ◌≢◌, MatchOption, ℕ, ◌+◌, ◌<◌, ◌≤◌, ◌^◌, ◌==◌, nat_le, List, [], ◌∷◌, length, take, drop, slice_index, bytes_eq, codes, if◌then◌else◌, Option, Some, None, Result, Ok, Err}
+use Rattle.change_journal.specs.Format.{Look, closed, bad, opened, look, generation_in, length_in, found_at, Field, payload, bad_field, Walk, shut, broken, entry, Spot, Stored}
 use Rattle.change_journal.specs.declared.opening.Head.{Head}
 use Rattle.change_journal.specs.declared.opening.Head.TheVariants.{Closed, Bad, Open}
 use Rattle.change_journal.specs.declared.opening.Piece.{Piece}
 use Rattle.change_journal.specs.declared.opening.Piece.TheVariants.{Payload, BadField}
+use Rattle.change_journal.specs.declared.opening.Front.{Front}
 use Rattle.change_journal.specs.declared.opening.Tail.{Tail}
 use Rattle.change_journal.specs.declared.opening.Tail.TheVariants.{Shut, Broken}
 use Rattle.change_journal.specs.declared.opening.StoredChange.{StoredChange}
 use Rattle.change_journal.specs.declared.journal.Side.{Side}
+use Rattle.change_journal.specs.declared.journal.Side.TheVariants.{A, B}
 use Rattle.change_journal.specs.declared.opening.Opened.{Opened}
 use Rattle.change_journal.specs.declared.opening.JournalFault.{JournalFault}
 use Rattle.std.specs.Option.{option_map}
-use Rattle.outside_io.specs.Disks.{Contents}
-use Rattle.index_image.specs.Rows.{image_view}
+use Rattle.index_image.specs.Image.{state_at}
+use Rattle.index_image.specs.Rows.{ImageData, image_view}
 use Rattle.index_image.specs.State.{IsState}
-use Rattle.change_journal.specs.Fits.{Holds, Fits}
-use Rattle.outside_io.specs.Faults.{Rose}
 use Rattle.change_journal.specs.declared.opening.JournalFault.TheVariants.{DiskFault, Damaged, NoMemory}
+
+abbrev pub number_of : Side → ℕ
+number_of A = 0
+number_of B = 1
+
+-- what the header of a disk of n bytes says, by its first 24 bytes, or all of them where there are fewer
+abbrev pub look_in : ℕ → List ℕ → Look
+look_in n hs =
+    if nat_le 24 (length hs) then
+    (if slice_index hs 0 == 0 then closed
+    else if bytes_eq (take 7 (drop 1 hs)) (codes "RANKIDX") then
+    (if generation_in hs == 0 then bad 8 else if nat_le (25 + length_in hs) n then opened (generation_in hs) (length_in hs) else bad 16)
+    else bad 1)
+    else closed
 
 abbrev pub look_of : Head → Look
 look_of Closed = closed
@@ -27,31 +41,26 @@ look_of (Open generation size) = opened generation size
 -- the size of the payload, or the place of the first bad field
 abbrev pub IsPiece : Piece → Field → List ℕ → Type 0
 IsPiece (Payload size) f rest = (f ≡ payload (take size (drop 12 rest))) × (12 + size ≤ length rest)
-IsPiece (BadField k) f rest = (f ≡ bad_field k) × (k ≤ 9)
+IsPiece (BadField k) f rest = (f ≡ bad_field k) × (k ≤ length rest + 1)
 
 abbrev pub tail_of : Tail → Walk
 tail_of (Shut gate) = shut gate
 tail_of (Broken place) = broken place
 
 abbrev pub TailWithin : Tail → ℕ → ℕ → Type 0
-TailWithin (Shut gate) start size = (start ≤ gate) × (gate < size)
-TailWithin (Broken place) start size = Unit {0}
+TailWithin (Shut gate) start end = (start ≤ gate) × (gate < end)
+TailWithin (Broken place) start end = start ≤ place
 
 -- these records, and then the rest
 abbrev pub behind : List StoredChange → Walk → Walk
 behind [] w = w
 behind (change ∷ changes) w = entry change.place change.payload.items (behind changes w)
 
-abbrev pub IsFault : JournalFault → Result (Option Stored) Spot → Type 0
-IsFault (Damaged disk place found) r = r ≡ Err (record { disk = disk; place = place; found = found })
-IsFault NoMemory r = Unit {0}
-IsFault DiskFault r = ⊥
-
--- the header is whole
-abbrev pub IsWithin : Head → ℕ → Type 0
-IsWithin Closed size = Unit {0}
-IsWithin (Bad place) size = Unit {0}
-IsWithin (Open generation image) size = 25 + image ≤ size
+-- the header is whole: it has so many bytes, of a disk that has n
+abbrev pub IsWithin : Head → ℕ → ℕ → Type 0
+IsWithin Closed bytes n = Unit {0}
+IsWithin (Bad place) bytes n = (place < 24) × (24 ≤ bytes)
+IsWithin (Open generation image) bytes n = (24 ≤ bytes) × (25 + image ≤ n)
 
 -- the active disk, as it was opened
 pub record Opens (o : Opened) (r : Result (Option Stored) Spot) : Type 0 where
@@ -80,16 +89,6 @@ abbrev pub IsReady : Opened → Type 0
 IsReady o = MatchOption o.image ((o.journal.active ≡ None) × (o.journal.count ≡ 0))
     (λ rows. (o.journal.active ≢ None) × IsState (image_view rows) × (o.journal.count ≡ rows.changes + length o.changes.items))
 
--- the active disk alone
-abbrev pub AnswersOne : Result Opened JournalFault → Result (Option Stored) Spot → Side → ℕ → List ℕ → Type 0
-AnswersOne (Ok o) r side g xs = Stands o r × Holds o.journal xs × (o.journal.active ≡ Some side) × (o.journal.generation ≡ g) × (o.journal.gate + 1 < 2 ^ 64) × (o.journal.size ≤ o.journal.gate + 1) × IsReady o
-AnswersOne (Err fault) r side g xs = IsFault fault r
-
--- both disks
-abbrev pub Answers : Result Opened JournalFault → Result (Option Stored) Spot → Option Contents → Option Contents → Type 0
-Answers (Ok o) r a b = Stands o r × Fits o.journal a b × IsReady o
-Answers (Err fault) r a b = IsFault fault r
-
 -- the same, where a disk may fail
 abbrev pub AnswersAll : Result Opened JournalFault → Result (Option Stored) Spot → Type 0
 AnswersAll (Ok o) r = Stands o r
@@ -97,7 +96,37 @@ AnswersAll (Err (Damaged disk place found)) r = r ≡ Err (record { disk = disk;
 AnswersAll (Err NoMemory) r = Unit {0}
 AnswersAll (Err DiskFault) r = Unit {0}
 
-abbrev pub IsReadFault : JournalFault → ℕ → ℕ → Type 0
-IsReadFault (Damaged disk place found) before now = ⊥
-IsReadFault NoMemory before now = Unit {0}
-IsReadFault DiskFault before now = Rose before now
+-- ---- one disk
+
+-- a disk is closed, or open as its header says
+abbrev pub IsOpen : Option Front → List ℕ → Type 0
+IsOpen None xs = look xs ≡ closed
+IsOpen (Some f) xs = (look xs ≡ opened f.generation f.size) × (length xs ≡ f.len) × (f.eighth ≡ found_at xs 8)
+
+-- what reading the header of a disk answers
+abbrev pub IsFront : Side → Result (Option Front) JournalFault → List ℕ → Type 0
+IsFront side (Ok front) xs = IsOpen front xs
+IsFront side (Err (Damaged disk place found)) xs = (look xs ≡ bad place) × (disk ≡ number_of side) × (found ≡ found_at xs place)
+IsFront side (Err NoMemory) xs = Unit {0}
+IsFront side (Err DiskFault) xs = Unit {0}
+
+-- the disk is closed, or its generation is below g
+abbrev pub IsBelow : ℕ → Option Front → Type 0
+IsBelow g None = Unit {0}
+IsBelow g (Some f) = f.generation < g
+
+-- of two disks the one with the greater generation, or the damage that both have the same
+abbrev pub IsChoice : Option Front → Option Front → Result (Option (Side × Front)) JournalFault → Type 0
+IsChoice first second (Ok None) = (first ≡ None) × (second ≡ None)
+IsChoice first second (Ok (Some (A, f))) = (first ≡ Some f) × IsBelow f.generation second
+IsChoice first second (Ok (Some (B, f))) = (second ≡ Some f) × IsBelow f.generation first
+IsChoice first second (Err fault) = (f g : Front) × (first ≡ Some f) × (second ≡ Some g) × (f.generation ≡ g.generation)
+    × (fault ≡ Damaged 1 8 g.eighth)
+
+-- the disk is open, and these are the state of its image and the bytes behind that
+abbrev pub IsReadAs : Front → ImageData → List ℕ → List ℕ → Type 0
+IsReadAs f state bytes xs = (look xs ≡ opened f.generation f.size) × (state_at (take f.size (drop 24 xs)) ≡ Ok state) × (bytes ≡ drop (24 + f.size) xs)
+
+-- the journal goes on at this disk
+abbrev pub GoesOn : Side → ℕ → Opened → Type 0
+GoesOn side g o = (o.journal.active ≡ Some side) × (o.journal.generation ≡ g) × (o.journal.gate + 1 < 2 ^ 64) × (o.journal.size ≤ o.journal.gate + 1) × IsReady o

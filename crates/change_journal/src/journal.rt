@@ -3,6 +3,7 @@ ghost use Rattle.outside_io.specs.Faults.{HasCause, Rose};
 ghost use Rattle.outside_io.specs.Disks.{Contents, Told, fresh, LeavesOnly};
 ghost use Rattle.change_journal.specs.Format.{stored_pair, pair_in, look};
 ghost use Rattle.change_journal.specs.Fits.{IsSettled, Holds, Fits, IsDue, next_side, disk_on, HasCount, alone, Grows, grown, IsBeforeOrAfter, PairsOnly, IsOlder, IsOldOrImage, image_pair, StandsFor};
+ghost use Rattle.change_journal.specs.Opens.{number_of};
 ghost use Rattle.change_journal.specs.Shut.{Remade, image_disk, is_told};
 
 use crate::Record;
@@ -18,6 +19,18 @@ const LONG: u64 = 16_777_216;
 pub enum Side {
     A,
     B,
+}
+
+impl Side {
+    /// The number of the disk.
+    pub(crate) fn number(self) -> u8
+        ensures { result ≡ number_of self }
+    {
+        match self {
+            Side::A => 0,
+            Side::B => 1,
+        }
+    }
 }
 
 /// Where the journal of two disks goes on: which disk is active, its generation, the place of its
@@ -77,9 +90,9 @@ impl Journal {
     }
 
     /// Makes the disk that is not active anew, `A` where none is, with an image and no change behind
-    /// it, and takes it as the active one, one generation up; it takes no memory. The image is that
-    /// of a state which counts the changes held. At generation 2^64 - 1 nothing is done, and the
-    /// answer is `Ok`.
+    /// it, and takes it as the active one, one generation up; it takes no memory, and the disk that was
+    /// active stays as it was. The image is that of a state which counts the changes held. At generation
+    /// 2^64 - 1 nothing is done, and the answer is `Ok`.
     ///
     /// A crash while the call runs or behind it leaves the pair that was stored, or the image without
     /// changes; behind `Ok` always the latter, and nothing is pending.
@@ -105,6 +118,7 @@ impl Journal {
         ensures made { OnOk result (self.old.generation < 2 ^ 64 - 1
             → (ys : List ℕ) → K.contents (disk_on (next_side self.old.active) disk_a.old disk_b.old) ≡ Some (fresh ys)
             → K.contents (disk_on (next_side self.old.active) disk_a.new disk_b.new) ≡ Some (fresh (1 ∷ image_disk (self.old.generation + 1) image.now))) }
+        ensures other { disk_on (next_side self.old.active) disk_b.new disk_a.new ≡ disk_on (next_side self.old.active) disk_b.old disk_a.old }
         ensures count { self.new.count ≡ self.old.count }
         ensures size { OnOk result (self.old.generation < 2 ^ 64 - 1 → self.new.size ≡ 1) }
         ensures told_a { is_told (K.contents disk_a.new) ≡ is_told (K.contents disk_a.old) }

@@ -1,13 +1,13 @@
-ghost use Rattle.std.specs.Prelude.{◌≡◌, ◌≢◌, ◌+◌, ◌*◌, ◌^◌, ◌<◌, ◌≤◌, [], ◌∷◌, ◌++◌, List, ℕ, Some, None, Ok, Err, ◌⊎◌, IfOk, IfErr, OnOk, OnErr, MatchResult, length, take, drop, slice_index, bytes_eq, codes};
+ghost use Rattle.std.specs.Prelude.{◌≡◌, ◌≢◌, ◌+◌, ◌*◌, ◌^◌, ◌<◌, ◌≤◌, [], ◌∷◌, ◌++◌, List, ℕ, Option, Result, Some, None, Ok, Err, ◌⊎◌, IfOk, IfErr, IfSome, OnOk, OnErr, MatchResult, length, take, drop, slice_index, bytes_eq, codes};
 ghost use Rattle.std.specs.Int.{w32, w64, from_le_bytes};
 ghost use Rattle.outside_io.specs.Faults.{HasCause, Rose};
 ghost use Rattle.outside_io.specs.Disks.{Contents, Told, fresh, LeavesOnly};
-ghost use Rattle.change_journal.specs.Format.{look, opened, field_in, walk, found_at, active_of, stored};
-ghost use Rattle.change_journal.specs.Fits.{Fits, BothTold};
+ghost use Rattle.change_journal.specs.Format.{look, opened, field_in, walk, found_at, active_of, stored, Stored, Spot};
+ghost use Rattle.change_journal.specs.Fits.{Fits, Holds, BothTold};
 ghost use Rattle.index_image.specs.Image.{state_at};
 ghost use Rattle.index_image.specs.Rows.{image_view};
 ghost use Rattle.index_image.specs.State.{IsState};
-ghost use Rattle.change_journal.specs.Opens.{look_of, IsPiece, tail_of, behind, IsFault, IsWithin, TailWithin, AnswersOne, Answers, AnswersAll, IsReadFault, IsReady};
+ghost use Rattle.change_journal.specs.Opens.{number_of, look_in, look_of, IsPiece, tail_of, behind, IsWithin, TailWithin, IsFront, IsChoice, IsReadAs, GoesOn, OpensNone, AnswersAll, IsReady};
 ghost use Rattle.change_journal.specs.declared.opening.JournalFault.TheVariants.{NoMemory, DiskFault};
 
 use crate::{Journal, Side};
@@ -37,6 +37,16 @@ enum Piece {
 enum Tail {
     Shut(u64),
     Broken(u64),
+}
+
+// An open disk by its header: the generation, the length of the image, and the byte at 8, where the
+// generation begins; and the length of the disk.
+#[derive(Clone, Copy)]
+struct Front {
+    generation: u64,
+    size: u64,
+    eighth: Option<u8>,
+    len: u64,
 }
 
 /// What two disks hold, and the journal to go on with.
@@ -109,23 +119,24 @@ fn has_name(bytes: &[u8]) -> bool
     &bytes[1..8] == b"RANKIDX".as_slice()
 }
 
-#[tactic(auto, unfolding(crate::specs::Format::look, crate::specs::Format::look_gate, crate::specs::Format::look_name, crate::specs::Format::look_generation, crate::specs::Format::look_length, crate::specs::Format::generation_in, crate::specs::Format::length_in))]
-fn look_at(bytes: &[u8]) -> Head
-    ensures look { look_of result ≡ look bytes.now }
-    ensures within { IsWithin result (length bytes.now) }
+// What a header says, which has 24 bytes unless the disk is shorter, and of which disk.
+#[tactic(auto, unfolding(crate::specs::Format::generation_in, crate::specs::Format::length_in))]
+fn look_at(header: &[u8], len: u64) -> Head
+    ensures look { look_of result ≡ look_in len header.now }
+    ensures within { IsWithin result (length header.now) len }
 {
-    if bytes.len() < 24 || bytes[0] == 0 {
+    if header.len() < 24 || header[0] == 0 {
         return Head::Closed;
     }
-    if !has_name(bytes) {
+    if !has_name(header) {
         return Head::Bad(1);
     }
-    let generation = u64_at(bytes, 8);
+    let generation = u64_at(header, 8);
     if generation == 0 {
         return Head::Bad(8);
     }
-    let size = u64_at(bytes, 16);
-    if size > bytes.len() as u64 - 24 || size == bytes.len() as u64 - 24 {
+    let size = u64_at(header, 16);
+    if len < 25 || size > len - 25 {
         return Head::Bad(16);
     }
     Head::Open { generation, size }
@@ -172,28 +183,29 @@ fn part_of(bytes: &[u8], at: usize, size: usize) -> &[u8]
     &bytes[at..at + size]
 }
 
-// The records from a place on, with the numbers from that one on, and how they end.
+// The records of a journal that stands at a place of a disk, with the numbers from that one on, and
+// how they end.
 fn read_records(
     alloc: Global,
     bytes: &[u8],
-    start: usize,
+    place: u64,
     before: u64,
 ) -> Result<(Vec<StoredChange>, Tail), AllocError>
-    requires within { start ≤ length bytes.now }
+    requires within { place + length bytes.now < 2 ^ 64 }
     requires few { before ≤ 1000000000 }
-    ensures walk { IfOk result (λ read. walk 0 start before (drop start bytes.now) ≡ behind read.0.items (tail_of read.1)) }
-    ensures within { IfOk result (λ read. TailWithin read.1 start (length bytes.now)) }
+    ensures walk { IfOk result (λ read. walk 0 place before bytes.now ≡ behind read.0.items (tail_of read.1)) }
+    ensures within { IfOk result (λ read. TailWithin read.1 place (place + length bytes.now)) }
 {
     let mut changes = Vec::new(alloc);
-    let mut at = start;
+    let mut at = 0;
     let mut number = before;
     while at < bytes.len() && bytes[at] != 0 {
         match piece_at(rest_of(bytes, at + 1), number) {
-            Piece::BadField(k) => return Ok((changes, Tail::Broken(at as u64 + k))),
+            Piece::BadField(k) => return Ok((changes, Tail::Broken(place + at as u64 + k))),
             Piece::Payload(size) => {
                 let payload = part_of(bytes, at + 13, size).to_vec(alloc)?;
                 changes.push(StoredChange {
-                    place: at as u64 + 13,
+                    place: place + at as u64 + 13,
                     payload,
                 })?;
                 at += 13 + size;
@@ -202,149 +214,32 @@ fn read_records(
         }
     }
     if at < bytes.len() {
-        Ok((changes, Tail::Shut(at as u64)))
+        Ok((changes, Tail::Shut(place + at as u64)))
     } else {
-        Ok((changes, Tail::Broken(at as u64)))
+        Ok((changes, Tail::Broken(place + at as u64)))
     }
 }
 
-// The state that the image of the active disk spells.
-#[tactic(auto, unfolding(crate::specs::Format::active_of, crate::specs::Format::by_state))]
-fn read_image(alloc: Global, disk: u8, size: u64, bytes: &[u8]) -> Result<ImageRows, JournalFault>
-    requires { 24 + size ≤ length bytes.now }
-    ensures rows { IfOk result (λ rows. state_at (take size (drop 24 bytes.now)) ≡ Ok (image_view rows)) }
-    ensures state { IfOk result (λ rows. IsState (image_view rows)) }
-    ensures fault { IfErr result (λ fault. (generation : ℕ) → IsFault fault (active_of disk generation size bytes.now)) }
-{
-    match decode(alloc, part_of(bytes, 24, size as usize)) {
-        Ok(rows) => Ok(rows),
-        Err(ImageFault::NoMemory) => Err(JournalFault::NoMemory),
-        Err(ImageFault::Damaged { place, found }) => Err(JournalFault::Damaged {
-            disk,
-            place: 24 + place,
-            found,
-        }),
-    }
-}
-
-// What the active disk holds.
-fn open_active(
+// The bytes of a disk from a place on, no more than so many.
+fn read_part<K: Disk>(
     alloc: Global,
-    disk: u8,
-    side: Side,
-    generation: u64,
+    disk: &mut K,
+    at: u64,
     size: u64,
-    bytes: &[u8],
-) -> Result<Opened, JournalFault>
-    requires look { look bytes.now ≡ opened generation size }
-    requires within { 25 + size ≤ length bytes.now }
-    ensures { AnswersOne result (active_of disk generation size bytes.now) side generation bytes.now }
-{
-    let image = read_image(alloc, disk, size, bytes)?;
-    let start = 24 + size as usize;
-    let (changes, tail) = match read_records(alloc, bytes, start, image.changes) {
-        Ok(read) => read,
-        Err(_) => return Err(JournalFault::NoMemory),
-    };
-    let gate = match tail {
-        Tail::Broken(place) => return Err(JournalFault::Damaged {
-            disk,
-            place,
-            found: found(bytes, place),
-        }),
-        Tail::Shut(gate) => gate,
-    };
-    let journal = Journal {
-        active: Some(side),
-        generation,
-        gate,
-        count: image.changes + changes.len() as u64,
-        size: gate + 1 - start as u64,
-    };
-    Ok(Opened {
-        journal,
-        active: disk,
-        image: Some(image),
-        image_at: 24,
-        changes,
-    })
-}
-
-// What two disks hold, by their bytes.
-fn choose(alloc: Global, a: &[u8], b: &[u8]) -> Result<Opened, JournalFault>
-    ensures { Answers result (stored a.now b.now) (Some (fresh a.now)) (Some (fresh b.now)) }
-{
-    match look_at(a) {
-        Head::Bad(place) => Err(JournalFault::Damaged {
-            disk: 0,
-            place,
-            found: found(a, place),
-        }),
-        Head::Closed => match look_at(b) {
-            Head::Bad(place) => Err(JournalFault::Damaged {
-                disk: 1,
-                place,
-                found: found(b, place),
-            }),
-            Head::Closed => Ok(Opened {
-                journal: Journal {
-                    active: None,
-                    generation: 0,
-                    gate: 0,
-                    count: 0,
-                    size: 0,
-                },
-                active: 0,
-                image: None,
-                image_at: 0,
-                changes: Vec::new(alloc),
-            }),
-            Head::Open { generation, size } => open_active(alloc, 1, Side::B, generation, size, b),
-        },
-        Head::Open { generation, size } => match look_at(b) {
-            Head::Bad(place) => Err(JournalFault::Damaged {
-                disk: 1,
-                place,
-                found: found(b, place),
-            }),
-            Head::Closed => open_active(alloc, 0, Side::A, generation, size, a),
-            Head::Open {
-                generation: other,
-                size: other_size,
-            } => {
-                if generation == other {
-                    return Err(JournalFault::Damaged {
-                        disk: 1,
-                        place: 8,
-                        found: found(b, 8),
-                    });
-                }
-                if other < generation {
-                    return open_active(alloc, 0, Side::A, generation, size, a);
-                }
-                open_active(alloc, 1, Side::B, other, other_size, b)
-            }
-        },
-    }
-}
-
-// All that a read gives.
-fn read_all<K: Disk>(alloc: Global, disk: &mut K) -> Result<Vec<u8>, JournalFault>
-    ensures bytes { IfOk result (λ bytes. Told (K.contents disk.old) (λ xs. bytes.items ≡ xs)) }
+) -> Result<Vec<u8>, JournalFault>
+    ensures bytes { IfOk result (λ bytes. Told (K.contents disk.old) (λ xs. bytes.items ≡ take size (drop at xs))) }
+    ensures short { IfOk result (λ bytes. length bytes.items ≤ size) }
+    ensures no_damage { IfErr result (λ fault. (r : Result (Option Stored) Spot) → AnswersAll (Err fault) r) }
     ensures contents { K.contents disk.new ≡ K.contents disk.old }
     ensures any_moment { (xs : List ℕ) → K.contents disk.old ≡ Some (fresh xs) → LeavesOnly K.moment K.left_since disk.old disk.new (λ c. c ≡ xs) }
-    ensures fault { IfErr result (λ fault. IsReadFault fault (K.disk_faults disk.old) (K.disk_faults disk.new)) }
+    ensures fault { result ≡ Err DiskFault → Rose (K.disk_faults disk.old) (K.disk_faults disk.new) }
     ensures later { K.disk_faults disk.old ≤ K.disk_faults disk.new }
 {
-    let size = match disk.len() {
-        Ok(size) => size as usize,
-        Err(_) => return Err(JournalFault::DiskFault),
-    };
-    let mut bytes = match vec![in alloc; 0u8; size] {
+    let mut bytes = match vec![in alloc; 0u8; size as usize] {
         Ok(bytes) => bytes,
         Err(_) => return Err(JournalFault::NoMemory),
     };
-    match disk.read_at(0, &mut bytes) {
+    match disk.read_at(at, &mut bytes) {
         Ok(count) => {
             bytes.truncate(count);
             Ok(bytes)
@@ -353,9 +248,207 @@ fn read_all<K: Disk>(alloc: Global, disk: &mut K) -> Result<Vec<u8>, JournalFaul
     }
 }
 
-/// Reads what two disks hold where nothing is pending: the state that the image of the active disk
-/// spells, and the changes behind it. With no open disk that is no image and no change. It changes
-/// nothing on the disks.
+// A disk by the bytes of its header and its length; nothing where it is closed.
+fn front_of(side: Side, header: &[u8], len: u64) -> Result<Option<Front>, JournalFault>
+    ensures front { (xs : List ℕ) → header.now ≡ take 24 xs → len ≡ length xs → IsFront side result xs }
+    ensures within { IfOk result (λ front. IfSome front (λ it. 25 + it.size ≤ it.len)) }
+    ensures fault { result ≡ Err DiskFault → ⊥ }
+{
+    match look_at(header, len) {
+        Head::Closed => Ok(None),
+        Head::Bad(place) => Err(JournalFault::Damaged {
+            disk: side.number(),
+            place,
+            found: found(header, place),
+        }),
+        Head::Open { generation, size } => Ok(Some(Front {
+            generation,
+            size,
+            eighth: found(header, 8),
+            len,
+        })),
+    }
+}
+
+// The same of a disk. It takes no memory.
+fn read_front<K: Disk>(disk: &mut K, side: Side) -> Result<Option<Front>, JournalFault>
+    ensures front { Told (K.contents disk.old) (IsFront side result) }
+    ensures within { IfOk result (λ front. IfSome front (λ it. 25 + it.size ≤ it.len)) }
+    ensures contents { K.contents disk.new ≡ K.contents disk.old }
+    ensures any_moment { (xs : List ℕ) → K.contents disk.old ≡ Some (fresh xs) → LeavesOnly K.moment K.left_since disk.old disk.new (λ c. c ≡ xs) }
+    ensures fault { result ≡ Err DiskFault → Rose (K.disk_faults disk.old) (K.disk_faults disk.new) }
+    ensures later { K.disk_faults disk.old ≤ K.disk_faults disk.new }
+{
+    let len = match disk.len() {
+        Ok(len) => len,
+        Err(_) => return Err(JournalFault::DiskFault),
+    };
+    let mut header = [0; 24];
+    let count = match disk.read_at(0, &mut header) {
+        Ok(count) => count,
+        Err(_) => return Err(JournalFault::DiskFault),
+    };
+    front_of(side, &header[..count], len)
+}
+
+// Which of two disks is active, if one is open.
+fn active_front(
+    first: Option<Front>,
+    second: Option<Front>,
+) -> Result<Option<(Side, Front)>, JournalFault>
+    ensures { IsChoice first second result }
+{
+    match (first, second) {
+        (None, None) => Ok(None),
+        (Some(only), None) => Ok(Some((Side::A, only))),
+        (None, Some(only)) => Ok(Some((Side::B, only))),
+        (Some(one), Some(other)) => {
+            if one.generation == other.generation {
+                return Err(JournalFault::Damaged {
+                    disk: 1,
+                    place: 8,
+                    found: other.eighth,
+                });
+            }
+            if other.generation < one.generation {
+                Ok(Some((Side::A, one)))
+            } else {
+                Ok(Some((Side::B, other)))
+            }
+        }
+    }
+}
+
+// The state that the image of the active disk spells. The bytes are let go here.
+#[tactic(auto, unfolding(crate::specs::Format::active_of, crate::specs::Format::by_state))]
+fn read_image<K: Disk>(
+    alloc: Global,
+    disk: &mut K,
+    side: Side,
+    size: u64,
+) -> Result<ImageRows, JournalFault>
+    ensures rows { IfOk result (λ rows. Told (K.contents disk.old) (λ xs. state_at (take size (drop 24 xs)) ≡ Ok (image_view rows))) }
+    ensures state { IfOk result (λ rows. IsState (image_view rows)) }
+    ensures damaged { IfErr result (λ fault. Told (K.contents disk.old) (λ xs. (generation : ℕ)
+        → AnswersAll (Err fault) (active_of (number_of side) generation size xs))) }
+    ensures contents { K.contents disk.new ≡ K.contents disk.old }
+    ensures any_moment { (xs : List ℕ) → K.contents disk.old ≡ Some (fresh xs) → LeavesOnly K.moment K.left_since disk.old disk.new (λ c. c ≡ xs) }
+    ensures fault { result ≡ Err DiskFault → Rose (K.disk_faults disk.old) (K.disk_faults disk.new) }
+    ensures later { K.disk_faults disk.old ≤ K.disk_faults disk.new }
+{
+    let bytes = match read_part(alloc, disk, 24, size) {
+        Ok(bytes) => bytes,
+        Err(fault) => return Err(fault),
+    };
+    match decode(alloc, &bytes) {
+        Ok(rows) => Ok(rows),
+        Err(ImageFault::NoMemory) => Err(JournalFault::NoMemory),
+        Err(ImageFault::Damaged { place, found }) => Err(JournalFault::Damaged {
+            disk: side.number(),
+            place: 24 + place,
+            found,
+        }),
+    }
+}
+
+// What the active disk holds, by the state of its image and the bytes behind it.
+fn opened_with(
+    alloc: Global,
+    side: Side,
+    front: Front,
+    image: ImageRows,
+    bytes: &[u8],
+) -> Result<Opened, JournalFault>
+    requires within { 24 + front.size + length bytes.now < 2 ^ 64 }
+    requires state { IsState (image_view image) }
+    ensures stored { (xs : List ℕ) → IsReadAs front (image_view image) bytes.now xs
+        → AnswersAll result (active_of (number_of side) front.generation front.size xs) }
+    ensures holds { IfOk result (λ opened. (xs : List ℕ) → IsReadAs front (image_view image) bytes.now xs → Holds opened.journal xs) }
+    ensures goes_on { IfOk result (GoesOn side front.generation) }
+    ensures fault { result ≡ Err DiskFault → ⊥ }
+{
+    let start = 24 + front.size;
+    let (changes, tail) = match read_records(alloc, bytes, start, image.changes) {
+        Ok(read) => read,
+        Err(_) => return Err(JournalFault::NoMemory),
+    };
+    let gate = match tail {
+        Tail::Broken(place) => return Err(JournalFault::Damaged {
+            disk: side.number(),
+            place,
+            found: found(bytes, place - start),
+        }),
+        Tail::Shut(gate) => gate,
+    };
+    let journal = Journal {
+        active: Some(side),
+        generation: front.generation,
+        gate,
+        count: image.changes + changes.len() as u64,
+        size: gate + 1 - start,
+    };
+    Ok(Opened {
+        journal,
+        active: side.number(),
+        image: Some(image),
+        image_at: 24,
+        changes,
+    })
+}
+
+// What the active disk holds. The image is read and let go before the journal is.
+fn open_active<K: Disk>(
+    alloc: Global,
+    disk: &mut K,
+    side: Side,
+    front: Front,
+) -> Result<Opened, JournalFault>
+    requires front { Told (K.contents disk.old) (λ xs. (look xs ≡ opened front.generation front.size) × (length xs ≡ front.len)) }
+    requires within { 25 + front.size ≤ front.len }
+    ensures stored { Told (K.contents disk.old) (λ xs. AnswersAll result (active_of (number_of side) front.generation front.size xs)) }
+    ensures holds { IfOk result (λ opened. Told (K.contents disk.new) (Holds opened.journal)) }
+    ensures goes_on { IfOk result (GoesOn side front.generation) }
+    ensures contents { K.contents disk.new ≡ K.contents disk.old }
+    ensures any_moment { (xs : List ℕ) → K.contents disk.old ≡ Some (fresh xs) → LeavesOnly K.moment K.left_since disk.old disk.new (λ c. c ≡ xs) }
+    ensures fault { result ≡ Err DiskFault → Rose (K.disk_faults disk.old) (K.disk_faults disk.new) }
+    ensures later { K.disk_faults disk.old ≤ K.disk_faults disk.new }
+{
+    let image = match read_image(alloc, disk, side, front.size) {
+        Ok(image) => image,
+        Err(fault) => return Err(fault),
+    };
+    let start = 24 + front.size;
+    let bytes = match read_part(alloc, disk, start, front.len - start) {
+        Ok(bytes) => bytes,
+        Err(fault) => return Err(fault),
+    };
+    opened_with(alloc, side, front, image, &bytes)
+}
+
+// What two disks hold of which none is open.
+fn none_opened(alloc: Global) -> Opened
+    ensures none { OpensNone result }
+    ensures journal { result.journal ≡ record { active = None; generation = 0; gate = 0; count = 0; size = 0 } }
+{
+    Opened {
+        journal: Journal {
+            active: None,
+            generation: 0,
+            gate: 0,
+            count: 0,
+            size: 0,
+        },
+        active: 0,
+        image: None,
+        image_at: 0,
+        changes: Vec::new(alloc),
+    }
+}
+
+/// Reads what two disks hold: the state that the image of the active disk spells, and the changes
+/// behind it. With no open disk that is no image and no change. It changes nothing on the disks. Of
+/// both it reads the headers first, and then the active one alone: the image, whose bytes are let go
+/// once it is decoded, and what stands behind it.
 ///
 /// `Damaged` comes exactly where a byte stands outside the format, with the first one in the order
 /// in which the headers, the generations, the whole active image, and the gates, numbers and
@@ -372,13 +465,18 @@ pub fn open<K: Disk>(alloc: Global, disk_a: &mut K, disk_b: &mut K) -> Result<Op
     ensures later_a { K.disk_faults disk_a.old ≤ K.disk_faults disk_a.new }
     ensures later_b { K.disk_faults disk_b.old ≤ K.disk_faults disk_b.new }
 {
-    let a = match read_all(alloc, disk_a) {
-        Ok(a) => a,
+    let first = match read_front(disk_a, Side::A) {
+        Ok(first) => first,
         Err(fault) => return Err(fault),
     };
-    let b = match read_all(alloc, disk_b) {
-        Ok(b) => b,
+    let second = match read_front(disk_b, Side::B) {
+        Ok(second) => second,
         Err(fault) => return Err(fault),
     };
-    choose(alloc, &a, &b)
+    match active_front(first, second) {
+        Err(fault) => Err(fault),
+        Ok(None) => Ok(none_opened(alloc)),
+        Ok(Some((Side::A, front))) => open_active(alloc, disk_a, Side::A, front),
+        Ok(Some((Side::B, front))) => open_active(alloc, disk_b, Side::B, front),
+    }
 }

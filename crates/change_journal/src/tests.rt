@@ -174,7 +174,7 @@ fn two_empty_disks_and_one_change(rt: HostRuntime) -> Result<(), Fail> {
 #[test]
 fn a_first_read_that_fails(rt: HostRuntime) -> Result<(), Fail> {
     let alloc = rt.alloc();
-    for call in 0..2 {
+    for call in 0..4 {
         let content = bytes_of(alloc, FIRST)?;
         let failing = [call].to_vec(alloc)?;
         let mut a = MemoryDisk::new(alloc, content, failing)?;
@@ -285,10 +285,11 @@ fn stopped_run(rt: &impl Abort, alloc: Global, from_a: u64, from_b: u64) -> Resu
 }
 
 // A stop at each call: what was done stands, and a step that was begun is done whole or not at all.
-// Opening makes two calls on each disk, an addition four, and the checkpoint ten.
+// Opening makes two calls on each disk and two more on the active one, an addition four, and the
+// checkpoint ten.
 #[test]
 fn every_stop_of_three_changes(rt: HostRuntime) -> Result<(), Fail> {
-    let first = [0, 0, 0, 0, 0, 0, 1, 1, 1, 1, 4];
+    let first = [0, 0, 0, 0, 0, 0, 0, 0, 1, 1, 1, 1, 4];
     for (from, done) in first.iter().enumerate() {
         assert_eq!(rt; stopped_run(&rt, rt.alloc(), from as u64, 40)?, *done);
     }
@@ -304,10 +305,10 @@ fn every_stop_of_three_changes(rt: HostRuntime) -> Result<(), Fail> {
 fn a_stop_after_each_sync_of_an_append(rt: HostRuntime) -> Result<(), Fail> {
     let alloc = rt.alloc();
     let rows = [
-        (4, 0, STATES[0]),
-        (4, 1, STATES[1]),
-        (6, 0, STATES[1]),
+        (6, 0, STATES[0]),
         (6, 1, STATES[1]),
+        (8, 0, STATES[1]),
+        (8, 1, STATES[1]),
     ];
     for (from, kept, expected) in &rows {
         let mut a = failing_disk(alloc, FIRST, *from)?;
@@ -317,7 +318,7 @@ fn a_stop_after_each_sync_of_an_append(rt: HostRuntime) -> Result<(), Fail> {
         assert_eq!(rt; journal.count, 0);
         let entry = record(alloc, 0, b"one")?;
         let outcome = journal.append(&mut a, &mut b, entry);
-        assert_eq!(rt; outcome.is_ok(), *from == 6);
+        assert_eq!(rt; outcome.is_ok(), *from == 8);
         let mut c = a.after_crash(*kept)?;
         let mut d = b.after_crash(0)?;
         assert_eq!(rt; answer(alloc, &mut c, &mut d)?.as_str(), *expected);
