@@ -1,15 +1,14 @@
 -- How settings use paths.
-use Rattle.std.proofs.Common.{◌≡◌, ℕ, suc, ◌+◌, ◌<◌, ◌≤◌, Bool, true, false, List, [], ◌∷◌, ◌++◌, length, drop, Option, None, Some, refl, sym, ap, ap₂, subst, ◌∙◌, arith, append-nil}
+use Rattle.std.proofs.Common.{◌≡◌, ℕ, suc, ◌+◌, ◌<◌, ◌≤◌, Bool, true, false, List, [], ◌∷◌, ◌++◌, length, Option, None, Some, refl, sym, ap, ap₂, subst, ◌∙◌, arith}
 use Rattle.std.specs.Prelude.{◌&&◌, IfSome}
 use Rattle.std.specs.Bool.{beq}
 use Rattle.std.specs.List.{AllByRecursion}
 use Rattle.std.specs.Cmp.Lexicographic.{pointwise}
-use Rattle.std.proofs.lemmas.List.{drop_all}
 use Rattle.std.proofs.lemmas.Bool.{cond_both, true≢false, eq-eqb, eqb-true}
 use Rattle.doc_rows.specs.declared.path_use.PathUse.{PathUse}
 use Rattle.index_settings.specs.View.{SettingsView}
 use Rattle.index_settings.specs.Paths.{first_place, covers}
-use Rattle.search_settings.specs.Uses.{same_rank, same_use, uses_from}
+use Rattle.search_settings.specs.Uses.{same_rank, same_use, use_of, uses_from}
 
 -- ---- the test of uses tells whether they are the same
 
@@ -58,12 +57,26 @@ pub uses-length : (st : SettingsView) (number : ℕ) (paths : List (List ℕ)) �
 uses-length st number [] = refl
 uses-length st number (path ∷ paths) = ap suc (uses-length st (number + 1) paths)
 
--- all uses are there
-pub uses-counted : (st : SettingsView) (paths : List (List ℕ)) (number : ℕ) (uses : List PathUse) → length paths ≤ number → uses ++ uses_from st number (drop number paths) ≡ uses_from st 0 paths
-    → length uses ≡ length paths
-uses-counted st paths number uses past told =
-    let none : drop number paths ≡ [] = drop_all number paths past in
-    ap length (sym (append-nil uses) ∙ ap (λ (v : List (List ℕ)). uses ++ uses_from st number v) (sym none) ∙ told) ∙ uses-length st 0 paths
+-- the uses of more paths stand behind
+uses-append : (st : SettingsView) (number : ℕ) (paths more : List (List ℕ)) → uses_from st number (paths ++ more) ≡ uses_from st number paths ++ uses_from st (number + length paths) more
+uses-append st number [] more = ap (λ n. uses_from st n more) plus-zero
+  where
+    plus-zero : number ≡ number + 0
+    plus-zero = omega arith
+uses-append st number (path ∷ paths) more = ap (λ v. use_of st path number ∷ v) (uses-append st (number + 1) paths more ∙ ap (λ n. uses_from st (number + 1) paths ++ uses_from st n more) next)
+  where
+    next : number + 1 + length paths ≡ number + suc (length paths)
+    next = omega arith
+
+pub uses-known : (st : SettingsView) (paths more : List (List ℕ)) (known : List PathUse) → known ≡ uses_from st 0 paths → known ++ uses_from st (length known) more ≡ uses_from st 0 (paths ++ more)
+uses-known st paths more known is =
+    ap (λ v. v ++ uses_from st (length v) more) is ∙ ap (λ n. uses_from st 0 paths ++ uses_from st n more) many ∙ sym (uses-append st 0 paths more)
+  where
+    many : length (uses_from st 0 paths) ≡ 0 + length paths
+    many = uses-length st 0 paths ∙ plus
+      where
+        plus : length paths ≡ 0 + length paths
+        plus = omega arith
 
 -- ---- ranks
 

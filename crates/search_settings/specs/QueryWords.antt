@@ -1,5 +1,5 @@
 -- The words that settings give to queries: those that are left out, and those that stand for others.
-use Rattle.std.specs.Prelude.{◌≡◌, ℕ, Bool, not, ◌&&◌, nat_lt, nat_le, List, [], ◌∷◌, length, map, filter, flat_map, codes, Option, Some, None, Vec, if◌then◌else◌}
+use Rattle.std.specs.Prelude.{◌≡◌, ℕ, Bool, not, ◌&&◌, nat_lt, nat_le, List, [], ◌∷◌, length, map, filter, flat_map, Option, Some, None, Vec, if◌then◌else◌}
 use Rattle.std.specs.BTreeSet.{BTreeSet}
 use Rattle.std.specs.Cmp.Lexicographic.{pointwise}
 use Rattle.std.specs.List.{filter_map, list_any}

@@ -22,5 +22,5 @@ pub use checks::check_search;
 pub use query_words::QueryWords;
 pub use refusal::{SearchFault, SearchRefusal};
 pub use rules::rules_of;
-pub use uses::{use_alike, uses_of};
+pub use uses::{ranks_are_low, use_alike, uses_behind, uses_of};
 pub use windows::{window_end, window_start};

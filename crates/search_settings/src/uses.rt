@@ -1,4 +1,4 @@
-ghost use Rattle.std.specs.Prelude.{◌≡◌, ◌<◌, ◌≤◌, length, IfOk, IfSome};
+ghost use Rattle.std.specs.Prelude.{◌≡◌, ◌+◌, ◌<◌, ◌≤◌, ◌++◌, length, IfOk, IfSome};
 ghost use Rattle.std.specs.List.{AllByRecursion};
 ghost use Rattle.search_settings.specs.Uses.{same_use as is_same_use, use_alike as are_alike, use_of as use_in, uses_from};
 
@@ -12,21 +12,36 @@ pub fn uses_of(alloc: Global, settings: &Settings, paths: &[Word]) -> Result<Vec
     requires { length paths.now ≤ 1000 }
     ensures uses { IfOk result (λ uses. uses.items ≡ uses_from settings.now 0 paths.now) }
     ensures len { IfOk result (λ uses. length uses.items ≡ length paths.now) }
-    ensures ranks { IfOk result (λ uses.
-        AllByRecursion (λ path_use. IfSome path_use.rank (λ rank. rank < 65535)) uses.items) }
 {
-    entries_are_few(settings);
-    let mut uses = Vec::with_capacity(alloc, paths.len())?;
-    for (number, path) in paths.iter().enumerate() {
-        uses.push(use_of(settings, path, number as u16))?;
+    uses_behind(alloc, settings, &[], paths)
+}
+
+/// How the settings use each path of a registry that gains paths: those that are known, and behind them the uses of the
+/// paths that it gains. No other path is looked at.
+pub fn uses_behind(
+    alloc: Global,
+    settings: &Settings,
+    known: &[PathUse],
+    added: &[Word],
+) -> Result<Vec<PathUse>, NoMemory>
+    requires { length known.now + length added.now ≤ 1000 }
+    ensures { IfOk result (λ uses. uses.items ≡ known.now ++ uses_from settings.now (length known.now) added.now) }
+{
+    let mut uses = Vec::with_capacity(alloc, known.len() + added.len())?;
+    uses.extend_from_slice(known)?;
+    for (place, path) in added.iter().enumerate() {
+        uses.push(use_of(settings, path, (known.len() + place) as u16))?;
     }
     Ok(uses)
 }
 
-// No more than 65,535 entries say what is searched. It does nothing.
-fn entries_are_few(settings: &Settings)
-    ensures { length settings.now.searchable_attributes ≤ 65535 }
+/// The rank of each path that is searched is below 65,535. It does nothing.
+pub fn ranks_are_low(settings: &Settings, paths: &[Word])
+    requires { length paths.now ≤ 1000 }
+    ensures { AllByRecursion (λ path_use. IfSome path_use.rank (λ rank. rank < 65535))
+        (uses_from settings.now 0 paths.now) }
 {
+    // No more than 65,535 entries say what is searched.
     let _entries = settings.searchable_attributes();
 }
 
