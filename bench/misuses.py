@@ -37,7 +37,7 @@ LOOKERS = """
 use crate::costs::{graph, rows};
 use crate::shelves::{Shelf, make_shelf};
 use bucket_sort::{BucketLog, HitStream, RecordLog};
-use index_snapshot::{IndexedRows, Snapshot};
+use doc_search::{IndexedRows, Snapshot};
 use rule_buckets::Rules;
 use search_base::{Rule, Steps};
 use std::alloc::Global;

@@ -1,3 +1,10 @@
-pub mod RankLemmas
+pub mod RowLemmas
+pub mod SortLemmas
+pub mod EntryLemmas
+pub mod OrderedLemmas
+pub mod OrderLemmas
 pub mod MatchLemmas
+pub mod MeetLemmas
+pub mod RankLemmas
+pub mod FoundLemmas
 pub mod ToldLemmas

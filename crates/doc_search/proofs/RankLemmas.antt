@@ -15,7 +15,7 @@ use Rattle.doc_store.specs.Store.{Row}
 use Rattle.posting_sets.specs.Blocks.{HaveRanks}
 use Rattle.posting_sets.specs.Numbers.{rank_at}
 use Rattle.row_index.specs.Standing.{placed}
-use Rattle.index_snapshot.specs.Rows.{AreRanked}
+use Rattle.doc_search.specs.Rows.{AreRanked}
 use Rattle.doc_index.specs.Documents.{documents_of}
 use Rattle.doc_search.specs.Ranked.{ranks_of, RankedBelow}
 

@@ -1,4 +1,9 @@
 -- A search over stored documents.
+pub mod Rows
+pub mod Entries
+pub mod Matches
+pub mod Laws
+pub mod Meeting
 pub mod Ranked
 pub mod Matched
 pub mod Searched

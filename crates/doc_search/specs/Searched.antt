@@ -3,7 +3,7 @@ use Rattle.std.specs.Prelude.{ℕ, List, map, Option}
 use Rattle.posting_sets.specs.Blocks.{HaveRanks}
 use Rattle.row_index.specs.Documents.{IndexedDocument}
 use Rattle.row_index.specs.Standing.{RowIndexView, StandsFor, placed}
-use Rattle.index_snapshot.specs.Rows.{AreRanked}
+use Rattle.doc_search.specs.Rows.{AreRanked}
 
 -- the index is that of the documents, and these are the ranks of their paths, each below a number
 pub record IsSearched (index : RowIndexView) (ranks : List (Option ℕ)) (bound : ℕ) (documents : List IndexedDocument)

@@ -1,6 +1,6 @@
 ghost use Rattle.std.specs.Prelude.{◌≡◌, map, IfOk};
 ghost use Rattle.facet_counts.specs.Counts.{counted};
-ghost use Rattle.index_snapshot.specs.Rows.{rows_at};
+ghost use Rattle.doc_search.specs.Rows.{rows_at};
 
 use crate::searched::Searched;
 use doc_sets::DocSet;

@@ -4,10 +4,10 @@ ghost use Rattle.row_index.specs.Standing.{StandsFor, faceted};
 ghost use Rattle.doc_index.specs.Documents.{documents_of};
 ghost use Rattle.doc_search.specs.Ranked.{ranks_of as ranks_in, RankedBelow};
 
+use crate::indexed::IndexedRows;
 use doc_rows::PathUse;
 use doc_store::DocStore;
 use facet_index::{FacetIndex, Indexed};
-use index_snapshot::IndexedRows;
 use leaf_table::LeafTable;
 use row_index::RowIndex;
 use search_base::NoMemory;

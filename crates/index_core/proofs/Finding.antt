@@ -18,8 +18,8 @@ use Rattle.search_base.specs.RowsView.{RowsView}
 use Rattle.search_base.specs.Tuple.{tuple, cost_of, entry}
 use Rattle.doc_index.specs.Documents.{documents_of}
 use Rattle.doc_search.specs.Matched.{is_match, rows_matching}
-use Rattle.index_snapshot.specs.Matches.{matches_among}
-use Rattle.list_search.specs.Matches.{match_at, ids_of, hits_of}
+use Rattle.doc_search.specs.Matches.{matches_among}
+use Rattle.rule_buckets.specs.Matches.{match_at, ids_of, hits_of}
 use Rattle.row_filter.specs.Holds.{holds}
 use Rattle.facet_counts.specs.FacetView.{FacetView}
 use Rattle.facet_counts.specs.Counts.{counted}

@@ -8,7 +8,7 @@ use Rattle.search_base.specs.CostOrder.{before}
 use Rattle.search_base.specs.Hits.{Match, costs_before, numbers}
 use Rattle.search_base.specs.Hits as base
 use Rattle.search_base.proofs.CostOrderLemmas.{before-strict}
-use Rattle.list_search.specs.Matches.{hits_of}
+use Rattle.rule_buckets.specs.Matches.{hits_of}
 
 abbrev stands_before : Match → Match → Bool
 stands_before = base.stands_before before (λ m. m.costs) (λ m. m.id)

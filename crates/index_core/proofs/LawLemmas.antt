@@ -32,7 +32,7 @@ use Rattle.search_settings.specs.Uses.{use_alike}
 use Rattle.index_core.specs.Fetches.{needed_under}
 use Rattle.search_base.specs.CostOrder.{before}
 use Rattle.search_base.specs.Hits.{Match}
-use Rattle.list_search.specs.Matches.{ids_of, hits_of}
+use Rattle.rule_buckets.specs.Matches.{ids_of, hits_of}
 use Rattle.index_core.specs.Matching.{matching, rules_in}
 use Rattle.search_call.specs.Windows.{offset_of}
 use Rattle.index_core.specs.Found.{asked_of, most_hits, window_size}

@@ -16,7 +16,7 @@ use Rattle.search_base.specs.RowsView.{RowsView}
 use Rattle.search_call.specs.SearchView.{SearchView}
 use Rattle.filter_tree.specs.Tree as tree
 use Rattle.row_filter.specs.Holds.{holds}
-use Rattle.list_search.specs.Matches.{match_at, ids_of, hits_of}
+use Rattle.rule_buckets.specs.Matches.{match_at, ids_of, hits_of}
 use Rattle.serde_json.specs.Data.{Data}
 use Rattle.doc_store.specs.Store.{Row, row_at}
 use Rattle.doc_store.specs.Sound.{Increase}

@@ -20,15 +20,15 @@ use Rattle.bucket_sort.specs.Told.{RisesAtMost}
 use Rattle.bucket_sort.specs.Trace.{trace, opened_classes, opening_of}
 use Rattle.doc_index.specs.Documents.{documents_of, document_of}
 use Rattle.doc_rows.specs.declared.path_use.PathUse.{PathUse}
-use Rattle.doc_search.proofs.MatchLemmas.{in-order}
+use Rattle.doc_search.proofs.FoundLemmas.{in-order}
 use Rattle.doc_store.specs.Sound.{IsSound}
 use Rattle.doc_store.specs.Store.{Row, row_at}
-use Rattle.index_snapshot.specs.Matches.{matches_among, passing, opened}
-use Rattle.index_snapshot.specs.Rows.{rows_at, rows_of}
-use Rattle.index_snapshot.proofs.MatchLemmas.{matches_over}
-use Rattle.list_search.specs.Matches.{ids_of}
-use Rattle.list_search.specs.Matches as lists
-use Rattle.list_search.proofs.Slices.{entries-listed}
+use Rattle.doc_search.specs.Matches.{matches_among, passing, opened}
+use Rattle.doc_search.specs.Rows.{rows_at, rows_of}
+use Rattle.doc_search.proofs.MatchLemmas.{matches_over}
+use Rattle.rule_buckets.specs.Matches.{ids_of}
+use Rattle.rule_buckets.specs.Matches as lists
+use Rattle.rule_buckets.proofs.Slices.{entries-listed}
 use Rattle.row_index.specs.Documents.{IndexedDocument, document_at}
 use Rattle.rule_buckets.specs.Entries.{entry_at, entry_of}
 use Rattle.index_core.specs.Found.{most_hits, window_end}

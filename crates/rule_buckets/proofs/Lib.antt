@@ -4,3 +4,4 @@ pub mod Levels
 pub mod Streaming
 pub mod Within
 pub mod Keys
+pub mod Slices

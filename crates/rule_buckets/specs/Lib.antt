@@ -4,3 +4,4 @@ pub mod Listed
 pub mod Keyed
 pub mod Streams
 pub mod Rules
+pub mod Matches

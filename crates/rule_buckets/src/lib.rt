@@ -1,4 +1,4 @@
-//! The buckets of every ranking rule, one after the other, from what an index answers.
+//! The hits of a search over an index that answers by sets of documents, and the buckets of every ranking rule.
 //!
 //! `Rules` takes an index as a `RuleSource`, a query's graph and ranking rules. It finds the documents that match, and
 //! is a `RuleSet` over them: of each level it gives the documents by the entry that the rule at that place costs them,
@@ -7,6 +7,10 @@
 //! on numbers of a rule on words, and the documents in order of a rule on values, where the source sooner puts them in
 //! order than goes through their entries. The crate stands on `search_base`, `doc_sets`, `condition_graph`,
 //! `path_costs`, `sort_rule` and `bucket_sort`.
+//!
+//! `find` takes the documents that a search is about besides, and gives those that match and the asked slice of them by
+//! their costs and then by internal id, opening no more buckets than lead to that slice. Its definitions know no
+//! bucket: they list the costs of each document that matches, and take the slice of the list.
 #![tactic(auto)]
 
 mod buckets;
@@ -16,8 +20,10 @@ mod matching;
 mod paths;
 mod query;
 mod rules;
+mod search;
 mod source;
 
 pub use buckets::RuleBuckets;
 pub use rules::Rules;
+pub use search::{Found, find};
 pub use source::RuleSource;

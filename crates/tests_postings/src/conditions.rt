@@ -4,7 +4,7 @@ ghost use Rattle.search_base.specs.Graphs.{IsTerm};
 
 use crate::texts::{Lists, listed, set, standing_lists};
 use condition_graph::Condition;
-use list_conditions::meeting;
+use doc_search::meeting;
 use search_base::{Term, Word};
 use std::alloc::Global;
 use std::process::Abort;

@@ -1,5 +1,5 @@
 //! Tests of posting lists and of their questions, through what `postings`, `posting_sets`, `near_words`, `path_lengths`,
-//! `whole_words` and `list_conditions` offer.
+//! `whole_words` and `doc_search` offer.
 //!
 //! They stand in a crate of their own, so that the crates they try are proved once and not twice. The crate has nothing
 //! but tests, and promises nothing.

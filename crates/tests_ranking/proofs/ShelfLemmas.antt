@@ -10,9 +10,9 @@ use Rattle.posting_sets.specs.Numbers.{rank_at}
 use Rattle.posting_sets.specs.Blocks.{HaveRanks}
 use Rattle.row_index.specs.Documents.{IndexedDocument, document_with, has_id, IsBatch, without, after}
 use Rattle.row_index.specs.Standing.{placed}
-use Rattle.index_snapshot.specs.Rows.{AreRanked}
-use Rattle.index_snapshot.specs.Matches.{AreInOrder}
-use Rattle.index_snapshot.proofs.OrderLemmas.{apart_in_order}
+use Rattle.doc_search.specs.Rows.{AreRanked}
+use Rattle.doc_search.specs.Matches.{AreInOrder}
+use Rattle.doc_search.proofs.OrderLemmas.{apart_in_order}
 use Rattle.tests_ranking.specs.Ranked.{is_rank, is_ranked, has_ranks, have_ranks}
 use Rattle.tests_ranking.specs.Shelves.{shelved_from, shelved}
 

@@ -4,7 +4,7 @@ use Rattle.search_base.specs.RowsView.{RowsView}
 use Rattle.posting_sets.specs.Blocks.{HaveRanks}
 use Rattle.row_index.specs.Documents.{IndexedDocument, document_with}
 use Rattle.row_index.specs.Standing.{RowIndexView, StandsFor, placed}
-use Rattle.index_snapshot.specs.Rows.{AreRanked}
+use Rattle.doc_search.specs.Rows.{AreRanked}
 
 -- the documents of which the first has this number
 abbrev pub shelved_from : ℕ → List RowsView → List IndexedDocument

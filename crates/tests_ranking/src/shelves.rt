@@ -2,7 +2,7 @@ ghost use Rattle.std.specs.Prelude.{◌≡◌, ◌≤◌, true, length, IfOk};
 ghost use Rattle.posting_sets.specs.Numbers.{rank_at as rank_in};
 ghost use Rattle.tests_ranking.specs.Ranked.{is_ranked as is_ranked_in, has_ranks as has_ranks_in, have_ranks as have_ranks_in};
 
-use index_snapshot::IndexedRows;
+use doc_search::IndexedRows;
 use row_index::{RowChange, RowIndex};
 use search_base::{DocId, DocRows, NoMemory, Place};
 use std::alloc::Global;

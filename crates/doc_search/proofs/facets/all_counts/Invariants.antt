@@ -1,6 +1,6 @@
 use Rattle.std.proofs.Common.{◌≡◌, ◌++◌, map}
 use Rattle.facet_counts.specs.Counts.{counted}
-use Rattle.index_snapshot.specs.Rows.{rows_at}
+use Rattle.doc_search.specs.Rows.{rows_at}
 use Rattle.doc_search.proofs.facets.all_counts.Given as goal
 
 abbrev pub invariant-loop-facet : goal.invariant-loop-facet

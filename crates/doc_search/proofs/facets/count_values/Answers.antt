@@ -1,6 +1,6 @@
 use Rattle.std.proofs.lemmas.Result.{IfOk-weaker}
-use Rattle.index_snapshot.specs.Rows.{rows_at}
-use Rattle.doc_search.proofs.MatchLemmas.{are-rows}
+use Rattle.doc_search.specs.Rows.{rows_at}
+use Rattle.doc_search.proofs.FoundLemmas.{are-rows}
 use Rattle.doc_search.proofs.facets.count_values.Goals as goal
 
 pub returns : goal.returns

@@ -11,11 +11,11 @@ use Rattle.facet_counts.specs.Counts.{counted}
 use Rattle.doc_index.specs.Documents.{documents_of}
 use Rattle.doc_search.specs.Matched.{rows_matching}
 use Rattle.doc_search.specs.Ranked.{RankedBelow}
-use Rattle.index_snapshot.specs.Matches.{matches_among, opened}
+use Rattle.doc_search.specs.Matches.{matches_among, opened}
 use Rattle.bucket_sort.specs.Told.{and_then, GainsPrefix, RisesAtMost}
-use Rattle.list_search.proofs.Slices.{on-err}
+use Rattle.rule_buckets.proofs.Slices.{on-err}
 use Rattle.index_core.specs.Opened.{opened_in}
-use Rattle.list_search.specs.Matches.{ids_of, hits_of}
+use Rattle.rule_buckets.specs.Matches.{ids_of, hits_of}
 use Rattle.row_index.specs.Standing.{StandsFor}
 use Rattle.index_core.specs.Index.{Index}
 use Rattle.index_core.specs.Found.{most_hits, window_end}

@@ -1,0 +1,108 @@
+ghost use Rattle.std.specs.Prelude.{◌≡◌};
+
+use crate::answers::{
+    above_ranks, documents_at_cost, documents_meeting, documents_under, next_entry, ordered_under,
+};
+use crate::indexed::IndexedRows;
+use bucket_sort::Bucket;
+use condition_graph::Condition;
+use doc_sets::DocSet;
+use rule_buckets::RuleSource;
+use search_base::{CostKey, NoMemory, PathId, Word};
+use std::alloc::Global;
+use std::marker::Model;
+
+/// An index as ranking rules see it, while nothing in it changes. Seen as what has the index.
+#[derive(Drop)]
+pub struct Snapshot<'a, I: IndexedRows> {
+    rows: &'a I,
+}
+
+impl<'a, I: IndexedRows> Model for Snapshot<'a, I> {
+    ghost Value = { I };
+
+    ghost view = { λ snapshot. snapshot.rows.now };
+}
+
+impl<'a, I: IndexedRows> Snapshot<'a, I> {
+    /// The snapshot of an index as it is. Takes no memory.
+    pub fn new(rows: &'a I) -> Snapshot<'a, I>
+        ensures { result ≡ rows.now }
+    {
+        Snapshot { rows }
+    }
+
+    /// What has the index. Takes no memory.
+    pub fn rows(&self) -> &I
+        ensures { result.now ≡ self.now }
+    {
+        self.rows
+    }
+}
+
+impl<'a, I: IndexedRows> RuleSource for Snapshot<'a, I> {
+    ghost use Rattle.doc_search.specs.Entries.{sort_keys};
+    ghost use Rattle.doc_search.specs.Laws.{sorted_at};
+    ghost use Rattle.doc_search.specs.Rows.{rows_at};
+
+    ghost rows = { λ snapshot. rows_at (I.documents snapshot) };
+
+    ghost keys = { λ snapshot up path. sort_keys up path (I.documents snapshot) };
+
+    ghost sorted = { λ snapshot up path. sorted_at up path (I.documents snapshot) };
+
+    fn ranks(&self) -> u16 {
+        above_ranks(self.rows)
+    }
+
+    fn meeting(
+        &self,
+        alloc: Global,
+        condition: &Condition,
+        universe: &DocSet,
+    ) -> Result<DocSet, NoMemory> {
+        documents_meeting(alloc, self.rows, condition, universe)
+    }
+
+    fn at_whole_cost(
+        &self,
+        alloc: Global,
+        words: &[Word],
+        cost: u32,
+        universe: &DocSet,
+    ) -> Result<DocSet, NoMemory> {
+        documents_at_cost(alloc, self.rows, words, cost, universe)
+    }
+
+    fn next_key(
+        &self,
+        alloc: Global,
+        path: PathId,
+        up: bool,
+        after: Option<&CostKey>,
+        universe: &DocSet,
+    ) -> Result<Option<CostKey>, NoMemory> {
+        next_entry(alloc, self.rows, path, up, after, universe)
+    }
+
+    fn docs_at(
+        &self,
+        alloc: Global,
+        path: PathId,
+        up: bool,
+        at: &CostKey,
+        universe: &DocSet,
+    ) -> Result<DocSet, NoMemory> {
+        documents_under(alloc, self.rows, path, up, at, universe)
+    }
+
+    fn ordered(
+        &self,
+        alloc: Global,
+        path: PathId,
+        up: bool,
+        universe: &DocSet,
+    ) -> Result<Option<Vec<Bucket>>, NoMemory> {
+        ordered_under(alloc, self.rows, path, up, universe)
+    }
+}

@@ -1,5 +1,0 @@
-use Rattle.index_snapshot.proofs.RowLemmas.{ranked_at}
-use Rattle.index_snapshot.proofs.answers.above_ranks.Goals as goal
-
-pub returns : goal.returns
-returns g c = λ d. ranked_at c.rank_count-count.result (g.I.IndexedRows.documents c.args.rows.now) d c.rank_count-count.ensures

@@ -1,2 +1,0 @@
--- Lemmas on conditions.
-pub mod MeetLemmas

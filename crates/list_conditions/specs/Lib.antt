@@ -1,2 +1,0 @@
--- Conditions, and the documents that meet them.
-pub mod Meeting

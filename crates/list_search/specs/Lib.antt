@@ -1,2 +1,0 @@
--- The documents that match a query, with their costs, and the slice of them that a search asks for.
-pub mod Matches
