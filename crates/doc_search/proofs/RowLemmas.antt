@@ -1,11 +1,19 @@
 -- What the parts of an index answer, said of the rows of each id.
-use Rattle.std.proofs.Common.{◌≡◌, ℕ, ◌==◌, Bool, true, false, cond, List, [], ◌∷◌, map, filter, Some, refl, ap, ◌∙◌}
+use Rattle.std.proofs.Common.{◌≡◌, ℕ, ◌==◌, Bool, true, false, cond, List, [], ◌∷◌, map, filter, Option, Some, refl, ap, ◌∙◌}
 use Rattle.std.specs.List.{AllByRecursion}
 use Rattle.std.proofs.lemmas.List.Elements.{filter_agree}
 use Rattle.search_base.specs.Whole.{whole_cost}
 use Rattle.condition_graph.specs.declared.condition.Condition.{Condition}
 use Rattle.condition_graph.specs.Meets.{meets, IsRanked}
+use Rattle.condition_graph.specs.Numbers.{at_number}
+use Rattle.path_costs.specs.Sets.{set_at as docs_at, AreByNumber}
+use Rattle.doc_sets.specs.SetView.{SetView}
+use Rattle.postings.specs.Dictionary.{PostingsView}
 use Rattle.postings.specs.Documents.{places_of}
+use Rattle.postings.specs.Fresh.{StandsFor}
+use Rattle.posting_sets.specs.Blocks.{HaveRanks}
+use Rattle.posting_sets.specs.Numbers.{set_at}
+use Rattle.doc_search.specs.Meeting.{AreMeetingByNumber}
 use Rattle.facet_index.specs.Batches as facets
 use Rattle.facet_index.specs.LeavesView.{leaves_of}
 use Rattle.filter_sets.specs.Selects.{marks_of, AreRowsOf}
@@ -40,6 +48,17 @@ pub met : (documents : List IndexedDocument) (condition : Condition) (universe i
 met documents condition universe ids is = is
     ∙ filter_agree (λ d. meets (places_of d (map placed documents)) condition) (λ d. meets (rows_at documents d).places condition)
     (λ d. ap (λ places. meets places condition) (places_same documents d)) universe
+
+same_set : (n : ℕ) (rows : List (ℕ × SetView)) → docs_at n rows ≡ set_at n rows
+same_set n [] = refl
+same_set n (row ∷ rows) = ap (λ rest. cond (row.0 == n) row.1.ids rest) (same_set n rows)
+
+-- the same of all numbers of a condition
+pub met_by_number : (documents : List IndexedDocument) (view : PostingsView) (ranks : List (Option ℕ)) (condition : Condition) (universe : List ℕ) (rows : List (ℕ × SetView))
+    → AreMeetingByNumber view ranks condition universe rows → StandsFor view (map placed documents) → HaveRanks ranks (map placed documents)
+    → AreByNumber (λ asked d. meets (rows_at documents d).places asked) condition universe rows
+met_by_number documents view ranks condition universe rows are fresh have n is =
+    same_set n rows ∙ met documents (at_number n condition) universe (set_at n rows) (are n is (map placed documents) fresh have)
 
 -- those at a cost
 pub at_cost : (documents : List IndexedDocument) (words : List (List ℕ)) (cost : ℕ) (universe ids : List ℕ)

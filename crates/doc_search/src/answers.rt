@@ -1,15 +1,18 @@
-ghost use Rattle.std.specs.Prelude.{◌≡◌, ◌==◌, ◌<◌, ℕ, filter, reverse, IfOk, IfSome, IfNone};
+ghost use Rattle.std.specs.Prelude.{◌≡◌, ◌==◌, ◌<◌, ℕ, true, filter, reverse, IfOk, IfSome, IfNone, is_some};
 ghost use Rattle.std.specs.List.{AllByRecursion};
 ghost use Rattle.std.specs.Option.{option_copied};
 ghost use Rattle.search_base.specs.Whole.{whole_cost};
 ghost use Rattle.condition_graph.specs.Meets.{meets, IsRanked};
+ghost use Rattle.condition_graph.specs.Numbers.{number_of};
 ghost use Rattle.condition_graph.specs.Promise.{IsCondition};
+ghost use Rattle.path_costs.specs.Sets.{AreByNumber};
 ghost use Rattle.sort_rule.specs.Ordered.{AreOrdered};
 ghost use Rattle.sort_rule.specs.Rows.{is_under, IsNextFor, HasNoneAfter};
 ghost use Rattle.rule_buckets.specs.Entries.{sort_entry};
 ghost use Rattle.doc_search.specs.Entries.{sort_keys};
 ghost use Rattle.doc_search.specs.Rows.{rows_at};
 
+use crate::by_number::meeting_by_number;
 use crate::indexed::IndexedRows;
 use crate::met::meeting;
 use crate::ordered::ordered;
@@ -49,6 +52,25 @@ pub(crate) fn documents_meeting<I: IndexedRows>(
     let ranks = rows.ranks();
     let docs = meeting(alloc, places, ranks, condition, universe)?;
     Ok(docs)
+}
+
+/// The documents of the universe that meet a condition on a number, by the number.
+pub(crate) fn documents_by_number<I: IndexedRows>(
+    alloc: Global,
+    rows: &I,
+    condition: &Condition,
+    universe: &DocSet,
+) -> Result<Vec<(u16, DocSet)>, NoMemory>
+    requires condition { IsCondition condition.now }
+    requires number { is_some (number_of condition.now) ≡ true }
+    ensures { IfOk result (λ sets. AreByNumber (λ asked d. meets (rows_at (I.documents rows.now) d).places asked)
+        condition.now universe.now.ids sets.items) }
+{
+    let index = rows.index();
+    let places = index.places();
+    let ranks = rows.ranks();
+    let sets = meeting_by_number(alloc, places, ranks, condition, universe)?;
+    Ok(sets)
 }
 
 /// The documents of the universe that are so near to being these words.

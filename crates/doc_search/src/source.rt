@@ -1,7 +1,8 @@
 ghost use Rattle.std.specs.Prelude.{◌≡◌};
 
 use crate::answers::{
-    above_ranks, documents_at_cost, documents_meeting, documents_under, next_entry, ordered_under,
+    above_ranks, documents_at_cost, documents_by_number, documents_meeting, documents_under,
+    next_entry, ordered_under,
 };
 use crate::indexed::IndexedRows;
 use bucket_sort::Bucket;
@@ -62,6 +63,15 @@ impl<'a, I: IndexedRows> RuleSource for Snapshot<'a, I> {
         universe: &DocSet,
     ) -> Result<DocSet, NoMemory> {
         documents_meeting(alloc, self.rows, condition, universe)
+    }
+
+    fn meeting_by_number(
+        &self,
+        alloc: Global,
+        condition: &Condition,
+        universe: &DocSet,
+    ) -> Result<Vec<(u16, DocSet)>, NoMemory> {
+        documents_by_number(alloc, self.rows, condition, universe)
     }
 
     fn at_whole_cost(
