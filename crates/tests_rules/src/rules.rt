@@ -37,6 +37,15 @@ impl RuleSource for Bare {
         Err(NoMemory)
     }
 
+    fn meeting_by_number(
+        &self,
+        alloc: Global,
+        condition: &Condition,
+        universe: &DocSet,
+    ) -> Result<Vec<(u16, DocSet)>, NoMemory> {
+        Err(NoMemory)
+    }
+
     fn at_whole_cost(
         &self,
         alloc: Global,

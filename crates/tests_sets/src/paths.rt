@@ -1,15 +1,15 @@
-ghost use Rattle.std.specs.Prelude.{◌≡◌, ◌<◌, ◌≤◌, IfOk};
+ghost use Rattle.std.specs.Prelude.{◌≡◌, ◌≤◌, IfOk};
 ghost use Rattle.condition_graph.specs.Promise.{IsCondition, IsConditionGraph};
 
 use crate::checks::{check, check_ids, set_of};
 use condition_graph::{Condition, ConditionEdge, ConditionGraph};
 use doc_sets::DocSet;
 use path_costs::{PathCosts, Resolve};
-use search_base::{NoMemory, Word};
+use search_base::{NoMemory, Term, Word};
 use std::alloc::Global;
 use std::process::Abort;
 
-// The documents of two conditions, the second of which may be refused.
+// The documents with a word, and those with a word that begins so, which may be refused.
 #[derive(Drop)]
 struct TwoSets {
     first: DocSet,
@@ -18,15 +18,15 @@ struct TwoSets {
 }
 
 impl Resolve for TwoSets {
-    ghost use Rattle.std.specs.Prelude.{true, if◌then◌else◌, ◌==◌, refl};
+    ghost use Rattle.std.specs.Prelude.{true, if◌then◌else◌, refl};
     ghost use Rattle.doc_sets.specs.Sets.{has};
     ghost use Rattle.condition_graph.specs.declared.condition.Condition.TheVariants.{Free, Occurs, Pair};
     ghost use Rattle.condition_graph.specs.declared.condition.Condition.TheVariants.{AtRank, AtBucket};
 
     ghost meets = { λ sets condition d. elim condition [
       | Free ↦ true
-      | Occurs term ↦ true
-      | Pair left right prefix number ↦ if number == 0 then has sets.first.ids d else has sets.second.ids d
+      | Occurs term ↦ if term.prefix then has sets.second.ids d else has sets.first.ids d
+      | Pair left right prefix number ↦ true
       | AtRank term rank ↦ true
       | AtBucket term bucket ↦ true
     ] };
@@ -40,8 +40,8 @@ impl Resolve for TwoSets {
         universe: &DocSet,
     ) -> Result<DocSet, NoMemory> {
         match condition {
-            Condition::Pair { cost, .. } => {
-                if *cost == 0 {
+            Condition::Occurs(term) => {
+                if !term.prefix {
                     universe.and(alloc, &self.first)
                 } else if self.refuses {
                     Err(NoMemory)
@@ -52,28 +52,30 @@ impl Resolve for TwoSets {
             _ => Err(NoMemory),
         }
     }
+
+    fn docs_by_number(
+        &self,
+        alloc: Global,
+        condition: &Condition,
+        universe: &DocSet,
+    ) -> Result<Vec<(u16, DocSet)>, NoMemory> {
+        Err(NoMemory)
+    }
 }
 
-// An edge from the first node to the second.
-fn edge(alloc: Global, number: u8, cost: u32) -> Result<ConditionEdge, NoMemory>
-    requires number { number < 7 }
+// An edge from the first node to the second, for a word or for those that begin with it.
+fn edge(alloc: Global, prefix: bool, cost: u32) -> Result<ConditionEdge, NoMemory>
     ensures from { IfOk result (λ edge. edge.from ≡ 0) }
     ensures to { IfOk result (λ edge. edge.to ≡ 1) }
     ensures cost { IfOk result (λ edge. edge.cost ≡ cost) }
     ensures condition { IfOk result (λ edge. IsCondition edge.condition) }
 {
-    let left = Word::new(alloc, "dark")?;
-    let right = Word::new(alloc, "knight")?;
-    let condition = Condition::Pair {
-        left,
-        right,
-        right_prefix: false,
-        cost: number,
-    };
+    let word = Word::new(alloc, "dark")?;
+    let words = Vec::from_array(alloc, [word])?;
     Ok(ConditionEdge {
         from: 0,
         to: 1,
-        condition,
+        condition: Condition::Occurs(Term { words, prefix }),
         cost,
     })
 }
@@ -82,8 +84,8 @@ fn edge(alloc: Global, number: u8, cost: u32) -> Result<ConditionEdge, NoMemory>
 fn two_edges(alloc: Global) -> Result<ConditionGraph, NoMemory>
     ensures { IfOk result IsConditionGraph }
 {
-    let dear = edge(alloc, 1, 3)?;
-    let cheap = edge(alloc, 0, 1)?;
+    let dear = edge(alloc, true, 3)?;
+    let cheap = edge(alloc, false, 1)?;
     let edges = Vec::from_array(alloc, [dear, cheap])?;
     Ok(ConditionGraph { nodes: 2, edges })
 }
