@@ -280,7 +280,7 @@ hit-some index call id document costs found costs_are = by (row_at id index.stor
 
 -- the costs of a document as it is ranked
 pub costs-ranked : (index : Index) (call : SearchView) (ranking : Ranking) (document : Data) → IsRankingOf ranking index call → call.costs ≡ true
-    → tuple (rows_of document index.store.paths ranking.uses.items) ranking.query ranking.rules.items ≡ costs_shown index call document
+    → tuple (rows_of document index.store.paths ranking.uses.now) ranking.query ranking.rules.items ≡ costs_shown index call document
 costs-ranked index call ranking document h asked =
     ap₂ (λ uses rules. tuple (rows_of document index.store.paths uses) ranking.query rules) h.uses h.rules ∙ h.costs (rows_in index document)
     ∙ sym (cond-true call.costs (tuple_under (rows_in index document) (query_in index call) (rules_in index call)) None asked)

@@ -14,8 +14,9 @@ use Rattle.doc_store.specs.Sound.{Increase, AreApart, StandOnce, CoverRows, IsSo
 use Rattle.doc_store.proofs.SoundLemmas.{sound-all_stored}
 use Rattle.index_settings.specs.View.{SettingsView}
 use Rattle.row_index.specs.Changes.{IsTight}
-use Rattle.row_index.specs.Standing.{RowIndexView, StandsFor}
+use Rattle.row_index.specs.Standing.{StandsFor}
 use Rattle.search_settings.specs.Uses.{use_alike, uses_from}
+use Rattle.index_core.specs.declared.kept.KeptRows.{KeptRows}
 use Rattle.index_core.specs.Indexed.{indexed_of, IsIndexed}
 use Rattle.search_settings.proofs.UseLemmas.{uses-are}
 use Rattle.index_core.proofs.Stable.{all-stay}
@@ -43,18 +44,24 @@ admits st rs s admission paths h admitted is = record {
     after : paths ≡ (all_stored rs s).paths
     after = is ∙ sym admitted.added
 
-pub stored-indexed : {A E : Type 0} (r : Result A E) (st : SettingsView) (rs : List StoreRow) (s now : Store) (paths : List (List ℕ)) (uses : List PathUse) (rows : RowIndexView) → IsSound s → Admits st rs s paths → uses ≡ uses_from st 0 paths
-    → OnOk r (now ≡ all_stored rs s) → OnErr r (now ≡ s) → StandsFor rows (documents_of paths uses now.rows) → IsTight rows → IsIndexed rows st now
-stored-indexed (Ok x) st rs s now paths uses rows h a is done stays stands tight = subst (IsIndexed rows st) (sym done) (record {
-  stands = subst (λ ps. StandsFor rows (documents_of ps (uses_from st 0 ps) (all_stored rs s).rows)) a.after
-      (subst (λ (t : Store). StandsFor rows (documents_of paths (uses_from st 0 paths) t.rows)) done (subst (λ us. StandsFor rows (documents_of paths us now.rows)) is stands));
+pub stored-indexed : (st : SettingsView) (rs : List StoreRow) (s now : Store) (paths : List (List ℕ)) (kept : KeptRows) → Admits st rs s paths → kept.uses.items ≡ uses_from st 0 paths
+    → now ≡ all_stored rs s → StandsFor kept.rows (documents_of paths kept.uses.items now.rows) → IsTight kept.rows → IsIndexed kept st now
+stored-indexed st rs s now paths kept a is done stands tight = subst (IsIndexed kept st) (sym done) (record {
+  stands = subst (λ ps. StandsFor kept.rows (documents_of ps (uses_from st 0 ps) (all_stored rs s).rows)) a.after
+      (subst (λ (t : Store). StandsFor kept.rows (documents_of paths (uses_from st 0 paths) t.rows)) done (subst (λ us. StandsFor kept.rows (documents_of paths us now.rows)) is stands));
   tight = tight;
+  uses = is ∙ ap (uses_from st 0) a.after;
   sound = a.sound;
 })
-stored-indexed (Err e) st rs s now paths uses rows h a is done stays stands tight = subst (IsIndexed rows st) (sym stays) (record {
-  stands = subst (StandsFor rows) a.same
-      (subst (λ (t : Store). StandsFor rows (documents_of paths (uses_from st 0 paths) t.rows)) stays (subst (λ us. StandsFor rows (documents_of paths us now.rows)) is stands));
+
+-- where nothing was stored
+pub refused-indexed : (st : SettingsView) (rs : List StoreRow) (s now : Store) (paths : List (List ℕ)) (uses : List PathUse) (kept : KeptRows) → IsSound s → Admits st rs s paths → uses ≡ uses_from st 0 paths
+    → kept.uses.items ≡ uses_from st 0 s.paths → now ≡ s → StandsFor kept.rows (documents_of paths uses now.rows) → IsTight kept.rows → IsIndexed kept st now
+refused-indexed st rs s now paths uses kept h a is was stays stands tight = subst (IsIndexed kept st) (sym stays) (record {
+  stands = subst (StandsFor kept.rows) a.same
+      (subst (λ (t : Store). StandsFor kept.rows (documents_of paths (uses_from st 0 paths) t.rows)) stays (subst (λ us. StandsFor kept.rows (documents_of paths us now.rows)) is stands));
   tight = tight;
+  uses = was;
   sound = h;
 })
 
@@ -97,24 +104,30 @@ sound-left ids s h = record {
   paths_within = h.paths_within;
 }
 
-pub left-indexed : {A E : Type 0} (r : Result A E) (st : SettingsView) (ids : List (List ℕ)) (s now : Store) (uses : List PathUse) (rows : RowIndexView) → IsSound s → uses ≡ uses_from st 0 s.paths
-    → OnOk r (now ≡ without_named ids s) → OnErr r (now ≡ s) → StandsFor rows (documents_of now.paths uses now.rows) → IsTight rows → IsIndexed rows st now
-left-indexed (Ok x) st ids s now uses rows h is done stays stands tight = subst (IsIndexed rows st) (sym done) (record {
-  stands = subst (λ (t : Store). StandsFor rows (documents_of t.paths (uses_from st 0 s.paths) t.rows)) done (subst (λ us. StandsFor rows (documents_of now.paths us now.rows)) is stands);
+pub left-indexed : {A E : Type 0} (r : Result A E) (st : SettingsView) (ids : List (List ℕ)) (s now : Store) (kept : KeptRows) → IsSound s → kept.uses.items ≡ uses_from st 0 s.paths
+    → OnOk r (now ≡ without_named ids s) → OnErr r (now ≡ s) → StandsFor kept.rows (documents_of now.paths kept.uses.items now.rows) → IsTight kept.rows → IsIndexed kept st now
+left-indexed (Ok x) st ids s now kept h is done stays stands tight = subst (IsIndexed kept st) (sym done) (record {
+  stands = subst (λ (t : Store). StandsFor kept.rows (documents_of t.paths (uses_from st 0 s.paths) t.rows)) done (subst (λ us. StandsFor kept.rows (documents_of now.paths us now.rows)) is stands);
   tight = tight;
+  uses = is;
   sound = sound-left ids s h;
 })
-left-indexed (Err e) st ids s now uses rows h is done stays stands tight = subst (IsIndexed rows st) (sym stays) (record {
-  stands = subst (λ (t : Store). StandsFor rows (documents_of t.paths (uses_from st 0 s.paths) t.rows)) stays (subst (λ us. StandsFor rows (documents_of now.paths us now.rows)) is stands);
+left-indexed (Err e) st ids s now kept h is done stays stands tight = subst (IsIndexed kept st) (sym stays) (record {
+  stands = subst (λ (t : Store). StandsFor kept.rows (documents_of t.paths (uses_from st 0 s.paths) t.rows)) stays (subst (λ us. StandsFor kept.rows (documents_of now.paths us now.rows)) is stands);
   tight = tight;
+  uses = is;
   sound = h;
 })
 
 -- ---- other settings
 
-pub alike-indexed : (new old : SettingsView) (s : Store) (rows : RowIndexView) → use_alike new old s.paths ≡ true → IsIndexed rows old s → IsIndexed rows new s
-alike-indexed new old s rows alike h = record {
-  stands = subst (λ uses. StandsFor rows (documents_of s.paths uses s.rows)) (sym (uses-are (uses_from new 0 s.paths) (uses_from old 0 s.paths) alike)) h.stands;
+pub alike-indexed : (new old : SettingsView) (s : Store) (kept : KeptRows) → use_alike new old s.paths ≡ true → IsIndexed kept old s → IsIndexed kept new s
+alike-indexed new old s kept alike h = record {
+  stands = subst (λ uses. StandsFor kept.rows (documents_of s.paths uses s.rows)) (sym same) h.stands;
   tight = h.tight;
+  uses = h.uses ∙ sym same;
   sound = h.sound;
 }
+  where
+    same : uses_from new 0 s.paths ≡ uses_from old 0 s.paths
+    same = uses-are (uses_from new 0 s.paths) (uses_from old 0 s.paths) alike

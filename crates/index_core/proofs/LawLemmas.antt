@@ -2,7 +2,6 @@
 use Rattle.std.proofs.Common.{◌≡◌, ℕ, ◌<◌, ◌≤◌, ◌==◌, Bool, true, false, cond, List, [], ◌∷◌, ◌++◌, suc, length, map, filter, take, drop, Option, Some, None, Result, Ok, Err, refl, sym, ap, subst, ◌∙◌, arith, bytes_eq, append_assoc, append-nil}
 use Rattle.std.specs.Prelude.{not}
 use Rattle.std.specs.List.{flat_map, filter_map}
-use Rattle.index_core.specs.Updating.{updated_rows}
 use Rattle.std.proofs.lemmas.Bool.{cond-true, cond-false, cond_both}
 use Rattle.serde_json.specs.Data.{Data}
 use Rattle.doc_values.specs.Changes.{KindData}
@@ -41,7 +40,7 @@ use Rattle.index_core.proofs.Finding.{as_match, asked-are, IsThere, rows-there, 
 use Rattle.index_core.proofs.NoWord.{no_costs, empty-matching, listed, document_at, documents-read, hits-documents}
 use Rattle.std.proofs.lemmas.List.{drop-map, take-map}
 use Rattle.index_core.specs.Laws.{KeyStays, PathsStay, IdsAreSpentOnce, NoWordFindsTheList, LeavesRanking, OtherPatchesLeaveRanking, SettingsReadOnce}
-use Rattle.index_core.proofs.Updating.{updated-stored}
+use Rattle.index_core.proofs.Updating.{merged_rows, merged-stored}
 use Rattle.index_core.proofs.Settling.{uses-patched, rules-patched, alike-patched}
 
 -- ---- the key
@@ -123,7 +122,7 @@ grows-stored (r ∷ rs) s = grows-on s.paths (stored r s).paths (all_stored rs (
 
 grows-work : (work : Work) (s : Store) → Grows s.paths (after_work work s).paths
 grows-work (replace rows) s = grows-stored rows s
-grows-work (update rows) s = subst (λ (t : Store). Grows s.paths t.paths) (sym (updated-stored rows s)) (grows-stored (updated_rows rows s) s)
+grows-work (update rows) s = subst (λ (t : Store). Grows s.paths t.paths) (sym (merged-stored rows s)) (grows-stored (merged_rows rows s) s)
 grows-work (remove ids) s = grows-same s.paths
 grows-work clear s = grows-same s.paths
 grows-work (patch members) s = grows-same s.paths
@@ -149,7 +148,7 @@ Spent id s after = (s.next_id ≤ after.next_id) × (row_at id after.rows ≡ No
 
 spent-work : (work : Work) (s : Store) (id : ℕ) → id < s.next_id → row_at id s.rows ≡ None → Spent id s (after_work work s)
 spent-work (replace rows) s id low gone = (next_id-grows rows s, never_given_again rows s id low gone)
-spent-work (update rows) s id low gone = subst (Spent id s) (sym (updated-stored rows s)) (next_id-grows (updated_rows rows s) s, never_given_again (updated_rows rows s) s id low gone)
+spent-work (update rows) s id low gone = subst (Spent id s) (sym (merged-stored rows s)) (next_id-grows (merged_rows rows s) s, never_given_again (merged_rows rows s) s id low gone)
 spent-work (remove ids) s id low gone = (omega arith, absent-filter (λ r. not (is_named ids r)) id s.rows gone)
 spent-work clear s id low gone = (omega arith, refl)
 spent-work (patch members) s id low gone = (omega arith, gone)

@@ -3,11 +3,16 @@ pub mod HitLemmas
 pub mod Finding
 pub mod Opening
 pub mod Tracing
+pub mod EachOnce
 pub mod InOrder
 pub mod NoWord
 pub mod Stable
 pub mod Indexing
 pub mod Updating
+pub mod Reading
+pub mod Merging
+pub mod OwnPaths
+pub mod Replaced
 pub mod Settling
 pub mod LawLemmas
 pub mod StayLemmas

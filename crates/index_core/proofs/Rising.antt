@@ -23,23 +23,23 @@ use Rattle.doc_values.specs.Stored.{document_at, at_value, if_text, put_all, mer
 use Rattle.doc_values.specs.Walk.{document_of, members_in, walk_of_members, first_broken}
 use Rattle.index_core.specs.Plans.{over}
 
-abbrev order : List ℕ → List ℕ → Ordering
+abbrev pub order : List ℕ → List ℕ → Ordering
 order k l = slice_cmp nat_cmp k l
 
 -- the name is below all these
-abbrev IsBelow : List ℕ → Members → Type 0
+abbrev pub IsBelow : List ℕ → Members → Type 0
 IsBelow k no_members = Unit {0}
 IsBelow k (member l e ms) = (order k l ≡ Less) × IsBelow k ms
 
-abbrev Rise : Members → Type 0
+abbrev pub Rise : Members → Type 0
 Rise no_members = Unit {0}
 Rise (member l e ms) = IsBelow l ms × Rise ms
 
-below-lower : (k l : List ℕ) (ms : Members) → order k l ≡ Less → IsBelow l ms → IsBelow k ms
+pub below-lower : (k l : List ℕ) (ms : Members) → order k l ≡ Less → IsBelow l ms → IsBelow k ms
 below-lower k l no_members less h = tt
 below-lower k l (member m e ms) less h = (nat_list_cmp_total.trans k l m less h.0, below-lower k l ms less h.1)
 
-turned : (k l : List ℕ) → order k l ≡ Greater → order l k ≡ Less
+pub turned : (k l : List ℕ) → order k l ≡ Greater → order l k ≡ Less
 turned k l e = nat_list_cmp_total.antisymm l k ∙ ap ordering_reverse e
 
 -- ---- what is put in its place
@@ -53,7 +53,7 @@ below-put j k d (member l e ms) less h = by (order k l) (below-put j k d ms less
     by Equal later = h
     by Greater later = (h.0, later)
 
-rise-put : (k : List ℕ) (d : Data) (ms : Members) → Rise ms → Rise (put k d ms)
+pub rise-put : (k : List ℕ) (d : Data) (ms : Members) → Rise ms → Rise (put k d ms)
 rise-put k d no_members h = (tt, tt)
 rise-put k d (member l e ms) h = by (order k l) refl (rise-put k d ms h.1)
   where
@@ -73,7 +73,7 @@ members-rise json.no_members found ms h is = let same : found ≡ ms = cc in sub
 members-rise (json.member k j js) found ms h is = put-each js k found ms h (λ more rise is. members-rise js more ms rise is) (of_json j) is
 
 -- the names of an object rise; what is no object has none
-abbrev NamesRise : Data → Type 0
+abbrev pub NamesRise : Data → Type 0
 NamesRise d = Rise (members_in d)
 
 of-object : (o : Option Members) (d : Data) → ((ms : Members) → o ≡ Some ms → Rise ms) → option_map object o ≡ Some d → NamesRise d
@@ -125,12 +125,12 @@ text-rises text true d is = at_value-rises text (read text) d (λ v e. read-rise
 text-rises text false d is = absurd (cc)
 
 -- a document that is read back from its text
-document-rises : (d : Data) → document_at (compact_text d) ≡ Some d → NamesRise d
+pub document-rises : (d : Data) → document_at (compact_text d) ≡ Some d → NamesRise d
 document-rises d is = text-rises (compact_text d) (is_utf8 (compact_text d)) d is
 
 -- ---- one over another
 
-equal : (k l : List ℕ) → order k l ≡ Equal → k ≡ l
+pub equal : (k l : List ℕ) → order k l ≡ Equal → k ≡ l
 equal k l e = (bytes_eq-Decides k l).0 (sym (is_eq-slice_cmp k l) ∙ ap is_eq e)
 
 apart : (k l : List ℕ) → order k l ≡ Less → k ≡ l → ⊥

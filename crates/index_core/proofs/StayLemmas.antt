@@ -18,10 +18,9 @@ use Rattle.doc_index.specs.Named.{is_named}
 use Rattle.index_core.specs.Index.{Index}
 use Rattle.index_core.specs.PlanView.{PlanView, Work, replace, update, remove, clear, patch, reset}
 use Rattle.index_core.specs.Plans.{key_for, rows_for, plan_of, documents_planned, patch_planned, planned, after_work}
-use Rattle.index_core.specs.Updating.{updated_rows}
 use Rattle.index_core.specs.Laws.{Spares, DocumentsStay}
 use Rattle.index_core.proofs.LawLemmas.{bind_ok, applied-is}
-use Rattle.index_core.proofs.Updating.{updated-stored}
+use Rattle.index_core.proofs.Updating.{merged_rows, merged-stored}
 
 -- the work takes no document with this external id away
 abbrev SparesIn : Work → List ℕ → Type 0
@@ -76,7 +75,7 @@ stays-filter external ids (r ∷ rows) none = by (bytes_eq external r.external) 
 
 stays-work : (work : Work) (s : Store) (external : List ℕ) (id : ℕ) → SparesIn work external → id_of external s.rows ≡ Some id → id_of external (after_work work s).rows ≡ Some id
 stays-work (replace rows) s external id h there = ids_stay rows s external id there
-stays-work (update rows) s external id h there = subst (λ (t : Store). id_of external t.rows ≡ Some id) (sym (updated-stored rows s)) (ids_stay (updated_rows rows s) s external id there)
+stays-work (update rows) s external id h there = subst (λ (t : Store). id_of external t.rows ≡ Some id) (sym (merged-stored rows s)) (ids_stay (merged_rows rows s) s external id there)
 stays-work (remove ids) s external id h there = stays-filter external ids s.rows h ∙ there
 stays-work clear s external id h there = absurd h
 stays-work (patch members) s external id h there = there

@@ -56,7 +56,7 @@ places-listed front (x ∷ xs) d =
     longer = let e = length-append front (x ∷ []) in omega (arith, e)
 
 -- the entries of a document that matches are its costs
-entries-are : (i : Index) (call : SearchView) (id : ℕ) (all : List CostKey) (n : ℕ) → costs_at i call id ≡ Some all → n ≡ length all → costs before (index.entry_at i call) n 0 id ≡ all
+pub entries-are : (i : Index) (call : SearchView) (id : ℕ) (all : List CostKey) (n : ℕ) → costs_at i call id ≡ Some all → n ≡ length all → costs before (index.entry_at i call) n 0 id ≡ all
 entries-are i call id all n is count = at-levels n 0 ∙ ap (λ m. costs before (λ level (_ : ℕ). get_or all level (Number 0)) m 0 id) count ∙ places-listed [] all id
   where
     at-levels : (n level : ℕ) → costs before (index.entry_at i call) n level id ≡ costs before (λ level (_ : ℕ). get_or all level (Number 0)) n level id
@@ -68,11 +68,11 @@ entries-are i call id all n is count = at-levels n 0 ∙ ap (λ m. costs before 
 -- ---- documents that match
 
 -- a document that matches is there and has its costs
-record Matches (i : Index) (call : SearchView) (m : Matching) : Type 0 where
+pub record Matches (i : Index) (call : SearchView) (m : Matching) : Type 0 where
   pub there : row_at m.row.id i.store.rows ≡ Some m.row
   pub costs : costs_in i call m.row.document ≡ Some m.costs
 
-matching-match : (i : Index) (call : SearchView) (rows : List Row) → AllByRecursion (IsThere i.store.rows) rows → AllByRecursion (Matches i call) (filter_map (match_of i call) rows)
+pub matching-match : (i : Index) (call : SearchView) (rows : List Row) → AllByRecursion (IsThere i.store.rows) rows → AllByRecursion (Matches i call) (filter_map (match_of i call) rows)
 matching-match i call [] h = tt
 matching-match i call (r ∷ rows) h = by (costs_in i call r.document) refl (matching-match i call rows h.1)
   where
@@ -110,7 +110,7 @@ tuple-entries rows graph rules all is = by (cost_of rows.places graph.levels) re
         let listed : map (entry rows graph level) rules ≡ all = cc in
         (ap (λ o. map (entry rows graph (unwrap_or o (length graph.levels))) rules) e ∙ listed, length-mapped (entry rows graph level) rules ∙ ap length listed)
 
-where-passing : (b : Bool) (o : Option (List CostKey)) (all : List CostKey) → cond b o None ≡ Some all → o ≡ Some all
+pub where-passing : (b : Bool) (o : Option (List CostKey)) (all : List CostKey) → cond b o None ≡ Some all → o ≡ Some all
 where-passing true o all is = is
 where-passing false o all is = absurd (cc)
 

@@ -1,37 +1,104 @@
--- The documents of an update, one after the other.
-use Rattle.std.proofs.Common.{◌≡◌, ◌≢◌, ℕ, zero, suc, ◌<◌, ◌≤◌, ◌==◌, Bool, true, false, cond, ◌||◌, List, [], ◌∷◌, ◌++◌, length, map, filter, get_or, Option, None, Some, refl, sym, ap, ap₂, subst, ◌∙◌, arith, append_assoc}
-use Rattle.std.specs.Prelude.{bytes_eq, slice_get, nat_lt}
-use Rattle.std.specs.Option.{option_map, is_some}
-use Rattle.std.specs.List.{list_any}
+-- The documents of an update, one after the other: what waits, and what is stored.
+use Rattle.std.proofs.Common.{◌≡◌, ℕ, suc, ◌+◌, ◌==◌, ◌||◌, Bool, true, false, cond, List, [], ◌∷◌, ◌++◌, length, map, take, Option, None, Some, refl, sym, ap, ap₂, subst, ◌∙◌, arith, append_assoc}
+use Rattle.std.specs.Prelude.{bytes_eq, not, IfSome}
+use Rattle.std.specs.Option.{is_some}
 use Rattle.std.specs.BTreeMap.{BTreeMap, get, UpdatesBy}
 use Rattle.std.specs.Cmp.Lexicographic.{slice_cmp}
 use Rattle.std.specs.Ordering.{nat_cmp}
 use Rattle.std.proofs.lemmas.Map.Text.{is_eq-slice_cmp}
-use Rattle.std.proofs.lemmas.Bool.{cond-true, cond-false, cond_both, eq-eqb, ne_eqb, eqb-false, ltb-true, ltb-false}
-use Rattle.std.proofs.Math.Bool.{or-true}
-use Rattle.std.specs.List.Sorted.{IsNonDecreasingBy, IsPartitionPoint}
+use Rattle.std.proofs.lemmas.Bool.{cond-true, cond-false, cond_both, eq-eqb, ne_eqb, eqb-true, eqb-false}
 use Rattle.serde_json.specs.Data.{Data}
 use Rattle.doc_store.specs.declared.rows.StoreRow.{StoreRow}
+use Rattle.doc_store.specs.Paths.{has_path, last_place, place_or}
+use Rattle.doc_store.specs.Store.{Row, Store, put, stored, all_stored, externals}
+use Rattle.doc_store.proofs.NameLemmas.{same_bytes, bytes_same, bytes_eq-turned}
+use Rattle.doc_store.proofs.PathLemmas.{last_place-append, place-has}
 use Rattle.doc_index.specs.declared.named.Stored.{Stored}
-use Rattle.doc_index.specs.Named.{is_named, named, stored_of, row_of, AreRead}
-use Rattle.doc_store.specs.Store.{Row, Store, put, stored, all_stored, id_of, row_at, externals}
-use Rattle.doc_store.specs.Sound.{Increase, IsSound}
-use Rattle.doc_store.proofs.LawLemmas.{id_of-low}
-use Rattle.doc_store.proofs.NameLemmas.{same_bytes, bytes_eq-turned}
-use Rattle.postings.proofs.WordLemmas.{bytes_itself}
+use Rattle.doc_index.specs.Named.{named, AreRead}
 use Rattle.index_core.specs.Index.{document_under}
 use Rattle.index_core.specs.Plans.{over, updating, all_updated}
-use Rattle.index_core.specs.Updating.{updated_rows, or_else, last_of, document_at, ArePlaces, IsRead}
+use Rattle.index_core.specs.Updating.{comes, updated_rows, row_of, is_place, waits_after, ArePlaces, IsRead}
+use Rattle.index_core.proofs.Merging.{merge-grouped, merge-rises}
+use Rattle.index_core.proofs.Rising.{NamesRise}
 
 -- ---- an update is documents stored one after the other
 
-pub updated-stored : (rs : List StoreRow) (s : Store) → all_updated rs s ≡ all_stored (updated_rows rs s) s
-updated-stored [] s = refl
-updated-stored (r ∷ rs) s = updated-stored rs (stored (updating r s) s)
+-- each document over the one that is stored by then
+abbrev pub merged_rows : List StoreRow → Store → List StoreRow
+merged_rows [] s = []
+merged_rows (r ∷ rs) s = updating r s ∷ merged_rows rs (stored (updating r s) s)
 
-all_stored-behind : (rows : List StoreRow) (r : StoreRow) (s : Store) → all_stored (rows ++ r ∷ []) s ≡ stored r (all_stored rows s)
-all_stored-behind [] r s = refl
-all_stored-behind (x ∷ rows) r s = all_stored-behind rows r (stored x s)
+pub merged-stored : (rs : List StoreRow) (s : Store) → all_updated rs s ≡ all_stored (merged_rows rs s) s
+merged-stored [] s = refl
+merged-stored (r ∷ rs) s = merged-stored rs (stored (updating r s) s)
+
+-- ---- the last place of an external id
+
+pub places-none : (places : BTreeMap (List ℕ) ℕ) → ((q : List ℕ) → get (slice_cmp nat_cmp) places q ≡ None) → ArePlaces places []
+places-none places empty = record { each = empty }
+
+pub map-behind : (rows : List StoreRow) (r : StoreRow) → externals (rows ++ r ∷ []) ≡ externals rows ++ r.external ∷ []
+map-behind [] r = refl
+map-behind (x ∷ rows) r = ap (λ v. x.external ∷ v) (map-behind rows r)
+
+length-externals : (rows : List StoreRow) → length (externals rows) ≡ length rows
+length-externals [] = refl
+length-externals (x ∷ rows) = ap suc (length-externals rows)
+
+-- the value under one key changes
+pub found : {A : Type 0} (old new : BTreeMap (List ℕ) A) (key : List ℕ) (o : Option A) → UpdatesBy (slice_cmp nat_cmp) (slice_cmp nat_cmp key) old new o → (q : List ℕ)
+    → get (slice_cmp nat_cmp) new q ≡ cond (bytes_eq key q) o (get (slice_cmp nat_cmp) old q)
+found old new key o puts q = puts.0 q ∙ ap (λ b. cond b o (get (slice_cmp nat_cmp) old q)) (is_eq-slice_cmp key q)
+
+pub places-behind : (old new : BTreeMap (List ℕ) ℕ) (key : List ℕ) (rows more : List StoreRow) (r : StoreRow) (place : ℕ) → ArePlaces old rows → key ≡ r.external → place ≡ length rows → more ≡ rows ++ r ∷ []
+    → UpdatesBy (slice_cmp nat_cmp) (slice_cmp nat_cmp key) old new (Some place) → ArePlaces new more
+places-behind old new key rows more r place h is at behind puts = record {
+  each = λ q.
+      found old new key (Some place) puts q ∙ ap₂ (λ k n. cond (bytes_eq k q) (Some n) (get (slice_cmp nat_cmp) old q)) is (at ∙ sym (length-externals rows))
+      ∙ ap (cond (bytes_eq r.external q) (Some (length (externals rows)))) (h.each q)
+      ∙ sym (ap (last_place q) (ap externals behind ∙ map-behind rows r) ∙ last_place-append q r.external (externals rows));
+}
+
+-- the last of these names is the first, where it is among the others no more
+place-first : (q : List ℕ) (names : List (List ℕ)) → is_place (last_place q (q ∷ names)) 0 ≡ not (has_path q names)
+place-first q names = by (last_place q names) refl (has_path q names) refl
+  where
+    by : (o : Option ℕ) → last_place q names ≡ o → (b : Bool) → has_path q names ≡ b → is_place (place_or (last_place q names) (cond (bytes_eq q q) (Some 0) None)) 0 ≡ not (has_path q names)
+    by None at true is = absurd (let bad = sym (ap is_some at) ∙ place-has q names ∙ is in cc)
+    by None at false is = ap₂ (λ o b. is_place (place_or o (cond b (Some 0) None)) 0) at (bytes_same q q refl) ∙ sym (ap not is)
+    by (Some p) at true is = ap (λ o. is_place (place_or o (cond (bytes_eq q q) (Some 0) None)) 0) at ∙ ne_eqb (suc p) 0 (λ e. absurd (omega (arith, e))) ∙ sym (ap not is)
+    by (Some p) at false is = absurd (let bad = sym (ap is_some at) ∙ place-has q names ∙ is in cc)
+
+eqb-suc : (a b : ℕ) → (suc a == suc b) ≡ (a == b)
+eqb-suc a b = by (a == b) refl
+  where
+    by : (c : Bool) → (a == b) ≡ c → (suc a == suc b) ≡ (a == b)
+    by true e = eq-eqb (suc a) (suc b) (ap suc (eqb-true a b e)) ∙ sym e
+    by false e = ne_eqb (suc a) (suc b) (λ same. absurd (eqb-false a b e (omega (arith, same)))) ∙ sym e
+
+suc-plus : (n at : ℕ) → suc n + at ≡ suc (n + at)
+suc-plus n at = omega arith
+
+place-behind : (q : List ℕ) (names more : List (List ℕ)) → has_path q more ≡ true → (at : ℕ) → is_place (last_place q (names ++ more)) (length names + at) ≡ is_place (last_place q more) at
+place-behind q [] more h at = ap (is_place (last_place q more)) zero-plus
+  where
+    zero-plus : 0 + at ≡ at
+    zero-plus = omega arith
+place-behind q (n ∷ names) more h at = by (last_place q (names ++ more)) refl (place-behind q names more h at)
+  where
+    by : (o : Option ℕ) → last_place q (names ++ more) ≡ o → is_place (last_place q (names ++ more)) (length names + at) ≡ is_place (last_place q more) at
+        → is_place (place_or (last_place q (names ++ more)) (cond (bytes_eq n q) (Some 0) None)) (suc (length names) + at) ≡ is_place (last_place q more) at
+    by (Some p) is again = ap (λ o. is_place (place_or o (cond (bytes_eq n q) (Some 0) None)) (suc (length names) + at)) is
+        ∙ ap (λ n. suc p == n) (suc-plus (length names) at) ∙ eqb-suc p (length names + at) ∙ sym (ap (λ o. is_place o (length names + at)) is) ∙ again
+    by None is again = absurd (let bad : false ≡ true = sym (ap is_some is) ∙ place-has q (names ++ more) ∙ has-behind q names more h in cc)
+      where
+        has-behind : (q : List ℕ) (names more : List (List ℕ)) → has_path q more ≡ true → has_path q (names ++ more) ≡ true
+        has-behind q [] more h = h
+        has-behind q (n ∷ names) more h = ap (λ b. bytes_eq q n || b) (has-behind q names more h) ∙ or-true (bytes_eq q n)
+          where
+            or-true : (b : Bool) → (b || true) ≡ true
+            or-true true = refl
+            or-true false = refl
 
 -- ---- the document of an external id
 
@@ -54,251 +121,140 @@ under-put new next (r ∷ rows) q = by (bytes_eq new.external r.external) refl (
     by false sb true sd again = ap (document_under q) (cond-false _ _ _ (sym sb)) ∙ cond-false _ _ _ (apart' new.external r.external q (sym sb) (sym sd)) ∙ again ∙ cond-true _ _ _ (sym sd) ∙ sym (cond-true _ _ _ (sym sd))
     by false sb false sd again = ap (document_under q) (cond-false _ _ _ (sym sb)) ∙ ap (λ v. cond (bytes_eq q r.external) (Some r.document) v) (again ∙ cond-false _ _ _ (sym sd)) ∙ sym (cond-false _ _ _ (sym sd))
 
-or_else-join : (a : Option Data) (b : Bool) (d : Data) (o : Option Data) → or_else a (cond b (Some d) o) ≡ or_else (or_else a (cond b (Some d) None)) o
-or_else-join (Some x) b d o = refl
-or_else-join None true d o = refl
-or_else-join None false d o = refl
+-- ---- what waits
 
-under-stored : (rows : List StoreRow) (s : Store) (q : List ℕ) → document_under q (all_stored rows s).rows ≡ or_else (last_of q rows) (document_under q s.rows)
-under-stored [] s q = refl
-under-stored (r ∷ rows) s q =
-    under-stored rows (stored r s) q ∙ ap (or_else (last_of q rows)) (under-put r s.next_id s.rows q) ∙ or_else-join (last_of q rows) (bytes_eq r.external q) r.document (document_under q s.rows)
+abbrev Waiting : Type 0
+Waiting = BTreeMap (List ℕ) Data
 
--- ---- the last document of an external id, behind the others
+abbrev waits : Waiting → List ℕ → Option Data
+waits waiting q = get (slice_cmp nat_cmp) waiting q
 
-last-behind : (rows : List StoreRow) (r : StoreRow) (q : List ℕ) → last_of q (rows ++ r ∷ []) ≡ cond (bytes_eq r.external q) (Some r.document) (last_of q rows)
-last-behind [] r q = by (bytes_eq r.external q)
-  where
-    by : (b : Bool) → or_else None (cond b (Some r.document) None) ≡ cond b (Some r.document) None
-    by true = refl
-    by false = refl
-last-behind (x ∷ rows) r q = ap (λ o. or_else o (cond (bytes_eq x.external q) (Some x.document) None)) (last-behind rows r q) ∙ by (bytes_eq r.external q) (last_of q rows)
-  where
-    by : (b : Bool) (o : Option Data) → or_else (cond b (Some r.document) o) (cond (bytes_eq x.external q) (Some x.document) None) ≡ cond b (Some r.document) (or_else o (cond (bytes_eq x.external q) (Some x.document) None))
-    by true o = refl
-    by false o = refl
+-- the stored document under what waits
+abbrev so_far : Option Data → Option Data → Option Data
+so_far old None = old
+so_far old (Some d) = Some (over old d)
 
-get-behind : (rows : List StoreRow) (r : StoreRow) → slice_get (rows ++ r ∷ []) (length rows) ≡ Some r
-get-behind [] r = refl
-get-behind (x ∷ rows) r = get-behind rows r
+over-grouped : (old waiting : Option Data) (new : Data) → IfSome waiting NamesRise → over (so_far old waiting) new ≡ over old (over waiting new)
+over-grouped old None new h = refl
+over-grouped None (Some d) new h = refl
+over-grouped (Some o) (Some d) new h = merge-grouped o d new h
 
-get-before : (rows : List StoreRow) (r : StoreRow) (i : ℕ) → i < length rows → slice_get (rows ++ r ∷ []) i ≡ slice_get rows i
-get-before [] r i h = absurd (omega arith)
-get-before (x ∷ rows) r zero h = refl
-get-before (x ∷ rows) r (suc i) h = get-before rows r i (omega arith)
+over-rises : (waiting : Option Data) (new : Data) → IfSome waiting NamesRise → NamesRise new → NamesRise (over waiting new)
+over-rises None new h n = n
+over-rises (Some d) new h n = merge-rises d new h
+
+-- ---- the loop
+
+pub record Updates (all left : List StoreRow) (s : Store) (rows : List StoreRow) (waiting : Waiting) : Type 0 where
+  pub done : List StoreRow
+  pub order : done ++ left ≡ all
+  pub many : length rows ≡ length done
+  pub told : rows ++ updated_rows left (all_updated done s) ≡ updated_rows all s
+  pub waits_so : (q : List ℕ) → comes q left ≡ true → document_under q (all_updated done s).rows ≡ so_far (document_under q s.rows) (waits waiting q)
+  pub rise : (q : List ℕ) → IfSome (waits waiting q) NamesRise
+
+pub updates-start : (all : List StoreRow) (s : Store) (waiting : Waiting) → ((q : List ℕ) → waits waiting q ≡ None) → Updates all all s [] waiting
+updates-start all s waiting empty = record {
+  done = [];
+  order = refl;
+  many = refl;
+  told = refl;
+  waits_so = λ q c. ap (so_far (document_under q s.rows)) (sym (empty q));
+  rise = λ q. subst (λ o. IfSome o NamesRise) (sym (empty q)) tt;
+}
+
+all_updated-behind : (done : List StoreRow) (r : StoreRow) (s : Store) → all_updated (done ++ r ∷ []) s ≡ stored (updating r (all_updated done s)) (all_updated done s)
+all_updated-behind [] r s = refl
+all_updated-behind (x ∷ done) r s = all_updated-behind done r (stored (updating x s) s)
 
 length-behind : (rows : List StoreRow) (r : StoreRow) → length (rows ++ r ∷ []) ≡ suc (length rows)
 length-behind [] r = refl
 length-behind (x ∷ rows) r = ap suc (length-behind rows r)
 
-pub places-behind : (old new : BTreeMap (List ℕ) ℕ) (key : List ℕ) (rows : List StoreRow) (r : StoreRow) → ArePlaces old rows → key ≡ r.external
-    → UpdatesBy (slice_cmp nat_cmp) (slice_cmp nat_cmp key) old new (Some (length rows)) → ArePlaces new (rows ++ r ∷ [])
-places-behind old new key rows r h is puts = record {
-  each = λ q. at q (bytes_eq r.external q) refl;
-  within = λ q place e. inside q place (bytes_eq r.external q) refl e;
-}
+externals-append : (xs ys : List StoreRow) → externals (xs ++ ys) ≡ externals xs ++ externals ys
+externals-append [] ys = refl
+externals-append (x ∷ xs) ys = ap (λ v. x.external ∷ v) (externals-append xs ys)
+
+-- whether the next document is the last of its external id
+last-is : (places : BTreeMap (List ℕ) ℕ) (all done rest : List StoreRow) (r : StoreRow) (at : ℕ) → ArePlaces places all → done ++ r ∷ rest ≡ all → at ≡ length done
+    → is_place (get (slice_cmp nat_cmp) places r.external) at ≡ not (comes r.external rest)
+last-is places all done rest r at h order is =
+    ap₂ is_place (h.each r.external ∙ ap (λ v. last_place r.external (externals v)) (sym order) ∙ ap (last_place r.external) (externals-append done (r ∷ rest))) (is ∙ sym (length-externals done) ∙ plus-zero (length (externals done)))
+    ∙ place-behind r.external (externals done) (r.external ∷ externals rest) (ap (λ b. b || comes r.external rest) (bytes_same r.external r.external refl)) 0
+    ∙ place-first r.external (externals rest)
   where
-    found : (q : List ℕ) → get (slice_cmp nat_cmp) new q ≡ cond (bytes_eq r.external q) (Some (length rows)) (get (slice_cmp nat_cmp) old q)
-    found q = puts.0 q ∙ ap (λ b. cond b (Some (length rows)) (get (slice_cmp nat_cmp) old q)) (is_eq-slice_cmp key q ∙ ap (λ k. bytes_eq k q) is)
+    plus-zero : (n : ℕ) → n ≡ n + 0
+    plus-zero n = omega arith
 
-    same_some : (a b : ℕ) → Some a ≡ Some b → a ≡ b
-    same_some a b e = cc
-
-    stays : (o : Option ℕ) → ((place : ℕ) → o ≡ Some place → place < length rows) → document_at (rows ++ r ∷ []) o ≡ document_at rows o
-    stays None less = refl
-    stays (Some place) less = ap (option_map (λ (v : StoreRow). v.document)) (get-before rows r place (less place refl))
-
-    at : (q : List ℕ) (b : Bool) → bytes_eq r.external q ≡ b → document_at (rows ++ r ∷ []) (get (slice_cmp nat_cmp) new q) ≡ last_of q (rows ++ r ∷ [])
-    at q true e = ap (document_at (rows ++ r ∷ [])) (found q ∙ cond-true _ _ _ e) ∙ ap (option_map (λ (v : StoreRow). v.document)) (get-behind rows r) ∙ sym (last-behind rows r q ∙ cond-true _ _ _ e)
-    at q false e = ap (document_at (rows ++ r ∷ [])) (found q ∙ cond-false _ _ _ e) ∙ stays (get (slice_cmp nat_cmp) old q) (h.within q) ∙ h.each q ∙ sym (last-behind rows r q ∙ cond-false _ _ _ e)
-
-    inside : (q : List ℕ) (place : ℕ) (b : Bool) → bytes_eq r.external q ≡ b → get (slice_cmp nat_cmp) new q ≡ Some place → place < length (rows ++ r ∷ [])
-    inside q place true e got = let same = same_some (length rows) place (sym (found q ∙ cond-true _ _ _ e) ∙ got) in omega (arith, length-behind rows r, same)
-    inside q place false e got = let less = h.within q place (sym (found q ∙ cond-false _ _ _ e) ∙ got) in omega (arith, length-behind rows r, less)
-
--- ---- the external ids of an update
-
-pub updated-ids : (rs : List StoreRow) (s : Store) → externals (updated_rows rs s) ≡ externals rs
-updated-ids [] s = refl
-updated-ids (r ∷ rs) s = ap (λ v. r.external ∷ v) (updated-ids rs (stored (updating r s) s))
-
--- ---- stored documents that were read
-
--- the first of these with an internal id
-abbrev text_at : ℕ → List Stored → Option Data
-text_at id [] = None
-text_at id (x ∷ xs) = cond (id == x.id.0) (Some x.text) (text_at id xs)
-
--- the internal ids rise
-abbrev Rise : ℕ → List Stored → Type 0
-Rise low [] = Unit {0}
-Rise low (x ∷ xs) = (low ≤ x.id.0) × Rise (suc x.id.0) xs
-
-text-same : (id : ℕ) (stored : List Stored) (rows : List Row) → AreRead stored rows → text_at id stored ≡ option_map (λ r. r.document) (row_at id rows)
-text-same id [] [] h = refl
-text-same id [] (r ∷ rows) h = absurd (cc)
-text-same id (x ∷ xs) [] h = absurd (cc)
-text-same id (x ∷ xs) (r ∷ rows) h =
-    let one : stored_of x ≡ row_of r = cc in
-    let more : map stored_of xs ≡ map row_of rows = cc in
-    ap₂ (λ n d. cond (id == n) (Some d) (text_at id xs)) (ap (λ p. p.0) one) (ap (λ p. p.1) one) ∙ ap (cond (id == r.id) (Some r.document)) (text-same id xs rows more) ∙ by (id == r.id)
-  where
-    by : (b : Bool) → cond b (Some r.document) (option_map (λ r. r.document) (row_at id rows)) ≡ option_map (λ r. r.document) (cond b (Some r) (row_at id rows))
-    by true = refl
-    by false = refl
-
-rise-read : (p : Row → Bool) (stored : List Stored) (low : ℕ) (rows : List Row) (high : ℕ) → Increase low rows high → AreRead stored (filter p rows) → Rise low stored
-rise-read p stored low [] high h read = nothing stored read
-  where
-    nothing : (stored : List Stored) → AreRead stored [] → Rise low stored
-    nothing [] read = tt
-    nothing (x ∷ xs) read = absurd (cc)
-rise-read p stored low (r ∷ rows) high h read = by (p r) stored read (λ stored. rise-read p stored (suc r.id) rows high h.1)
-  where
-    lower : (stored : List Stored) → Rise (suc r.id) stored → Rise low stored
-    lower [] up = tt
-    lower (x ∷ xs) up = (omega (arith, h.0, up.0), up.1)
-
-    by : (b : Bool) (stored : List Stored) → AreRead stored (cond b (r ∷ filter p rows) (filter p rows)) → ((stored : List Stored) → AreRead stored (filter p rows) → Rise (suc r.id) stored) → Rise low stored
-    by false stored read again = lower stored (again stored read)
-    by true [] read again = tt
-    by true (x ∷ xs) read again =
-        let one : stored_of x ≡ row_of r = cc in
-        let same : x.id.0 ≡ r.id = ap (λ p. p.0) one in
-        let more : map stored_of xs ≡ map row_of (filter p rows) = cc in
-        (omega (arith, h.0, same), subst (λ n. Rise (suc n) xs) (sym same) (again xs more))
-
-abbrev pub id_in : Stored → ℕ
-id_in x = x.id.0
-
-rise-first : (low : ℕ) (x : Stored) (xs : List Stored) (k : ℕ) (d : Stored) → Rise low (x ∷ xs) → k < suc (length xs) → x.id.0 ≤ id_in (get_or (x ∷ xs) k d)
-rise-first low x xs zero d h less = omega arith
-rise-first low x [] (suc k) d h less = absurd (omega (arith, less))
-rise-first low x (y ∷ ys) (suc k) d h less = let rest = rise-first (suc x.id.0) y ys k d h.1 (omega (arith, less)) in let up = h.1.0 in omega (arith, rest, up)
-
-rise-sorted : (low : ℕ) (xs : List Stored) → Rise low xs → IsNonDecreasingBy id_in xs
-rise-sorted low [] h i j d le less = absurd (omega (arith, less))
-rise-sorted low (x ∷ xs) h zero j d le less = rise-first low x xs j d h less
-rise-sorted low (x ∷ xs) h (suc i) zero d le less = absurd (omega (arith, le))
-rise-sorted low (x ∷ xs) h (suc i) (suc j) d le less = rise-sorted (suc x.id.0) xs h.1 i j d (omega (arith, le)) (omega (arith, less))
-
-above-none : (id low : ℕ) (xs : List Stored) → Rise low xs → id < low → text_at id xs ≡ None
-above-none id low [] h less = refl
-above-none id low (x ∷ xs) h less = cond-false (id == x.id.0) _ _ (ne_eqb id x.id.0 (λ e. absurd (omega (arith, h.0, less)))) ∙ above-none id (suc x.id.0) xs h.1 (omega (arith, h.0, less))
-
--- the first that is not below an internal id has it, where one has it
-abbrev pub IsPoint : ℕ → List Stored → ℕ → Type 0
-IsPoint id xs i = IsPartitionPoint (λ x. nat_lt (id_in x) id ≡ true) (λ x. nat_lt (id_in x) id ≡ false) xs i
-
-at-point : (id low : ℕ) (xs : List Stored) (i : ℕ) → Rise low xs → IsPoint id xs i → is_some (text_at id xs) ≡ true → i ≤ length xs → option_map (λ x. x.text) (slice_get xs i) ≡ text_at id xs
-at-point id low [] i h point there within = absurd (cc)
-at-point id low (x ∷ xs) zero h point there within = by (id == x.id.0) refl
-  where
-    first : nat_lt (id_in x) id ≡ false
-    first = point.1 0 x (omega arith) (omega arith)
-
-    by : (b : Bool) → (id == x.id.0) ≡ b → Some x.text ≡ text_at id (x ∷ xs)
-    by true e = sym (cond-true _ _ _ e)
-    by false e =
-        let low_id = ltb-false x.id.0 id first in
-        let other = eqb-false id x.id.0 e in
-        let none : text_at id (x ∷ xs) ≡ None = cond-false _ _ _ e ∙ above-none id (suc x.id.0) xs h.1 (other-below id x.id.0 low_id other) in
-        absurd (let bad = sym there ∙ ap is_some none in cc)
-      where
-        other-below : (a b : ℕ) → a ≤ b → a ≢ b → a < suc b
-        other-below a b le ne = omega (arith, le)
-at-point id low (x ∷ xs) (suc i) h point there within =
-    let first = ltb-true x.id.0 id (point.0 0 x (omega arith) (omega arith)) in
-    let skip : text_at id (x ∷ xs) ≡ text_at id xs = cond-false (id == x.id.0) _ _ (ne_eqb id x.id.0 (λ e. absurd (omega (arith, first, e)))) in
-    at-point id (suc x.id.0) xs i h.1 ((λ k d le less. point.0 (suc k) d (omega arith) (omega (arith, less))), (λ k d le less. point.1 (suc k) d (omega (arith, le)) (omega (arith, less)))) (sym (ap is_some skip) ∙ there) (omega (arith, within)) ∙ sym skip
-
--- the named one of an external id is the stored one
-named-one : (ids : List (List ℕ)) (external : List ℕ) (id low : ℕ) (rows : List Row) (high : ℕ) → Increase low rows high → list_any (bytes_eq external) ids ≡ true → id_of external rows ≡ Some id
-    → (option_map (λ r. r.document) (row_at id (named ids rows)) ≡ document_under external rows) × (is_some (document_under external rows) ≡ true)
-named-one ids external id low [] high h among found = absurd (cc)
-named-one ids external id low (r ∷ rows) high h among found = by (bytes_eq external r.external) refl (named-one ids external id (suc r.id) rows high h.1 among) (id_of-low external (suc r.id) rows high id h.1)
-  where
-    some_same : (a b : ℕ) → Some a ≡ Some b → a ≡ b
-    some_same a b h = cc
-
-    by : (b : Bool) → bytes_eq external r.external ≡ b
-        → (id_of external rows ≡ Some id → (option_map (λ r. r.document) (row_at id (named ids rows)) ≡ document_under external rows) × (is_some (document_under external rows) ≡ true)) → (id_of external rows ≡ Some id → suc r.id ≤ id)
-        → (option_map (λ r. r.document) (row_at id (named ids (r ∷ rows))) ≡ document_under external (r ∷ rows)) × (is_some (document_under external (r ∷ rows)) ≡ true)
-    by true e again low =
-        let same : r.id ≡ id = some_same r.id id (sym (cond-true _ _ _ e) ∙ found) in
-        let yes : is_named ids r ≡ true = ap (λ v. list_any (bytes_eq v) ids) (sym (same_bytes external r.external e)) ∙ among in
-        let under : document_under external (r ∷ rows) ≡ Some r.document = cond-true _ _ _ e in (
-          ap (λ v. option_map (λ r. r.document) (row_at id v)) (cond-true (is_named ids r) (r ∷ named ids rows) (named ids rows) yes)
-              ∙ ap (option_map (λ (v : Row). v.document)) (cond-true (id == r.id) (Some r) (row_at id (named ids rows)) (eq-eqb id r.id (sym same))) ∙ sym under,
-          ap is_some under,
-        )
-    by false e again low =
-        let rest = sym (cond-false (bytes_eq external r.external) (Some r.id) (id_of external rows) e) ∙ found in
-        let above = low rest in
-        let under : document_under external (r ∷ rows) ≡ document_under external rows = cond-false _ _ _ e in
-        let skip : row_at id (r ∷ named ids rows) ≡ row_at id (named ids rows) = cond-false (id == r.id) _ _ (ne_eqb id r.id (λ same. absurd (omega (arith, above, same)))) in (
-          cond_both (is_named ids r) (r ∷ named ids rows) (named ids rows) (λ v. option_map (λ r. r.document) (row_at id v) ≡ option_map (λ r. r.document) (row_at id (named ids rows))) (λ _. ap (option_map (λ (v : Row). v.document)) skip) (λ _. refl)
-              ∙ (again rest).0 ∙ sym under,
-          ap is_some under ∙ (again rest).1,
-        )
-
-pub read-sorted : (external : List ℕ) (stored : List Stored) (s : Store) → IsSound s → IsRead external stored s → IsNonDecreasingBy id_in stored
-read-sorted external stored s sound h = rise-sorted 0 stored (rise-read (is_named h.ids) stored 0 s.rows s.next_id sound.increase h.read)
-
-pub text-read : (external : List ℕ) (stored : List Stored) (s : Store) (id i : ℕ) → IsSound s → IsRead external stored s → id_of external s.rows ≡ Some id → IsPoint id stored i → i ≤ length stored
-    → option_map (λ x. x.text) (slice_get stored i) ≡ document_under external s.rows
-text-read external stored s id i sound h found point within =
-    let one = named-one h.ids external id 0 s.rows s.next_id sound.increase h.among found in
-    let same = text-same id stored (named h.ids s.rows) h.read in
-    at-point id 0 stored i (rise-read (is_named h.ids) stored 0 s.rows s.next_id sound.increase h.read) point (ap is_some (same ∙ one.0) ∙ one.1) within ∙ same ∙ one.0
-
--- ---- the loop
-
-pub record Updates (all left : List StoreRow) (s : Store) (rows : List StoreRow) (places : BTreeMap (List ℕ) ℕ) : Type 0 where
-  pub told : rows ++ updated_rows left (all_stored rows s) ≡ updated_rows all s
-  pub names : externals rows ++ externals left ≡ externals all
-  pub places_are : ArePlaces places rows
-
-pub updates-start : (all : List StoreRow) (s : Store) (places : BTreeMap (List ℕ) ℕ) → ((q : List ℕ) → get (slice_cmp nat_cmp) places q ≡ None) → Updates all all s [] places
-updates-start all s places empty = record {
-  told = refl;
-  names = refl;
-  places_are = record { each = λ q. ap (document_at []) (empty q); within = λ q place e. absurd (let none = sym (empty q) ∙ e in cc) };
-}
-
-map-behind : (rows : List StoreRow) (r : StoreRow) → externals (rows ++ r ∷ []) ≡ externals rows ++ r.external ∷ []
-map-behind [] r = refl
-map-behind (x ∷ rows) r = ap (λ v. x.external ∷ v) (map-behind rows r)
-
-abbrev one_of : List ℕ → Data → StoreRow
-one_of external document = record { external = external; document = document }
-
-pub updates-one : (all left : List StoreRow) (r : StoreRow) (rest : List StoreRow) (s : Store) (rows more : List StoreRow) (places next : BTreeMap (List ℕ) ℕ) (document : Data) (key : List ℕ) → left ≡ r ∷ rest
-    → document ≡ over (or_else (last_of r.external rows) (document_under r.external s.rows)) r.document → more ≡ rows ++ one_of r.external document ∷ [] → key ≡ r.external
-    → UpdatesBy (slice_cmp nat_cmp) (slice_cmp nat_cmp key) places next (Some (length rows)) → Updates all left s rows places → Updates all rest s more next
-updates-one all left r rest s rows more places next document key is merges pushed keyed puts h = subst (λ v. Updates all rest s v next) (sym pushed) (record {
+pub updates-one : (places : BTreeMap (List ℕ) ℕ) (all left : List StoreRow) (r : StoreRow) (rest : List StoreRow) (s : Store) (rows more : List StoreRow) (waiting next : Waiting) (old : Option Data) (updated : StoreRow) (is_last : Bool)
+    → ArePlaces places all → left ≡ r ∷ rest → NamesRise r.document → old ≡ document_under r.external s.rows → is_last ≡ is_place (get (slice_cmp nat_cmp) places r.external) (length rows)
+    → updated ≡ cond is_last (row_of r.external (over old (over (waits waiting r.external) r.document))) r
+    → ((q : List ℕ) → waits next q ≡ cond (bytes_eq r.external q) (waits_after is_last (over (waits waiting r.external) r.document)) (waits waiting q))
+    → more ≡ rows ++ updated ∷ [] → Updates all left s rows waiting → Updates all rest s more next
+updates-one places all left r rest s rows more waiting next old updated is_last placed is rises stood lasts updates after pushed h = record {
+  done = h.done ++ r ∷ [];
+  order = append_assoc h.done (r ∷ []) rest ∙ ap (λ v. h.done ++ v) (sym is) ∙ h.order;
+  many = ap length pushed ∙ length-behind rows updated ∙ ap suc h.many ∙ sym (length-behind h.done r);
   told =
-      append_assoc rows (new ∷ []) (updated_rows rest (all_stored (rows ++ new ∷ []) s)) ∙ ap (λ t. rows ++ new ∷ updated_rows rest t) (all_stored-behind rows new s)
-      ∙ ap (λ v. rows ++ v ∷ updated_rows rest (stored v (all_stored rows s))) (sym same) ∙ ap (λ v. rows ++ updated_rows v (all_stored rows s)) (sym is) ∙ h.told;
-  names = ap (λ v. v ++ externals rest) (map-behind rows new) ∙ append_assoc (externals rows) (r.external ∷ []) (externals rest) ∙ ap (λ v. externals rows ++ externals v) (sym is) ∙ h.names;
-  places_are = places-behind places next key rows new h.places_are keyed puts;
-})
-  where
-    new : StoreRow
-    new = one_of r.external document
-
-    same : updating r (all_stored rows s) ≡ one_of r.external document
-    same = ap (λ o. one_of r.external (over o r.document)) (under-stored rows s r.external) ∙ ap (one_of r.external) (sym merges)
-
--- the document of the next row was read, if one is stored
-pub next-read : (all left : List StoreRow) (r : StoreRow) (rest : List StoreRow) (s : Store) (rows : List StoreRow) (places : BTreeMap (List ℕ) ℕ) (stored : List Stored) → left ≡ r ∷ rest → Updates all left s rows places
-    → AreRead stored (named (externals all) s.rows) → IsRead r.external stored s
-next-read all left r rest s rows places stored is h read = record {
-  ids = externals all;
-  read = read;
-  among = ap (list_any (bytes_eq r.external)) (sym h.names ∙ ap (λ v. externals rows ++ externals v) is) ∙ among (externals rows);
+      ap₂ (λ v t. v ++ updated_rows rest t) pushed (all_updated-behind h.done r s) ∙ append_assoc rows (updated ∷ []) (updated_rows rest (stored (updating r so) so))
+      ∙ ap (λ v. rows ++ v ∷ updated_rows rest (stored (updating r so) so)) same ∙ ap (λ v. rows ++ updated_rows v so) (sym is) ∙ h.told;
+  waits_so = λ q c. ap (λ (t : Store). document_under q t.rows) (all_updated-behind h.done r s) ∙ under-put (updating r so) so.next_id so.rows q ∙ waits_at q c (bytes_eq r.external q) refl;
+  rise = λ q. subst (λ o. IfSome o NamesRise) (sym (after q)) (cond_both (bytes_eq r.external q) (waits_after is_last all_now) (waits waiting q) (λ o. IfSome o NamesRise) (λ _. rise_after is_last) (λ _. h.rise q));
 }
   where
-    among : (ids : List (List ℕ)) → list_any (bytes_eq r.external) (ids ++ r.external ∷ externals rest) ≡ true
-    among [] = ap (λ b. b || list_any (bytes_eq r.external) (externals rest)) (bytes_itself r.external)
-    among (id ∷ ids) = ap (λ b. bytes_eq r.external id || b) (among ids) ∙ or-true (bytes_eq r.external id)
+    so : Store
+    so = all_updated h.done s
+
+    all_now : Data
+    all_now = over (waits waiting r.external) r.document
+
+    rise_after : (b : Bool) → IfSome (waits_after b all_now) NamesRise
+    rise_after true = tt
+    rise_after false = over-rises (waits waiting r.external) r.document (h.rise r.external) rises
+
+    here : comes r.external left ≡ true
+    here = ap (comes r.external) is ∙ ap (λ b. b || comes r.external rest) (bytes_same r.external r.external refl)
+
+    merged : over (document_under r.external so.rows) r.document ≡ over (document_under r.external s.rows) all_now
+    merged = ap (λ o. over o r.document) (h.waits_so r.external here) ∙ over-grouped (document_under r.external s.rows) (waits waiting r.external) r.document (h.rise r.external)
+
+    lasts_so : is_last ≡ not (comes r.external rest)
+    lasts_so = lasts ∙ last-is places all h.done rest r (length rows) placed (ap (λ v. h.done ++ v) (sym is) ∙ h.order) h.many
+
+    same : updated ≡ cond (comes r.external rest) r (updating r so)
+    same = updates ∙ ap₂ (λ b o. cond b (row_of r.external (over o all_now)) r) lasts_so stood ∙ turned (comes r.external rest)
+      where
+        turned : (b : Bool) → cond (not b) (row_of r.external (over (document_under r.external s.rows) all_now)) r ≡ cond b r (updating r so)
+        turned true = refl
+        turned false = ap (row_of r.external) (sym merged)
+
+    waits_at : (q : List ℕ) → comes q rest ≡ true → (b : Bool) → bytes_eq r.external q ≡ b
+        → cond (bytes_eq r.external q) (Some (over (document_under r.external so.rows) r.document)) (document_under q so.rows) ≡ so_far (document_under q s.rows) (waits next q)
+    waits_at q c true e =
+        let same_name = same_bytes r.external q e in
+        let later : is_last ≡ false = lasts_so ∙ ap not (ap (λ v. comes v rest) same_name ∙ c) in
+        cond-true _ _ _ e ∙ ap Some merged ∙ ap (λ v. Some (over (document_under v s.rows) all_now)) same_name
+        ∙ sym (ap (so_far (document_under q s.rows)) (after q ∙ cond-true _ _ _ e ∙ ap (λ b. waits_after b all_now) later))
+    waits_at q c false e =
+        cond-false _ _ _ e ∙ h.waits_so q (ap (comes q) is ∙ ap (λ b. bytes_eq q r.external || b) c ∙ or-true (bytes_eq q r.external))
+        ∙ sym (ap (so_far (document_under q s.rows)) (after q ∙ cond-false _ _ _ e))
+      where
+        or-true : (b : Bool) → (b || true) ≡ true
+        or-true true = refl
+        or-true false = refl
+
+-- the next document is among those of the update
+next-comes : (all left : List StoreRow) (r : StoreRow) (rest : List StoreRow) (s : Store) (rows : List StoreRow) (waiting : Waiting) → left ≡ r ∷ rest → Updates all left s rows waiting → comes r.external all ≡ true
+next-comes all left r rest s rows waiting is h = ap (comes r.external) (sym h.order ∙ ap (λ v. h.done ++ v) is) ∙ among h.done
+  where
+    or-true : (b : Bool) → (b || true) ≡ true
+    or-true true = refl
+    or-true false = refl
+
+    among : (done : List StoreRow) → comes r.external (done ++ r ∷ rest) ≡ true
+    among [] = ap (λ b. b || comes r.external rest) (bytes_same r.external r.external refl)
+    among (x ∷ done) = ap (λ b. bytes_eq r.external x.external || b) (among done) ∙ or-true (bytes_eq r.external x.external)
+
+pub next-read : (all left : List StoreRow) (r : StoreRow) (rest : List StoreRow) (s : Store) (rows : List StoreRow) (waiting : Waiting) (stored : List Stored) → left ≡ r ∷ rest → Updates all left s rows waiting
+    → AreRead stored (named (externals all) s.rows) → IsRead r.external stored s
+next-read all left r rest s rows waiting stored is h read = record { ids = externals all; read = read; among = next-comes all left r rest s rows waiting is h }

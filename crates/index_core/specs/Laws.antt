@@ -6,14 +6,17 @@ use Rattle.serde_json.specs.Data.{Data}
 use Rattle.doc_store.specs.Store.{row_at, id_of}
 use Rattle.doc_store.specs.Sound.{IsSound}
 use Rattle.search_base.specs.declared.rule.Rule.{Rule}
+use Rattle.search_base.specs.CostOrder.{before}
 use Rattle.search_base.specs.EmptyQuery.{is_query_rule}
+use Rattle.search_base.specs.Hits.{stands_before}
+use Rattle.bucket_sort.specs.Hits.{AreOrdered}
 use Rattle.search_call.specs.SearchView.{SearchView}
 use Rattle.index_core.specs.Fetches.{needed, LeavesUses}
 use Rattle.search_call.specs.Windows.{offset_of}
 use Rattle.filter_tree.specs.Tree.{all}
-use Rattle.index_core.specs.Found.{found_in, most_hits, window_size}
+use Rattle.index_core.specs.Found.{asked_of, found_in, most_hits, window_size}
 use Rattle.index_core.specs.Index.{Index, documents}
-use Rattle.index_core.specs.Matching.{query_in, rows_in, rules_in}
+use Rattle.index_core.specs.Matching.{Matching, matching, query_in, rows_in, rules_in}
 use Rattle.index_core.specs.PlanView.{PlanView}
 use Rattle.index_core.specs.PlanView as work
 use Rattle.index_core.specs.Plans.{planned, applied}
@@ -62,6 +65,13 @@ NoWordFindsTheList = (index : Index) (call : SearchView) → IsSound index.store
     → AskOfTheQuery (rules_in index call) → call.filter ≡ all →
     map (λ hit. hit.document) (found_in index call).hits
     ≡ take (window_size (most_hits index) call) (drop (offset_of call.window) (documents index))
+
+-- each hit of a search stands before those after it, by its costs and then by its internal id, so that none stands
+-- twice
+abbrev pub HitsAreEachOnce : Type 0
+HitsAreEachOnce = (index : Index) (call : SearchView) → IsSound index.store →
+    AreOrdered (stands_before before (λ (m : Matching). m.costs) (λ (m : Matching). m.row.id))
+    (asked_of (most_hits index) call (matching index call))
 
 -- a patch that names no member that says how paths are used leaves what a search sees of documents and the rules that
 -- rank them, and reads no document

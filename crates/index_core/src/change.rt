@@ -7,29 +7,30 @@ ghost use Rattle.search_base.specs.Gives.{Checks};
 ghost use Rattle.index_core.specs.Indexed.{IsIndexed};
 ghost use Rattle.index_core.specs.Refusals.{store_refusal};
 
+use crate::kept::KeptRows;
 use crate::refusal::{CoreFault, of_store};
 use doc_index::{Stored, remove_documents, store_documents};
 use doc_store::{DocStore, StoreRow};
 use index_settings::Settings;
-use row_index::RowIndex;
 use search_base::{NoMemory, Word};
-use search_settings::uses_of;
+use search_settings::uses_behind;
 use std::alloc::Global;
 
-/// Stores documents one after the other, and indexes them. The stored ones of their external ids were read. All memory
-/// is taken before anything changes.
+/// Stores documents one after the other, and indexes them. The stored ones of their external ids were read. How the
+/// settings use a path is asked of the paths that the registry gains alone. All memory is taken before anything
+/// changes.
 pub(crate) fn store_rows(
     alloc: Global,
     settings: &Settings,
     store: &mut DocStore,
-    index: &mut RowIndex,
+    kept: &mut KeptRows,
     rows: Vec<StoreRow>,
     replaced: &[Stored],
 ) -> Result<(), CoreFault>
-    requires indexed { IsIndexed index.old settings.now store.old.content }
+    requires indexed { IsIndexed kept.old settings.now store.old.content }
     requires no_documents { store.old.staged ≡ [] }
     requires replaced { AreRead replaced.now (named (externals rows.items) store.old.content.rows) }
-    ensures indexed { IsIndexed index.new settings.now store.new.content }
+    ensures indexed { IsIndexed kept.new settings.now store.new.content }
     ensures no_documents { store.new.staged ≡ [] }
     ensures stored { OnOk result (store.new.content ≡ all_stored rows.items store.old.content) }
     ensures within { Checks result (option_map store_refusal (spent (all_stored rows.items store.old.content))) }
@@ -40,17 +41,18 @@ pub(crate) fn store_rows(
         Err(fault) => return Err(of_store(fault)),
     };
     let paths = joined(alloc, store.paths(), admission.added())?;
-    let uses = uses_of(alloc, settings, paths.as_slice())?;
+    let uses = uses_behind(alloc, settings, kept.uses.as_slice(), admission.added())?;
     store_documents(
         alloc,
         store,
-        index,
+        &mut kept.rows,
         rows,
         admission,
         replaced,
         paths.as_slice(),
         uses.as_slice(),
     )?;
+    kept.uses = uses;
     Ok(())
 }
 
@@ -79,17 +81,23 @@ pub(crate) fn remove_named(
     alloc: Global,
     settings: &Settings,
     store: &mut DocStore,
-    index: &mut RowIndex,
+    kept: &mut KeptRows,
     ids: &[Word],
     removed: &[Stored],
 ) -> Result<(), NoMemory>
-    requires indexed { IsIndexed index.old settings.now store.old.content }
+    requires indexed { IsIndexed kept.old settings.now store.old.content }
     requires removed { AreRead removed.now (named ids.now store.old.content.rows) }
-    ensures indexed { IsIndexed index.new settings.now store.new.content }
+    ensures indexed { IsIndexed kept.new settings.now store.new.content }
     ensures staged { store.new.staged ≡ store.old.staged }
     ensures removed { OnOk result (store.new.content ≡ without_named ids.now store.old.content) }
     ensures stays { OnErr result (store.new.content ≡ store.old.content) }
 {
-    let uses = uses_of(alloc, settings, store.paths())?;
-    remove_documents(alloc, store, index, ids, removed, uses.as_slice())
+    remove_documents(
+        alloc,
+        store,
+        &mut kept.rows,
+        ids,
+        removed,
+        kept.uses.as_slice(),
+    )
 }

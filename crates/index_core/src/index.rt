@@ -1,4 +1,4 @@
-ghost use Rattle.std.specs.Prelude.{◌≡◌, ◌+◌, ◌*◌, ◌≤◌, List, true, false, min, length, map, take, drop, IfOk, OnOk, OnErr, IsTrue, ◌↔◌, if◌then◌else◌};
+ghost use Rattle.std.specs.Prelude.{◌≡◌, ◌+◌, ◌-◌, ◌*◌, ◌≤◌, List, true, false, min, length, map, take, drop, IfOk, OnOk, OnErr, IsTrue, ◌↔◌, if◌then◌else◌};
 ghost use Rattle.std.specs.List.{filter_map};
 ghost use Rattle.std.specs.Option.{option_copied, option_map, is_some};
 ghost use Rattle.search_base.specs.Gives.{Gives, Checks};
@@ -15,7 +15,8 @@ ghost use Rattle.index_core.specs.Refusals.{store_refusal};
 ghost use Rattle.index_core.specs.PlanView.{work_view, IsGood};
 ghost use Rattle.index_core.specs.Plans.{planned, applied, after_work, settings_after, IsPlanFor};
 ghost use Rattle.index_core.specs.Fetches.{needed, hits_needed};
-ghost use Rattle.index_core.specs.Found.{found, most_hits, window_end as end_of_window};
+ghost use Rattle.search_call.specs.Windows.{offset_of};
+ghost use Rattle.index_core.specs.Found.{found, most_hits, window_size, window_end as end_of_window};
 ghost use Rattle.index_core.specs.Matching.{matching, rules_in};
 ghost use Rattle.index_core.specs.Opened.{opened, opened_in, most_opened, log_state, Opens, is_starved};
 ghost use Rattle.index_core.specs.Ranking.{IsRankingOf};
@@ -26,6 +27,7 @@ use crate::change::{joined, remove_named, store_rows};
 use crate::external_ids::ids_of;
 use crate::findings::{Findings, if_asked};
 use crate::image::{copy_of_settings, image_documents, stored_rows};
+use crate::kept::KeptRows;
 use crate::key::{copy_of, text_of};
 use crate::new_settings::{index_of_store, patch_settings, reset_settings};
 use crate::plan::{
@@ -46,21 +48,22 @@ use row_index::RowIndex;
 use search_base::{DocId, NoMemory, Steps, Word};
 use search_call::SearchCall;
 use search_settings::{
-    QueryWords, SearchFault, asked_paths, check_search, rules_of, uses_of, window_end, window_start,
+    QueryWords, SearchFault, asked_paths, check_search, ranks_are_low, rules_of, window_end,
+    window_start,
 };
 use std::alloc::Global;
 use std::marker::Model;
 use std::mem;
 
-/// One index, seen as its primary key, its store and its settings. What it keeps so that a search reads no document and
-/// cuts no words of the settings is not seen. Nothing is staged in it between two calls.
+/// One index, seen as its primary key, its store and its settings. What it keeps so that a search reads no document,
+/// cuts no words of the settings and asks them of no path is not seen. Nothing is staged in it between two calls.
 #[derive(Drop)]
 pub struct IndexCore {
     key: Option<Word>,
     store: DocStore,
     settings: Settings,
     words: QueryWords,
-    rows: RowIndex,
+    kept: KeptRows,
 }
 
 impl Model for IndexCore {
@@ -73,7 +76,7 @@ impl Model for IndexCore {
 
     ghost view = { λ index. record { key = index.key; store = index.store.content; settings = index.settings } };
 
-    ghost invariant = { λ index. IsWhole index.key index.store index.settings index.words index.rows };
+    ghost invariant = { λ index. IsWhole index.key index.store index.settings index.words index.kept };
 }
 
 impl IndexCore {
@@ -87,7 +90,10 @@ impl IndexCore {
             store: DocStore::new(alloc)?,
             words: QueryWords::of(alloc, &settings)?,
             settings,
-            rows: RowIndex::new(alloc),
+            kept: KeptRows {
+                rows: RowIndex::new(alloc),
+                uses: Vec::new(alloc),
+            },
         })
     }
 
@@ -196,7 +202,7 @@ impl IndexCore {
                     alloc,
                     settings,
                     &mut self.store,
-                    &mut self.rows,
+                    &mut self.kept,
                     rows,
                     replaced,
                 )
@@ -210,7 +216,7 @@ impl IndexCore {
                     alloc,
                     settings,
                     &mut self.store,
-                    &mut self.rows,
+                    &mut self.kept,
                     rows,
                     replaced,
                 )
@@ -223,24 +229,24 @@ impl IndexCore {
                     alloc,
                     settings,
                     &mut self.store,
-                    &mut self.rows,
+                    &mut self.kept,
                     ids,
                     removed,
                 )?;
                 Ok(())
             }
             Work::Clear => {
-                clear_documents(alloc, &mut self.store, &mut self.rows);
+                clear_documents(alloc, &mut self.store, &mut self.kept.rows);
                 Ok(())
             }
             Work::Patch { members } => {
-                let (rows, words) = (&mut self.rows, &mut self.words);
-                patch_settings(alloc, &self.store, rows, words, settings, &members, fetches)?;
+                let (kept, words) = (&mut self.kept, &mut self.words);
+                patch_settings(alloc, &self.store, kept, words, settings, &members, fetches)?;
                 Ok(())
             }
             Work::Reset => {
-                let (rows, words) = (&mut self.rows, &mut self.words);
-                reset_settings(alloc, &self.store, rows, words, settings, fetches)?;
+                let (kept, words) = (&mut self.kept, &mut self.words);
+                reset_settings(alloc, &self.store, kept, words, settings, fetches)?;
                 Ok(())
             }
         }
@@ -248,9 +254,10 @@ impl IndexCore {
 
     /// What a search finds: its hits, each a stored document, with its costs where these are asked for, the number of
     /// matches, and the counts that it asks for, over all matches. The hits are the asked slice of the documents that
-    /// match, in the order of their costs and then of their internal ids. The settings say which costs count and in
-    /// which order, which paths are searched, which words of a query are left out or stand for others, and how many
-    /// matches and values are counted or handed out.
+    /// match, in the order of their costs and then of their internal ids; there are as many as the window has room for
+    /// and documents match behind its offset. The settings say which costs count and in which order, which paths are
+    /// searched, which words of a query are left out or stand for others, and how many matches and values are counted
+    /// or handed out.
     ///
     /// Refused is a search that sorts where the ranking rules do not (`NoSortRule`) or by an attribute that may not be
     /// sorted by (`NotSortable`), then one that filters (`NotFilterable`), and then one that counts (`NotFacet`) by an
@@ -273,6 +280,8 @@ impl IndexCore {
     ) -> Result<SearchResult, SearchFault>
         requires { Unit {0} }
         ensures answer { Gives result_shown result (found self.now call.now) }
+        ensures full { IfOk result (λ found. length found.hits.items ≡ min (window_size (most_hits self.now) call.now)
+            (length (matching self.now call.now) - offset_of call.now.window)) }
         ensures fetches { IfOk result (λ found. fetches.new ≡ fetches.old + length found.hits.items) }
         ensures at_most { fetches.new ≤ fetches.old + hits_needed (found self.now call.now) }
         ensures opens { Opens (is_starved result) (opened self.now call.now)
@@ -291,12 +300,13 @@ impl IndexCore {
     }
 
     // How the documents of a search are ranked.
-    fn ranking(&self, alloc: Global, call: &SearchCall) -> Result<Ranking, NoMemory>
+    fn ranking(&self, alloc: Global, call: &SearchCall) -> Result<Ranking<'_>, NoMemory>
         ensures { IfOk result (λ ranking. IsRankingOf ranking self.now call.now) }
     {
         let paths = self.store.paths();
+        ranks_are_low(&self.settings, paths);
         Ok(Ranking {
-            uses: uses_of(alloc, &self.settings, paths)?,
+            uses: self.kept.uses.as_slice(),
             query: self.words.query(alloc, call)?,
             rules: rules_of(alloc, &self.settings, paths, &call.sort)?,
         })
@@ -328,8 +338,8 @@ impl IndexCore {
         let found = search_documents(
             alloc,
             &self.store,
-            &self.rows,
-            ranking.uses.as_slice(),
+            &self.kept.rows,
+            ranking.uses,
             &ranking.query,
             &call.filter,
             ranking.rules.as_slice(),
@@ -470,13 +480,13 @@ impl IndexCore {
         } = image;
         let rows = stored_rows(alloc, text_of(&key), documents)?;
         let store = DocStore::restore(alloc, paths, next_id, rows)?;
-        let index = index_of_store(alloc, &store, &settings, fetches)?;
+        let kept = index_of_store(alloc, &store, &settings, fetches)?;
         Ok(IndexCore {
             key,
             store,
             words: QueryWords::of(alloc, &settings)?,
             settings,
-            rows: index,
+            kept,
         })
     }
 }

@@ -1,4 +1,4 @@
-ghost use Rattle.index_core.specs.Laws.{KeyStays, PathsStay, IdsAreSpentOnce, DocumentsStay, NoWordFindsTheList, OtherPatchesLeaveRanking, SettingsReadOnce};
+ghost use Rattle.index_core.specs.Laws.{KeyStays, PathsStay, IdsAreSpentOnce, DocumentsStay, NoWordFindsTheList, HitsAreEachOnce, OtherPatchesLeaveRanking, SettingsReadOnce};
 
 /// What stays of an index whatever change it takes: its primary key, the paths of its registry, and that an internal id
 /// is given once. It does nothing.
@@ -17,6 +17,11 @@ pub fn documents_stay_under_their_ids()
 /// theirs. It does nothing.
 pub fn no_word_finds_the_list()
     ensures { NoWordFindsTheList }
+{}
+
+/// Each hit of a search stands before those after it, so that none stands twice. It does nothing.
+pub fn hits_are_each_once()
+    ensures { HitsAreEachOnce }
 {}
 
 /// A patch that names no member that says how paths are used leaves what a search sees of documents and the rules that

@@ -19,6 +19,7 @@ mod external_ids;
 mod findings;
 mod image;
 mod index;
+mod kept;
 mod key;
 mod laws;
 mod new_settings;
@@ -31,8 +32,8 @@ mod update;
 pub use call::{Hit, Listing, SearchResult};
 pub use index::IndexCore;
 pub use laws::{
-    changes_keep_key_paths_and_ids, documents_stay_under_their_ids, no_word_finds_the_list,
-    other_patches_leave_ranking, settings_read_once,
+    changes_keep_key_paths_and_ids, documents_stay_under_their_ids, hits_are_each_once,
+    no_word_finds_the_list, other_patches_leave_ranking, settings_read_once,
 };
 pub use plan::Plan;
 pub use refusal::{CoreFault, CoreRefusal};

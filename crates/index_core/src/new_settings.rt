@@ -8,10 +8,10 @@ ghost use Rattle.index_core.specs.Fetches.{LeavesUses, LeavesWords};
 ghost use Rattle.search_settings.specs.QueryWords.{AreWordsOf};
 ghost use Rattle.index_core.specs.Indexed.{IsIndexed};
 
+use crate::kept::KeptRows;
 use doc_index::index_of_all;
 use doc_store::DocStore;
 use index_settings::{Settings, patch_checked};
-use row_index::RowIndex;
 use search_base::{NoMemory, Steps, Word};
 use search_settings::{QueryWords, use_alike, uses_of};
 use serde_json::Value;
@@ -22,16 +22,16 @@ use std::alloc::Global;
 pub(crate) fn patch_settings<F>(
     alloc: Global,
     store: &DocStore,
-    index: &mut RowIndex,
+    kept: &mut KeptRows,
     words: &mut QueryWords,
     settings: &mut Settings,
     members: &Value,
     fetches: &mut Steps<F>,
 ) -> Result<(), NoMemory>
     requires good { patch_fault (data_of members.now) ≡ None }
-    requires indexed { IsIndexed index.old settings.old store.now.content }
+    requires indexed { IsIndexed kept.old settings.old store.now.content }
     requires words { AreWordsOf words.old settings.old }
-    ensures indexed { IsIndexed index.new settings.new store.now.content }
+    ensures indexed { IsIndexed kept.new settings.new store.now.content }
     ensures words { AreWordsOf words.new settings.new }
     ensures settings { OnOk result (settings.new ≡ patched defaults settings.old (data_of members.now)) }
     ensures stays { OnErr result (settings.new ≡ settings.old) }
@@ -45,7 +45,7 @@ pub(crate) fn patch_settings<F>(
     let others = patch_checked(alloc, settings, members)?;
     let named = words_named(alloc, &others, members)?;
     let may_differ = names_uses(members);
-    settle(alloc, store, index, settings, others, may_differ, fetches)?;
+    settle(alloc, store, kept, settings, others, may_differ, fetches)?;
     if let Some(named) = named {
         *words = named;
     }
@@ -82,14 +82,14 @@ fn words_named(
 pub(crate) fn reset_settings<F>(
     alloc: Global,
     store: &DocStore,
-    index: &mut RowIndex,
+    kept: &mut KeptRows,
     words: &mut QueryWords,
     settings: &mut Settings,
     fetches: &mut Steps<F>,
 ) -> Result<(), NoMemory>
-    requires indexed { IsIndexed index.old settings.old store.now.content }
+    requires indexed { IsIndexed kept.old settings.old store.now.content }
     requires words { AreWordsOf words.old settings.old }
-    ensures indexed { IsIndexed index.new settings.new store.now.content }
+    ensures indexed { IsIndexed kept.new settings.new store.now.content }
     ensures words { AreWordsOf words.new settings.new }
     ensures settings { OnOk result (settings.new ≡ defaults) }
     ensures stays { OnErr result (settings.new ≡ settings.old) }
@@ -100,7 +100,7 @@ pub(crate) fn reset_settings<F>(
 {
     let others = Settings::defaults(alloc)?;
     let named = QueryWords::of(alloc, &others)?;
-    settle(alloc, store, index, settings, others, true, fetches)?;
+    settle(alloc, store, kept, settings, others, true, fetches)?;
     *words = named;
     Ok(())
 }
@@ -111,15 +111,15 @@ pub(crate) fn reset_settings<F>(
 fn settle<F>(
     alloc: Global,
     store: &DocStore,
-    index: &mut RowIndex,
+    kept: &mut KeptRows,
     settings: &mut Settings,
     others: Settings,
     may_differ: bool,
     fetches: &mut Steps<F>,
 ) -> Result<(), NoMemory>
-    requires indexed { IsIndexed index.old settings.old store.now.content }
+    requires indexed { IsIndexed kept.old settings.old store.now.content }
     requires same { may_differ ≡ false → are_alike others settings.old store.now.content.paths ≡ true }
-    ensures indexed { IsIndexed index.new settings.new store.now.content }
+    ensures indexed { IsIndexed kept.new settings.new store.now.content }
     ensures settings { OnOk result (settings.new ≡ others) }
     ensures stays { OnErr result (settings.new ≡ settings.old) }
     ensures fetches { OnOk result (fetches.new ≡ fetches.old
@@ -131,7 +131,7 @@ fn settle<F>(
         *settings = others;
         return Ok(());
     }
-    *index = index_of_store(alloc, store, &others, fetches)?;
+    *kept = index_of_store(alloc, store, &others, fetches)?;
     *settings = others;
     Ok(())
 }
@@ -155,12 +155,13 @@ pub(crate) fn index_of_store<F>(
     store: &DocStore,
     settings: &Settings,
     fetches: &mut Steps<F>,
-) -> Result<RowIndex, NoMemory>
+) -> Result<KeptRows, NoMemory>
     requires sound { IsSound store.now.content }
-    ensures indexed { IfOk result (λ index. IsIndexed index settings.now store.now.content) }
+    ensures indexed { IfOk result (λ kept. IsIndexed kept settings.now store.now.content) }
     ensures fetches { OnOk result (fetches.new ≡ fetches.old + length store.now.content.rows) }
     ensures at_most { fetches.new ≤ fetches.old + length store.now.content.rows }
 {
     let uses = uses_of(alloc, settings, store.paths())?;
-    index_of_all(alloc, store, uses.as_slice(), fetches)
+    let rows = index_of_all(alloc, store, uses.as_slice(), fetches)?;
+    Ok(KeptRows { rows, uses })
 }

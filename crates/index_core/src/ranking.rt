@@ -14,8 +14,8 @@ use std::alloc::Global;
 /// How an index ranks the documents of a search: how it uses each path of its registry, what the search asks for, and
 /// the rules.
 #[derive(Drop)]
-pub(crate) struct Ranking {
-    pub(crate) uses: Vec<PathUse>,
+pub(crate) struct Ranking<'a> {
+    pub(crate) uses: &'a [PathUse],
     pub(crate) query: Graph,
     pub(crate) rules: Vec<Rule>,
 }
@@ -29,11 +29,11 @@ pub(crate) fn costs_of(
     ranking: &Ranking,
 ) -> Result<Option<Vec<CostKey>>, NoMemory>
     requires few { length paths.now ≤ 1000 }
-    requires uses { length ranking.now.uses.items ≡ length paths.now }
+    requires uses { length ranking.now.uses.now ≡ length paths.now }
     requires graph { IsGraph ranking.now.query }
     ensures { IfOk result (λ found. option_map (λ costs. costs.items) found
-        ≡ tuple (rows_of text.now paths.now ranking.now.uses.items) ranking.now.query ranking.now.rules.items) }
+        ≡ tuple (rows_of text.now paths.now ranking.now.uses.now) ranking.now.query ranking.now.rules.items) }
 {
-    let rows = rows_in(alloc, text, paths, ranking.uses.as_slice())?;
+    let rows = rows_in(alloc, text, paths, ranking.uses)?;
     cost_tuple(alloc, &ranking.query, &rows, ranking.rules.as_slice())
 }

@@ -13,5 +13,5 @@ stay_alike-requires-clause-same g c = λ differ. ap (use_alike c.args.others c.a
 
 pub returns-then-stay_alike-clause-indexed : goal.returns-then-stay_alike-clause-indexed
 returns-then-stay_alike-clause-indexed g c =
-    alike-indexed c.args.others c.args.settings.now c.args.store.now.content c.args.index.now
+    alike-indexed c.args.others c.args.settings.now c.args.store.now.content c.args.kept.now
     (ap (use_alike c.args.others c.args.settings.now) (sym c.paths.ensures) ∙ sym c.stay_alike.ensures ∙ c.if-stay_alike.true) c.requires.indexed

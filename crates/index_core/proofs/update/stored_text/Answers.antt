@@ -6,7 +6,7 @@ use Rattle.std.proofs.lemmas.List.Sorted.{IsPartitionPoint-from_clause, IsPartit
 use Rattle.doc_store.specs.Store.{id_of}
 use Rattle.index_core.specs.Index.{document_under}
 use Rattle.index_core.proofs.Finding.{no-document-under}
-use Rattle.index_core.proofs.Updating.{id_in, read-sorted, text-read}
+use Rattle.index_core.proofs.Reading.{id_in, read-sorted, text-read}
 use Rattle.index_core.proofs.update.stored_text.Goals as goal
 use Rattle.index_core.proofs.update.stored_text.Goals.{After-get}
 

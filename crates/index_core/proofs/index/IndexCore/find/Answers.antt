@@ -40,13 +40,13 @@ pub search_documents-requires-clause-sound : goal.search_documents-requires-clau
 search_documents-requires-clause-sound g c = c.self.invariant.rows.sound
 
 pub search_documents-requires-clause-ranks : goal.search_documents-requires-clause-ranks
-search_documents-requires-clause-ranks g c = subst (RankedBelow 65535) (sym c.as_slice.ensures.value) c.requires.below
+search_documents-requires-clause-ranks g c = c.requires.below
 
 pub search_documents-requires-clause-stands : goal.search_documents-requires-clause-stands
 search_documents-requires-clause-stands g c =
     let index : Index = record { key = c.self.inside.key; store = c.self.inside.store.content; settings = c.self.inside.settings } in
     let is : IsRankingOf c.args.ranking.now index c.args.call.now = subst (λ (i : Index). IsRankingOf c.args.ranking.now i c.args.call.now) (sym c.self.view_is) c.requires in
-    subst (λ uses. StandsFor c.self.inside.rows (documents_of index.store.paths uses index.store.rows)) (sym (c.as_slice.ensures.value ∙ is.uses)) c.self.invariant.rows.stands
+    subst (λ uses. StandsFor c.self.inside.kept.rows (documents_of index.store.paths uses index.store.rows)) (sym is.uses) c.self.invariant.rows.stands
 
 pub returns-clause-found : goal.returns-clause-found
 returns-clause-found g c =
@@ -57,14 +57,14 @@ returns-clause-found g c =
     let is : IsRankingOf ranking index call = subst (λ (i : Index). IsRankingOf ranking i call) (sym c.self.view_is) c.requires in
     let passing : RowsView → Bool = λ rows. holds index.store.paths rows (tree_of c.call.inside.filter) in
     let graph = ranking.query in
-    let rules = c.as_slice-2.result.now in
+    let rules = c.as_slice.result.now in
     let paths = index.store.paths in
     let rows = index.store.rows in
-    let uses = c.as_slice.ensures.value ∙ is.uses in
+    let uses = is.uses in
     let asked : IsAsked index call passing graph rules = record {
       filter = λ rows. ap (λ (v : SearchView). holds paths rows v.filter) seen;
       query = is.costs;
-      ruled = c.as_slice-2.ensures.value ∙ is.rules;
+      ruled = c.as_slice.ensures.value ∙ is.rules;
     } in
     let most : c.max_total_hits-most.result ≤ 1000000 = omega (arith, c.max_total_hits-most.ensures.number, c.max_total_hits-most.ensures.limit) in
     let le : c.window_end.result ≤ 2 ^ 64 - 1 = omega (arith, c.window_end.ensures, most) in
@@ -96,18 +96,18 @@ returns-in_err-found-clause-starved g c =
     let is : IsRankingOf ranking index call = subst (λ (i : Index). IsRankingOf ranking i call) (sym c.self.view_is) c.requires in
     let passing : RowsView → Bool = λ rows. holds index.store.paths rows (tree_of c.call.inside.filter) in
     let graph = ranking.query in
-    let rules = c.as_slice-2.result.now in
+    let rules = c.as_slice.result.now in
     let paths = index.store.paths in
     let rows = index.store.rows in
-    let uses = c.as_slice.ensures.value ∙ is.uses in
+    let uses = is.uses in
     let asked : IsAsked index call passing graph rules = record {
       filter = λ rows. ap (λ (v : SearchView). holds paths rows v.filter) seen;
       query = is.costs;
-      ruled = c.as_slice-2.ensures.value ∙ is.rules;
+      ruled = c.as_slice.ensures.value ∙ is.rules;
     } in
     let most : c.max_total_hits-most.result ≤ 1000000 = omega (arith, c.max_total_hits-most.ensures.number, c.max_total_hits-most.ensures.limit) in
     let le : c.window_end.result ≤ 2 ^ 64 - 1 = omega (arith, c.window_end.ensures, most) in
-    let same : opened passing graph rules (documents_of paths c.as_slice.result.now rows) c.window_start-start.result c.saturating_sub-limit.result ≡ opened_in c.args.self.now call =
+    let same : opened passing graph rules (documents_of paths ranking.uses.now rows) c.window_start-start.result c.saturating_sub-limit.result ≡ opened_in c.args.self.now call =
     ap₂ (λ us n. opened passing graph rules (documents_of paths us rows) c.window_start-start.result n) uses c.saturating_sub-limit.ensures
     ∙ opens-same index call passing graph rules asked c.window_start-start.result c.window_end.result (2 ^ 64 - 1) c.self.invariant.rows.sound
     (c.window_start-start.ensures ∙ ap (λ (v : SearchView). min (offset_of v.window) (2 ^ 64 - 1)) seen)
@@ -126,18 +126,18 @@ returns-clause-opens g c =
     let is : IsRankingOf ranking index call = subst (λ (i : Index). IsRankingOf ranking i call) (sym c.self.view_is) c.requires in
     let passing : RowsView → Bool = λ rows. holds index.store.paths rows (tree_of c.call.inside.filter) in
     let graph = ranking.query in
-    let rules = c.as_slice-2.result.now in
+    let rules = c.as_slice.result.now in
     let paths = index.store.paths in
     let rows = index.store.rows in
-    let uses = c.as_slice.ensures.value ∙ is.uses in
+    let uses = is.uses in
     let asked : IsAsked index call passing graph rules = record {
       filter = λ rows. ap (λ (v : SearchView). holds paths rows v.filter) seen;
       query = is.costs;
-      ruled = c.as_slice-2.ensures.value ∙ is.rules;
+      ruled = c.as_slice.ensures.value ∙ is.rules;
     } in
     let most : c.max_total_hits-most.result ≤ 1000000 = omega (arith, c.max_total_hits-most.ensures.number, c.max_total_hits-most.ensures.limit) in
     let le : c.window_end.result ≤ 2 ^ 64 - 1 = omega (arith, c.window_end.ensures, most) in
-    let same : opened passing graph rules (documents_of paths c.as_slice.result.now rows) c.window_start-start.result c.saturating_sub-limit.result ≡ opened_in c.args.self.now call =
+    let same : opened passing graph rules (documents_of paths ranking.uses.now rows) c.window_start-start.result c.saturating_sub-limit.result ≡ opened_in c.args.self.now call =
     ap₂ (λ us n. opened passing graph rules (documents_of paths us rows) c.window_start-start.result n) uses c.saturating_sub-limit.ensures
     ∙ opens-same index call passing graph rules asked c.window_start-start.result c.window_end.result (2 ^ 64 - 1) c.self.invariant.rows.sound
     (c.window_start-start.ensures ∙ ap (λ (v : SearchView). min (offset_of v.window) (2 ^ 64 - 1)) seen)
@@ -155,14 +155,14 @@ returns-in_err-found-clause-few g c =
     let is : IsRankingOf ranking index call = subst (λ (i : Index). IsRankingOf ranking i call) (sym c.self.view_is) c.requires in
     let passing : RowsView → Bool = λ rows. holds index.store.paths rows (tree_of c.call.inside.filter) in
     let graph = ranking.query in
-    let rules = c.as_slice-2.result.now in
+    let rules = c.as_slice.result.now in
     let paths = index.store.paths in
     let rows = index.store.rows in
-    let uses = c.as_slice.ensures.value ∙ is.uses in
+    let uses = is.uses in
     let asked : IsAsked index call passing graph rules = record {
       filter = λ rows. ap (λ (v : SearchView). holds paths rows v.filter) seen;
       query = is.costs;
-      ruled = c.as_slice-2.ensures.value ∙ is.rules;
+      ruled = c.as_slice.ensures.value ∙ is.rules;
     } in
     let ends : c.window_end.result ≡ window_end index.settings.max_total_hits call =
     c.window_end.ensures ∙ ap (min (offset_of c.call.inside.window + limit_of c.call.inside.window)) c.max_total_hits-most.ensures.number ∙ ap (window_end index.settings.max_total_hits) seen in
@@ -182,14 +182,14 @@ returns-clause-few g c =
     let is : IsRankingOf ranking index call = subst (λ (i : Index). IsRankingOf ranking i call) (sym c.self.view_is) c.requires in
     let passing : RowsView → Bool = λ rows. holds index.store.paths rows (tree_of c.call.inside.filter) in
     let graph = ranking.query in
-    let rules = c.as_slice-2.result.now in
+    let rules = c.as_slice.result.now in
     let paths = index.store.paths in
     let rows = index.store.rows in
-    let uses = c.as_slice.ensures.value ∙ is.uses in
+    let uses = is.uses in
     let asked : IsAsked index call passing graph rules = record {
       filter = λ rows. ap (λ (v : SearchView). holds paths rows v.filter) seen;
       query = is.costs;
-      ruled = c.as_slice-2.ensures.value ∙ is.rules;
+      ruled = c.as_slice.ensures.value ∙ is.rules;
     } in
     let ends : c.window_end.result ≡ window_end index.settings.max_total_hits call =
     c.window_end.ensures ∙ ap (min (offset_of c.call.inside.window + limit_of c.call.inside.window)) c.max_total_hits-most.ensures.number ∙ ap (window_end index.settings.max_total_hits) seen in

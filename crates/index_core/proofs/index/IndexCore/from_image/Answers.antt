@@ -20,9 +20,9 @@ invariant_of-result-2 g c =
     let i : IndexData = index_view c.args.image in
     let rows = c.in_ok-rows.ensures ∙ ap (λ key. map (row_under key) c.args.image.documents.items) c.text_of.ensures in
     let content = c.in_ok-store.ensures.content ∙ ap (λ (rs : List Row). record { paths = i.paths; next_id = i.next_id; rows = rs }) rows in
-    subst (λ (s : StoreView). IsWhole i.key s i.settings c.in_ok-of.field-0 c.in_ok-index.index) (sym c.store.view_is) (record {
+    subst (λ (s : StoreView). IsWhole i.key s i.settings c.in_ok-of.field-0 c.in_ok-kept.kept) (sym c.store.view_is) (record {
       keyed = subst (λ (s : Store). IsKeyed i.key s.rows) (sym content) (image-keyed c.requires.state.0 i c.requires.state.1);
-      rows = c.in_ok-index.ensures.indexed;
+      rows = c.in_ok-kept.ensures.indexed;
       words = c.in_ok-of.ensures;
       no_documents = c.in_ok-store.ensures.staged;
     })

@@ -25,7 +25,7 @@ returns-clause-hit g c =
     let is : IsRankingOf ranking index call = subst (λ (i : Index). IsRankingOf ranking i call) (sym c.self.view_is) c.requires in
     let there : Some document ≡ option_map (λ r. r.document) (row_at c.args.id.0 index.store.rows) = sym (ap (option_map (λ d. d.now)) c.in-Some.is) ∙ c.fetch.ensures.document in
     let costs : option_map (λ costs. costs.items) c.if-call.costs ≡ costs_shown index call document = elim c.if-call.branch [
-      | then-call+in_ok-costs w ↦ ap (option_map (λ costs. costs.items)) w.costs-is ∙ w.in_ok-costs.ensures ∙ ap (λ ps. tuple (rows_of document ps ranking.uses.items) ranking.query ranking.rules.items) w.paths.ensures
+      | then-call+in_ok-costs w ↦ ap (option_map (λ costs. costs.items)) w.costs-is ∙ w.in_ok-costs.ensures ∙ ap (λ ps. tuple (rows_of document ps ranking.uses.now) ranking.query ranking.rules.items) w.paths.ensures
           ∙ costs-ranked index call ranking document is (sym (ap (λ (v : SearchView). v.costs) c.call.view_is) ∙ w.if-call.true)
       | else-call w ↦ ap (option_map (λ costs. costs.items)) w.costs-is ∙ costs-hidden index call document (sym (ap (λ (v : SearchView). v.costs) c.call.view_is) ∙ w.if-call.false)
     ] in

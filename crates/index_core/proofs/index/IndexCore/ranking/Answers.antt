@@ -1,4 +1,5 @@
-use Rattle.std.proofs.Common.{length, ap, subst, ◌∙◌, arith}
+use Rattle.std.proofs.Common.{◌≡◌, length, ap, subst, sym, ◌∙◌, arith}
+use Rattle.doc_search.specs.Ranked.{RankedBelow}
 use Rattle.search_call.specs.SearchView.{SearchView}
 use Rattle.index_core.specs.declared.ranking.Ranking.{Ranking}
 use Rattle.index_core.specs.Index.{Index}
@@ -8,8 +9,8 @@ use Rattle.index_core.specs.Ranking.{IsRankingOf}
 use Rattle.search_settings.specs.Rules.{rules_with}
 use Rattle.index_core.proofs.index.IndexCore.ranking.Goals as goal
 
-pub uses_of-requires : goal.uses_of-requires
-uses_of-requires c =
+pub ranks_are_low-requires : goal.ranks_are_low-requires
+ranks_are_low-requires c =
     let most = c.self.invariant.rows.sound.paths_within in
     omega (arith, ap length c.paths-paths.ensures)
 
@@ -22,12 +23,14 @@ pub returns : goal.returns
 returns c =
     let index : Index = record { key = c.self.inside.key; store = c.self.inside.store.content; settings = c.self.inside.settings } in
     let call = c.args.call.now in
-    let ranking : Ranking = record { uses = c.in_ok-uses_of.field-0; query = c.in_ok-query.field-0; rules = c.in_ok-rules_of.field-0 } in
+    let used : c.as_slice.result.now ≡ uses_from index.settings 0 index.store.paths = c.as_slice.ensures.value ∙ c.self.invariant.rows.uses in
+    let ranking : Ranking = record { uses = c.as_slice.result; query = c.in_ok-query.field-0; rules = c.in_ok-rules_of.field-0 } in
     subst (λ (i : Index). IsRankingOf ranking i call) c.self.view_is (record {
-      uses = c.in_ok-uses_of.ensures.uses ∙ ap (uses_from index.settings 0) c.paths-paths.ensures;
-      below = c.in_ok-uses_of.ensures.ranks;
+      uses = used;
+      below = subst (RankedBelow 65535) (sym (used ∙ ap (uses_from index.settings 0) (sym c.paths-paths.ensures))) c.ranks_are_low.ensures;
       graph = c.in_ok-query.ensures.sound;
       costs = λ rows. c.in_ok-query.ensures.costs index.settings c.self.invariant.words rows (rules_in index call);
+      terms = c.in_ok-query.ensures.terms index.settings c.self.invariant.words;
       rules =
           c.in_ok-rules_of.ensures ∙ ap (λ ps. rules_with index.settings ps c.deref.result.now) c.paths-paths.ensures
           ∙ ap (rules_with index.settings index.store.paths) (c.deref.ensures.value ∙ ap (λ (v : SearchView). v.sort) c.call.view_is);

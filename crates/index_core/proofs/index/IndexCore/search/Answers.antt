@@ -1,10 +1,13 @@
-use Rattle.std.proofs.Common.{◌+◌, Ok, ap, sym, ◌∙◌, length, map}
+use Rattle.std.proofs.Common.{◌≡◌, ◌+◌, ◌-◌, min, Ok, ap, sym, subst, ◌∙◌, length, map}
 use Rattle.std.specs.List.{filter_map}
 use Rattle.std.specs.Option.{option_map}
 use Rattle.search_base.specs.Trying.{◌>>◌}
 use Rattle.search_base.specs.declared.document.DocId.{DocId}
 use Rattle.index_core.specs.Index.{Index}
-use Rattle.index_core.specs.Found.{found_in}
+use Rattle.search_call.specs.Windows.{offset_of}
+use Rattle.index_core.specs.Found.{found_in, asked_of, hit_of, most_hits, window_size}
+use Rattle.index_core.specs.Matching.{matching}
+use Rattle.index_core.proofs.EachOnce.{hits-full}
 use Rattle.search_settings.specs.SearchFaults.{search_fault}
 use Rattle.index_core.specs.Shown.{hit_at, hit_shown}
 use Rattle.index_core.specs.Opened.{log_state}
@@ -22,6 +25,19 @@ returns-clause-fetches g c =
     ∙ ap (λ n. c.args.fetches.now + n) (sym (length-map (λ (id : DocId). id.0) ids) ∙ ap (λ is. length (map (λ (id : DocId). id.0) is)) c.as_slice.ensures.value ∙ f.number ∙ ap length (sym f.hits)
     ∙ ap (λ is. length (filter_map (hit_at now call) (map (λ (id : DocId). id.0) is))) (sym c.as_slice.ensures.value)
     ∙ ap length (sym (filter-mapped (λ (id : DocId). id.0) (hit_at now call) ids)) ∙ sym (ap length c.in_ok-hits.ensures.hits) ∙ length-map hit_shown c.in_ok-hits.hits.items)
+
+pub returns-clause-full : goal.returns-clause-full
+returns-clause-full g c =
+    let f = c.in_ok-ids.ensures.found in
+    let now = c.args.self.now in
+    let call = c.args.call.now in
+    let ids = c.as_slice.result.now in
+    let index : Index = record { key = c.self.inside.key; store = c.self.inside.store.content; settings = c.self.inside.settings } in
+    let hits : map hit_shown c.in_ok-hits.hits.items ≡ (found_in now call).hits =
+    c.in_ok-hits.ensures.hits ∙ filter-mapped (λ (id : DocId). id.0) (hit_at now call) ids ∙ ap (λ is. filter_map (hit_at now call) (map (λ (id : DocId). id.0) is)) c.as_slice.ensures.value ∙ f.hits in
+    sym (length-map hit_shown c.in_ok-hits.hits.items) ∙ ap length hits ∙ length-map (hit_of call) (asked_of (most_hits now) call (matching now call))
+    ∙ subst (λ (i : Index). length (asked_of (most_hits i) call (matching i call)) ≡ min (window_size (most_hits i) call) (length (matching i call) - offset_of call.window)) c.self.view_is
+    (hits-full index call c.self.invariant.rows.sound (offset_of call.window) (window_size (most_hits index) call))
 
 pub returns-clause-answer : goal.returns-clause-answer
 returns-clause-answer g c =

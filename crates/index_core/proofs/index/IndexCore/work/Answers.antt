@@ -11,19 +11,19 @@ use Rattle.index_core.specs.PlanView.{work_view, IsGood, replace, update, remove
 use Rattle.index_core.specs.Plans.{after_work}
 use Rattle.doc_index.specs.Left.{without_named}
 use Rattle.index_core.proofs.Keeping.{keyed-tried}
-use Rattle.index_core.proofs.Updating.{updated-ids, updated-stored}
+use Rattle.index_core.proofs.Replaced.{updated-ids, updated-stored}
 use Rattle.index_core.proofs.index.IndexCore.work.Goals as goal
 
 pub returns-in_ok-rows-in-Update-clause-done : goal.returns-in_ok-rows-in-Update-clause-done
 returns-in_ok-rows-in-Update-clause-done g c =
     let s = c.self.inside.store.content in
-    let same = ap (λ v. all_stored v s) c.in_ok-rows-in-Update.ensures.rows ∙ sym (updated-stored c.in-Update.rows.items s) ∙ ap (λ w. after_work (work_view w) s) (sym c.in-Update.is) ∙ ap (λ (i : Index). after_work (work_view c.args.work) i.store) c.self.view_is in
+    let same = ap (λ v. all_stored v s) c.in_ok-rows-in-Update.ensures.rows ∙ (updated-stored c.in-Update.rows.items s c.self.invariant.rows.sound c.in_ok-rows-in-Update.ensures.back) ∙ ap (λ w. after_work (work_view w) s) (sym c.in-Update.is) ∙ ap (λ (i : Index). after_work (work_view c.args.work) i.store) c.self.view_is in
     subst (λ v. OnOk c.store_rows-in-Update.result (c.store_rows-in-Update.new.store.content ≡ v)) same c.store_rows-in-Update.ensures.stored
 
 pub returns-in_ok-rows-in-Update-clause-within : goal.returns-in_ok-rows-in-Update-clause-within
 returns-in_ok-rows-in-Update-clause-within g c =
     let s = c.self.inside.store.content in
-    let same = ap (λ v. all_stored v s) c.in_ok-rows-in-Update.ensures.rows ∙ sym (updated-stored c.in-Update.rows.items s) ∙ ap (λ w. after_work (work_view w) s) (sym c.in-Update.is) ∙ ap (λ (i : Index). after_work (work_view c.args.work) i.store) c.self.view_is in
+    let same = ap (λ v. all_stored v s) c.in_ok-rows-in-Update.ensures.rows ∙ (updated-stored c.in-Update.rows.items s c.self.invariant.rows.sound c.in_ok-rows-in-Update.ensures.back) ∙ ap (λ w. after_work (work_view w) s) (sym c.in-Update.is) ∙ ap (λ (i : Index). after_work (work_view c.args.work) i.store) c.self.view_is in
     subst (λ v. Checks c.store_rows-in-Update.result (option_map store_refusal (spent v))) same c.store_rows-in-Update.ensures.within
 
 pub patch_settings-requires-clause-good : goal.patch_settings-requires-clause-good
@@ -47,7 +47,7 @@ invariant_of-self-in-Update g c =
     let comes = subst (λ w. IsKeyedWork c.self.inside.key (work_view w)) c.in-Update.is (subst (λ (i : Index). IsKeyedWork i.key (work_view c.args.work)) (sym c.self.view_is) c.requires.keyed) in
     let put = c.store_rows-in-Update in
     let now = put.new.store.content in
-    let done = subst (λ v. OnOk put.result (now ≡ v)) (ap (λ v. all_stored v s) c.in_ok-rows-in-Update.ensures.rows ∙ sym (updated-stored rows s)) put.ensures.stored in
+    let done = subst (λ v. OnOk put.result (now ≡ v)) (ap (λ v. all_stored v s) c.in_ok-rows-in-Update.ensures.rows ∙ (updated-stored rows s c.self.invariant.rows.sound c.in_ok-rows-in-Update.ensures.back)) put.ensures.stored in
     record {
       keyed = keyed-tried put.result c.self.inside.key (update rows) s now done put.ensures.stays c.self.invariant.keyed comes c.in_ok-rows-in-Update.ensures.back;
       rows = put.ensures.indexed;
