@@ -1,9 +1,10 @@
 //! The costs of words in a row, each of which costs nothing in the documents of its own rank.
-ghost use Rattle.std.specs.Prelude.{◌≡◌, ◌<◌, refl, IfOk, OnOk};
+ghost use Rattle.std.specs.Prelude.{◌≡◌, ℕ, ◌<◌, refl, IfOk, OnOk};
 ghost use Rattle.std.specs.List.{AllByRecursion};
 ghost use Rattle.search_base.specs.Graphs.{IsTerm};
 ghost use Rattle.condition_graph.specs.Promise.{IsCondition, IsConditionGraph};
 ghost use Rattle.doc_sets.specs.Sets.{intersection};
+ghost use Rattle.path_costs.specs.Sets.{set_at};
 ghost use Rattle.bench_parts.specs.Splits.{ids_at};
 ghost use Rattle.bench_parts.specs.Ranks.{rank_of, is_ranked, IsStep};
 
@@ -38,6 +39,21 @@ impl<'a> Resolve for Ranks<'a> {
             }
         }
     }
+
+    fn docs_by_number(
+        &self,
+        alloc: Global,
+        condition: &Condition,
+        universe: &DocSet,
+    ) -> Result<Vec<(u16, DocSet)>, NoMemory> {
+        match rank_of(condition) {
+            Some(_) => {
+                let rows = of_each_rank(alloc, self.sets, universe)?;
+                Ok(rows)
+            }
+            None => Err(NoMemory),
+        }
+    }
 }
 
 fn rank_of(condition: &Condition) -> Option<u16>
@@ -59,6 +75,27 @@ fn of_rank(alloc: Global, sets: &[DocSet], rank: u16, universe: &DocSet) -> Resu
         Some(set) => universe.and(alloc, set),
         None => Ok(DocSet::new(alloc)),
     }
+}
+
+// The documents of each rank, where the ranks are few enough.
+fn of_each_rank(
+    alloc: Global,
+    sets: &[DocSet],
+    universe: &DocSet,
+) -> Result<Vec<(u16, DocSet)>, NoMemory>
+    ensures { IfOk result (λ rows. (n : ℕ) → set_at n rows.items ≡ intersection universe.now.ids (ids_at sets.now n)) }
+{
+    let mut rows = Vec::new(alloc);
+    let mut rank: u16 = 0;
+    for set in sets {
+        if rank == u16::MAX {
+            return Err(NoMemory);
+        }
+        let both = universe.and(alloc, set)?;
+        rows.push((rank, both))?;
+        rank += 1;
+    }
+    Ok(rows)
 }
 
 // A term of one word.
