@@ -3,3 +3,4 @@ pub mod Runs
 pub mod Pairs
 pub mod Crash
 pub mod Reopening
+pub mod Syncs

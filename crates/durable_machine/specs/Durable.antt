@@ -1,7 +1,10 @@
 -- A machine whose accepted changes stand on two disks.
-use Rattle.std.specs.Prelude.{◌≡◌, ◌≢◌, ℕ, List, Option, None, Some, Ok}
+use Rattle.std.specs.Prelude.{◌≡◌, ◌≢◌, ℕ, List, ◌∷◌, Option, None, Some, Ok}
 use Rattle.outside_io.specs.Disks.{Contents, fresh, MayLeave}
 use Rattle.change_journal.specs.Fits.{IsSettled, Fits}
+use Rattle.change_journal.specs.Shut.{image_disk}
+use Rattle.index_image.specs.Image.{state_at}
+use Rattle.search_routes.specs.Images.{Spells}
 use Rattle.search_routes.specs.State.{State}
 use Rattle.durable_machine.specs.Held.{held}
 use Rattle.durable_machine.specs.declared.machine.DurableMachine.{DurableMachine}
@@ -22,3 +25,7 @@ pub record IsDurable (m : DurableMachine) (a b : Option Contents) : Type 0 where
   pub settled_a : IsSettled a
   pub settled_b : IsSettled b
   pub holds : Hold a b m.machine
+
+-- this disk is open at generation 1, with an image of the state and no change behind it
+abbrev pub IsFirst : State → Option Contents → Type 0
+IsFirst s o = (image : List ℕ) × Spells image s (state_at image) × (o ≡ Some (fresh (1 ∷ image_disk 1 image)))

@@ -1,9 +1,11 @@
-ghost use Rattle.std.specs.Prelude.{◌≡◌, ◌≢◌, ◌⊎◌, ◌+◌, ◌<◌, ◌≤◌, ◌^◌, ◌↔◌, ℕ, List, Bool, IsTrue, true, false, Option, None, Some, Ok, Err, IfOk, OnOk, OnErr};
+ghost use Rattle.std.specs.Prelude.{◌≡◌, ◌≢◌, ◌⊎◌, ◌+◌, ◌<◌, ◌≤◌, ◌^◌, ◌↔◌, ℕ, List, length, Bool, IsTrue, true, false, Option, None, Some, Ok, Err, IfOk, OnOk, OnErr};
 ghost use Rattle.outside_io.specs.Disks.{fresh};
 ghost use Rattle.outside_io.specs.Faults.{Rose};
 ghost use Rattle.http_wire.specs.Sent.{IsSentAs};
 ghost use Rattle.http_wire.specs.Wire.{request_of};
 ghost use Rattle.change_journal.specs.Fits.{Fits, IsDue, IsSettled};
+ghost use Rattle.change_journal.specs.Format.{stored};
+ghost use Rattle.change_journal.specs.Shut.{is_told};
 ghost use Rattle.change_journal.specs.declared.opening.JournalFault.TheVariants.{Damaged, DiskFault};
 ghost use Rattle.search_routes.specs.State.{State};
 ghost use Rattle.search_routes.specs.Chosen.{answer_of, state_after};
@@ -12,12 +14,12 @@ ghost use Rattle.search_routes.specs.Needs.{needed_fetches};
 ghost use Rattle.search_routes.specs.Openings.{opened_by, most_opened_by};
 ghost use Rattle.search_routes.specs.Redo.{redone};
 ghost use Rattle.durable_machine.specs.Held.{held, opening_need};
-ghost use Rattle.durable_machine.specs.Durable.{CrashHolds, Hold, IsDurable};
+ghost use Rattle.durable_machine.specs.Durable.{CrashHolds, Hold, IsDurable, IsFirst};
 
 use crate::opening::make_again;
-use crate::recording::{append, checkpoint, entry_of};
+use crate::recording::{append, checkpoint, entry_of, read_and_sync};
 use bucket_sort::BucketLog;
-use change_journal::{Journal, JournalFault, Record, open};
+use change_journal::{Journal, JournalFault, Record};
 use http_wire::{Reply, Wire};
 use outside_io::{Disk, Failed};
 use search_base::Steps;
@@ -39,8 +41,10 @@ pub struct Answered {
 }
 
 impl DurableMachine {
-    /// Opens the machine that two disks hold. Where no disk is open it makes the first checkpoint, of a machine that
-    /// holds nothing. `fetches` counts the stored documents that are read, at most `opening_need`.
+    /// Opens the machine that two disks hold. Both disks are synced once they were read, before anything else is
+    /// written, so that nothing is pending from then on. Where no disk is open it makes the first checkpoint, of a
+    /// machine that holds nothing; anywhere else what the disks hold stays as it is, damage too. `fetches` counts the
+    /// stored documents that are read, at most `opening_need`.
     ///
     /// `Damaged` comes only with the first byte that is damaged, `DiskFault` only where a disk's count of faults rose,
     /// and `NoMemory` for want of memory. On an error, whatever a crash leaves on the disks holds what they held
@@ -51,8 +55,6 @@ impl DurableMachine {
         disk_b: &mut K,
         fetches: &mut Steps<F>,
     ) -> Result<DurableMachine, JournalFault>
-        requires settled_a { IsSettled (K.contents disk_a.old) }
-        requires settled_b { IsSettled (K.contents disk_b.old) }
         ensures durable { IfOk result (λ m. IsDurable m (K.contents disk_a.new) (K.contents disk_b.new)) }
         ensures crash_now { IfOk result (λ m. CrashHolds (K.contents disk_a.new) (K.contents disk_b.new) (λ t. t ≡ m.machine)) }
         ensures state { IfOk result (λ m. (xs ys : List ℕ) → K.contents disk_a.old ≡ Some (fresh xs) → K.contents disk_b.old ≡ Some (fresh ys)
@@ -65,10 +67,16 @@ impl DurableMachine {
         ensures fault { result ≡ Err DiskFault → Rose (K.disk_faults disk_a.old) (K.disk_faults disk_a.new) ⊎ Rose (K.disk_faults disk_b.old) (K.disk_faults disk_b.new) }
         ensures later_a { K.disk_faults disk_a.old ≤ K.disk_faults disk_a.new }
         ensures later_b { K.disk_faults disk_b.old ≤ K.disk_faults disk_b.new }
+        ensures untouched { (xs ys : List ℕ) → K.contents disk_a.old ≡ Some (fresh xs) → K.contents disk_b.old ≡ Some (fresh ys)
+            → stored xs ys ≢ Ok None → (K.contents disk_a.new ≡ K.contents disk_a.old) × (K.contents disk_b.new ≡ K.contents disk_b.old) }
+        ensures first { IfOk result (λ m. (xs ys : List ℕ) → K.contents disk_a.old ≡ Some (fresh xs) → K.contents disk_b.old ≡ Some (fresh ys)
+            → stored xs ys ≡ Ok None → IsFirst m.machine (K.contents disk_a.new) × (K.contents disk_b.new ≡ K.contents disk_b.old)) }
+        ensures told_a { is_told (K.contents disk_a.new) ≡ is_told (K.contents disk_a.old) }
+        ensures told_b { is_told (K.contents disk_b.new) ≡ is_told (K.contents disk_b.old) }
         ensures fetched { (xs ys : List ℕ) → K.contents disk_a.old ≡ Some (fresh xs) → K.contents disk_b.old ≡ Some (fresh ys)
             → fetches.new ≤ fetches.old + opening_need xs ys }
     {
-        let opened = match open(alloc, disk_a, disk_b) {
+        let opened = match read_and_sync(alloc, disk_a, disk_b) {
             Ok(opened) => opened,
             Err(fault) => return Err(fault),
         };
@@ -112,6 +120,12 @@ impl DurableMachine {
         ensures crash_now { OnOk result (CrashHolds (K.contents disk_a.new) (K.contents disk_b.new) (λ t. t ≡ self.new.machine)) }
         ensures crash { OnErr result (CrashHolds (K.contents disk_a.new) (K.contents disk_b.new) (λ t. (t ≡ self.old.machine) ⊎ (t ≡ self.new.machine))) }
         ensures due { IfOk result (λ done. IsDue self.new.journal → (done.passed ≡ true) ⊎ (IsDue self.old.journal × (self.new.machine ≡ self.old.machine))) }
+        ensures passed { IfOk result (λ done. done.passed ≡ true → IsDue self.new.journal × (self.new.machine.changes ≡ self.old.machine.changes + 1)) }
+        ensures later { self.old.machine.changes ≤ self.new.machine.changes }
+        ensures only_due { self.new.journal.generation ≢ self.old.journal.generation
+            → (payload : List ℕ) × (redone self.old.machine payload ≡ Ok self.new.machine) × (16777216 < self.old.journal.size + length payload + 13) }
+        ensures told_a { is_told (K.contents disk_a.new) ≡ is_told (K.contents disk_a.old) }
+        ensures told_b { is_told (K.contents disk_b.new) ≡ is_told (K.contents disk_b.old) }
         ensures cause { OnErr result (Rose (K.disk_faults disk_a.old) (K.disk_faults disk_a.new) ⊎ Rose (K.disk_faults disk_b.old) (K.disk_faults disk_b.new)) }
         ensures later_a { K.disk_faults disk_a.old ≤ K.disk_faults disk_a.new }
         ensures later_b { K.disk_faults disk_b.old ≤ K.disk_faults disk_b.new }
@@ -171,6 +185,10 @@ impl DurableMachine {
             → redone s entry.payload ≡ Ok self.old.machine
             → CrashHolds (K.contents disk_a.new) (K.contents disk_b.new) (λ t. (t ≡ s) ⊎ (t ≡ self.new.machine))) }
         ensures due { IfOk result (λ passed. IsDue self.new.journal → passed ≡ true) }
+        ensures passed { IfOk result (λ passed. passed ≡ true → IsDue self.new.journal) }
+        ensures only_due { self.new.journal.generation ≢ self.old.journal.generation → 16777216 < self.old.journal.size + length entry.payload + 13 }
+        ensures told_a { is_told (K.contents disk_a.new) ≡ is_told (K.contents disk_a.old) }
+        ensures told_b { is_told (K.contents disk_b.new) ≡ is_told (K.contents disk_b.old) }
         ensures cause { OnErr result (Rose (K.disk_faults disk_a.old) (K.disk_faults disk_a.new) ⊎ Rose (K.disk_faults disk_b.old) (K.disk_faults disk_b.new)) }
         ensures later_a { K.disk_faults disk_a.old ≤ K.disk_faults disk_a.new }
         ensures later_b { K.disk_faults disk_b.old ≤ K.disk_faults disk_b.new }
@@ -191,6 +209,10 @@ impl DurableMachine {
         ensures durable { OnOk result (IsDurable self.new (K.contents disk_a.new) (K.contents disk_b.new)) }
         ensures crash { OnErr result (CrashHolds (K.contents disk_a.new) (K.contents disk_b.new) (λ t. t ≡ self.old.machine)) }
         ensures due { IfOk result (λ passed. IsDue self.new.journal → passed ≡ true) }
+        ensures passed { IfOk result (λ passed. passed ≡ true → IsDue self.new.journal) }
+        ensures only_due { self.new.journal.generation ≢ self.old.journal.generation → IsDue self.old.journal }
+        ensures told_a { is_told (K.contents disk_a.new) ≡ is_told (K.contents disk_a.old) }
+        ensures told_b { is_told (K.contents disk_b.new) ≡ is_told (K.contents disk_b.old) }
         ensures cause { OnErr result (Rose (K.disk_faults disk_a.old) (K.disk_faults disk_a.new) ⊎ Rose (K.disk_faults disk_b.old) (K.disk_faults disk_b.new)) }
         ensures later_a { K.disk_faults disk_a.old ≤ K.disk_faults disk_a.new }
         ensures later_b { K.disk_faults disk_b.old ≤ K.disk_faults disk_b.new }
@@ -224,6 +246,10 @@ impl DurableMachine {
             → CrashHolds (K.contents disk_a.new) (K.contents disk_b.new) (λ t. t ≡ self.old.machine)) }
         ensures whole { (disk place : ℕ) (found : Option ℕ) → result ≡ Err (Damaged disk place found) → ⊥ }
         ensures fault { result ≡ Err DiskFault → Rose (K.disk_faults disk_a.old) (K.disk_faults disk_a.new) ⊎ Rose (K.disk_faults disk_b.old) (K.disk_faults disk_b.new) }
+        ensures made { OnOk result ((xs : List ℕ) → K.contents disk_a.old ≡ Some (fresh xs) → IsFirst self.old.machine (K.contents disk_a.new)) }
+        ensures other { disk_b.new ≡ disk_b.old }
+        ensures told_a { is_told (K.contents disk_a.new) ≡ is_told (K.contents disk_a.old) }
+        ensures told_b { is_told (K.contents disk_b.new) ≡ is_told (K.contents disk_b.old) }
         ensures later_a { K.disk_faults disk_a.old ≤ K.disk_faults disk_a.new }
         ensures later_b { K.disk_faults disk_b.old ≤ K.disk_faults disk_b.new }
     {

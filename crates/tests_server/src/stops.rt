@@ -157,7 +157,7 @@ const TAKEN: &str = "0152414e4b49445801000000000000000d0000000000000001000000000
     0000000000000000 07000000 01 01000000 65 00 01 0100000000000000 07000000 01 01000000 65 00 00";
 
 // The status, disk 0, disk 1, the call from which disk 0 fails, disk 0 and disk 1 then.
-const OPENINGS: [(&str, &str, &str, u64, &str, &str); 10] = [
+const OPENINGS: [(&str, &str, &str, u64, &str, &str); 11] = [
     ("0", "", "", 40, FIRST, ""),
     ("0", "", "00 ff", 40, FIRST, "00 ff"),
     ("0", FIRST, "", 40, FIRST, ""),
@@ -168,6 +168,7 @@ const OPENINGS: [(&str, &str, &str, u64, &str, &str); 10] = [
     ("0 70 1", TAKEN, "", 40, TAKEN, ""),
     ("6", FIRST, "", 0, FIRST, ""),
     ("6", "", "", 2, "", ""),
+    ("6", "", "", 3, "", ""),
 ];
 
 fn opened(rt: &impl Abort, alloc: Global, a: &str, b: &str, from: u64) -> Outcome {
@@ -196,15 +197,15 @@ fn what_opening_two_disks_comes_to(rt: HostRuntime) {
 // The call from which disk 0 fails, how many later writes the crash lets through, the status, and whether the change
 // is there.
 const STOPS: [(u64, u64, &str, bool); 9] = [
-    (3, 0, "6", false),
     (4, 0, "6", false),
-    (4, 1, "6", false),
+    (5, 0, "6", false),
     (5, 1, "6", false),
-    (6, 0, "6", false),
-    (6, 1, "6", true),
+    (6, 1, "6", false),
     (7, 0, "6", false),
     (7, 1, "6", true),
-    (8, 0, "0", true),
+    (8, 0, "6", false),
+    (8, 1, "6", true),
+    (9, 0, "0", true),
 ];
 
 fn stopped(rt: &impl Abort, alloc: Global, from: u64) -> Outcome {
@@ -223,7 +224,7 @@ fn check_listed(rt: &impl Abort, alloc: Global, ran: &Outcome, kept: u64, is_the
 }
 
 // A change is there or not after a crash, and there wherever its reply was begun. Disk 0 holds no index and fails from a
-// call on: opening makes the calls 0 to 3, and recording the change the calls 4 to 7.
+// call on: opening makes the calls 0 to 4, the last of them a sync, and recording the change the calls 5 to 8.
 #[test]
 fn a_stop_while_a_change_is_recorded(rt: HostRuntime) {
     let alloc = rt.alloc();

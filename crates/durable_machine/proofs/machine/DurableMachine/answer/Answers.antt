@@ -1,9 +1,10 @@
-use Rattle.std.proofs.Common.{rules, refl, sym, subst, ◌∙◌, true}
+use Rattle.std.proofs.Common.{rules, refl, sym, subst, ◌≡◌, ◌∙◌, true, Ok}
 use Rattle.http_wire.specs.Reply.{memory_answer}
 use Rattle.http_wire.specs.Sent.{IsSentAs}
 use Rattle.http_wire.specs.Wire.{request_of}
 use Rattle.index_core.proofs.Opening.{opens-nothing}
 use Rattle.search_routes.specs.Chosen.{answer_of}
+use Rattle.search_routes.specs.Redo.{redone}
 use Rattle.durable_machine.proofs.Crash.{crash_now}
 use Rattle.durable_machine.proofs.machine.DurableMachine.answer.Goals as goal
 
@@ -51,3 +52,13 @@ pub returns-clause-step : goal.returns-clause-step
 returns-clause-step g c =
     let done = c.perform-reply.ensures.answered (request_of c.args.wire) c.in-Ok.ensures.call in
     (done.0, c.keep.ensures.machine ∙ done.2, done.1, done.3)
+
+pub returns-in_err-passed-clause-only_due : goal.returns-in_err-passed-clause-only_due
+returns-in_err-passed-clause-only_due g c = λ changed.
+    let again : redone c.args.self.now.machine c.in-Some.entry.payload ≡ Ok c.perform-reply.new.machine = search rules in
+    (c.in-Some.entry.payload, subst (λ m. redone c.args.self.now.machine c.in-Some.entry.payload ≡ Ok m) (sym c.keep.ensures.machine) again, c.keep.ensures.only_due changed)
+
+pub returns-clause-only_due : goal.returns-clause-only_due
+returns-clause-only_due g c = λ changed.
+    let again : redone c.args.self.now.machine c.in-Some.entry.payload ≡ Ok c.perform-reply.new.machine = search rules in
+    (c.in-Some.entry.payload, subst (λ m. redone c.args.self.now.machine c.in-Some.entry.payload ≡ Ok m) (sym c.keep.ensures.machine) again, c.keep.ensures.only_due changed)
