@@ -1,8 +1,9 @@
 -- Opening the machine that two disks hold, and what follows.
-use Rattle.std.specs.Prelude.{◌≡◌, ◌⊎◌, ℕ, ◌+◌, ◌≤◌, List, Option, Some, Ok, Err}
+use Rattle.std.specs.Prelude.{◌≡◌, ◌≢◌, ◌⊎◌, ℕ, ◌+◌, ◌≤◌, List, Option, None, Some, Ok, Err}
 use Rattle.outside_io.specs.Disks.{Contents, fresh}
 use Rattle.bucket_sort.specs.declared.log.Opening.{Opening as OpenedBucket}
 use Rattle.index_core.specs.Opened.{log_state}
+use Rattle.change_journal.specs.Format.{stored}
 use Rattle.search_routes.specs.State.{State}
 use Rattle.durable_machine.specs.Held.{held, opening_need}
 use Rattle.durable_machine.specs.Durable.{CrashHolds}
@@ -45,6 +46,10 @@ with_state state heard s = record {
 abbrev pub ForBytes : Unopened → (List ℕ → List ℕ → Type 0) → Type 0
 ForBytes s P = (xs ys : List ℕ) → s.disk_a.contents ≡ Some (fresh xs) → s.disk_b.contents ≡ Some (fresh ys) → P xs ys
 
+-- what the two disks hold is as it was, unless they held nothing: damage stays too
+abbrev pub AsTheyWere : Unopened → DiskState → DiskState → Type 0
+AsTheyWere old a b = ForBytes old (λ xs ys. stored xs ys ≢ Ok None → (a.contents ≡ old.disk_a.contents) × (b.contents ≡ old.disk_b.contents))
+
 -- The machine was opened: its state is the one that the disks held, and whatever a crash may now leave holds it. No
 -- bucket was opened on the way.
 pub record Opened (heard : Heard) (old : Unopened) (found : Shared) : Type 0 where
@@ -52,6 +57,9 @@ pub record Opened (heard : Heard) (old : Unopened) (found : Shared) : Type 0 whe
   pub crash : CrashHolds found.disk_a.contents found.disk_b.contents (λ t. t ≡ found.state)
   pub fetched : ForBytes old (λ xs ys. found.fetches ≤ old.fetches + opening_need xs ys)
   pub log : found.log ≡ log_state heard old.openings
+  pub untouched : AsTheyWere old found.disk_a found.disk_b
+  pub later_a : old.disk_a.faults ≤ found.disk_a.faults
+  pub later_b : old.disk_b.faults ≤ found.disk_b.faults
 
 -- why no machine is opened
 abbrev pub IsUnopened : Unopened → Unopened → Status → Type 0
@@ -75,6 +83,7 @@ pub record NotOpened (old new : Unopened) (status : Status) : Type 0 where
       → CrashHolds new.disk_a.contents new.disk_b.contents (λ t. t ≡ s))
   pub fetched : ForBytes old (λ xs ys. new.fetches ≤ old.fetches + opening_need xs ys)
   pub openings : new.openings ≡ old.openings
+  pub untouched : AsTheyWere old new.disk_a new.disk_b
 
 -- A machine was opened, and served from what was found to what was left; or none was, and all else is as it was. The
 -- log is let go at the end: it told what serving says.

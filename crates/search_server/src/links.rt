@@ -1,5 +1,6 @@
 // The loop over the links of a door.
 ghost use Rattle.std.specs.Prelude.{◌≡◌, ◌≤◌, true, false};
+ghost use Rattle.change_journal.specs.Shut.{is_told};
 ghost use Rattle.durable_machine.specs.Durable.{IsDurable};
 ghost use Rattle.index_core.specs.Opened.{log_state};
 ghost use Rattle.search_server.specs.LinkState.{link_state, shared_state};
@@ -47,6 +48,8 @@ pub fn serve_links<P: Link, D: Door, K: Disk, F, G>(
     ensures left { P.left pipe.new ≡ P.left pipe.old }
     ensures read_faults { P.read_faults pipe.new ≡ P.read_faults pipe.old }
     ensures write_later { P.write_faults pipe.old ≤ P.write_faults pipe.new }
+    ensures told_a { is_told (K.contents disk_a.new) ≡ is_told (K.contents disk_a.old) }
+    ensures told_b { is_told (K.contents disk_b.new) ≡ is_told (K.contents disk_b.old) }
     ensures later_a { K.disk_faults disk_a.old ≤ K.disk_faults disk_a.new }
     ensures later_b { K.disk_faults disk_b.old ≤ K.disk_faults disk_b.new }
 {

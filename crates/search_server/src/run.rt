@@ -1,6 +1,7 @@
 // What the program does for the words of the command line.
 ghost use Rattle.std.specs.Prelude.{◌≡◌, ◌↔◌, ◌≤◌, ℕ, Some, None, false, IfErr, IfOk};
 ghost use Rattle.change_journal.specs.Fits.{IsSettled};
+ghost use Rattle.change_journal.specs.Shut.{is_told};
 ghost use Rattle.durable_machine.specs.Durable.{IsDurable};
 ghost use Rattle.index_core.specs.Opened.{log_state};
 ghost use Rattle.search_server.specs.LinkState.{link_state, shared_state};
@@ -29,8 +30,6 @@ fn open_machine<K: Disk, F>(
     disk_b: &mut K,
     fetches: &mut Steps<F>,
 ) -> Result<DurableMachine, Status>
-    requires settled_a { IsSettled (K.contents disk_a.old) }
-    requires settled_b { IsSettled (K.contents disk_b.old) }
     ensures opened { IfOk result (λ machine. (heard : Heard) (openings : ℕ) → Opened heard
         (unopened_state K.contents K.disk_faults fetches.old openings disk_a.old disk_b.old)
         (shared_state K.contents K.disk_faults machine.machine fetches.new (log_state heard openings)
@@ -40,6 +39,8 @@ fn open_machine<K: Disk, F>(
         (unopened_state K.contents K.disk_faults fetches.old openings disk_a.old disk_b.old)
         (unopened_state K.contents K.disk_faults fetches.new openings disk_a.new disk_b.new)
         status) }
+    ensures told_a { is_told (K.contents disk_a.new) ≡ is_told (K.contents disk_a.old) }
+    ensures told_b { is_told (K.contents disk_b.new) ≡ is_told (K.contents disk_b.old) }
     ensures later_a { K.disk_faults disk_a.old ≤ K.disk_faults disk_a.new }
     ensures later_b { K.disk_faults disk_b.old ≤ K.disk_faults disk_b.new }
 {
@@ -125,6 +126,8 @@ pub fn run_search_server<P: Link, D: Door, K: Disk, F, G>(
     ensures none_out { D.is_out door.new ≡ false }
     ensures read_later { P.read_faults pipe.old ≤ P.read_faults pipe.new }
     ensures write_later { P.write_faults pipe.old ≤ P.write_faults pipe.new }
+    ensures told_a { is_told (K.contents disk_a.new) ≡ is_told (K.contents disk_a.old) }
+    ensures told_b { is_told (K.contents disk_b.new) ≡ is_told (K.contents disk_b.old) }
     ensures later_a { K.disk_faults disk_a.old ≤ K.disk_faults disk_a.new }
     ensures later_b { K.disk_faults disk_b.old ≤ K.disk_faults disk_b.new }
 {

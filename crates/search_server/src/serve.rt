@@ -1,5 +1,6 @@
 // The loop over one link.
-ghost use Rattle.std.specs.Prelude.{◌≤◌};
+ghost use Rattle.std.specs.Prelude.{◌≡◌, ◌+◌, ◌≤◌};
+ghost use Rattle.change_journal.specs.Shut.{is_told};
 ghost use Rattle.durable_machine.specs.Durable.{IsDurable};
 ghost use Rattle.index_core.specs.Opened.{log_state};
 ghost use Rattle.search_server.specs.LinkState.{link_state, shared_state};
@@ -57,8 +58,11 @@ pub fn serve_link<P: Link, K: Disk, F, G>(
     ensures durable { IsGoing result.status → IsDurable machine.new (K.contents disk_a.new) (K.contents disk_b.new) }
     ensures due { IsGoing result.status → PassedIfDue machine.old machine.new result.passed }
     ensures requests { result.requests ≤ 1000000 }
+    ensures passed_few { result.passed + machine.old.machine.changes ≤ machine.new.machine.changes }
     ensures read_later { P.read_faults link.old ≤ P.read_faults link.new }
     ensures write_later { P.write_faults link.old ≤ P.write_faults link.new }
+    ensures told_a { is_told (K.contents disk_a.new) ≡ is_told (K.contents disk_a.old) }
+    ensures told_b { is_told (K.contents disk_b.new) ≡ is_told (K.contents disk_b.old) }
     ensures later_a { K.disk_faults disk_a.old ≤ K.disk_faults disk_a.new }
     ensures later_b { K.disk_faults disk_b.old ≤ K.disk_faults disk_b.new }
 {

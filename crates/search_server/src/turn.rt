@@ -1,6 +1,7 @@
 // One turn of a link: one request and its reply.
-ghost use Rattle.std.specs.Prelude.{◌≡◌, ◌⊎◌, ◌==◌, ◌||◌, ◌<◌, ◌≤◌, true, IfSome};
+ghost use Rattle.std.specs.Prelude.{◌≡◌, ◌⊎◌, ◌==◌, ◌||◌, ◌<◌, ◌≤◌, ◌+◌, true, false, IfSome};
 ghost use Rattle.std.specs.Io.KnownBytes.{prepend_known};
+ghost use Rattle.change_journal.specs.Shut.{is_told};
 ghost use Rattle.durable_machine.specs.Durable.{IsDurable};
 ghost use Rattle.index_core.specs.Opened.{log_state};
 ghost use Rattle.search_server.specs.LinkState.{link_state, shared_state};
@@ -75,6 +76,8 @@ fn says_close(closes: bool, left: u64) -> bool
 fn count(passed: &mut u64, is_passed: bool)
     ensures counted { is_passed ≡ true → 0 < passed.new }
     ensures later { passed.old ≤ passed.new }
+    ensures most { passed.new ≤ passed.old + 1 }
+    ensures none { is_passed ≡ false → passed.new ≡ passed.old }
 {
     if is_passed {
         *passed = passed.saturating_add(1);
@@ -109,8 +112,11 @@ pub fn serve_one<P: Link, K: Disk, F, G>(
     ensures durable { (result ≡ Turn.DiskFault) ⊎ IsDurable machine.new (K.contents disk_a.new) (K.contents disk_b.new) }
     ensures due { (result ≡ Turn.DiskFault) ⊎ PassedIfDue machine.old machine.new passed.new }
     ensures passed { passed.old ≤ passed.new }
+    ensures passed_few { passed.new + machine.old.machine.changes ≤ passed.old + machine.new.machine.changes }
     ensures read_later { P.read_faults link.old ≤ P.read_faults link.new }
     ensures write_later { P.write_faults link.old ≤ P.write_faults link.new }
+    ensures told_a { is_told (K.contents disk_a.new) ≡ is_told (K.contents disk_a.old) }
+    ensures told_b { is_told (K.contents disk_b.new) ≡ is_told (K.contents disk_b.old) }
     ensures later_a { K.disk_faults disk_a.old ≤ K.disk_faults disk_a.new }
     ensures later_b { K.disk_faults disk_b.old ≤ K.disk_faults disk_b.new }
 {

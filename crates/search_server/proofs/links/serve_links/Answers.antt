@@ -20,6 +20,8 @@ loop-served-init g c =
       read_faults = refl;
       write_later = omega arith;
       door_later = omega arith;
+      told_a = refl;
+      told_b = refl;
       later_a = omega arith;
       later_b = omega arith;
     }
@@ -120,6 +122,8 @@ loop-served-preserved g c =
       read_faults = c.write_line.ensures.read_faults ∙ c.loop-served.invariant.read_faults;
       write_later = omega (arith, c.write_line.ensures.cause.later, c.loop-served.invariant.write_later);
       door_later = omega (arith, c.give_back.ensures.faults, c.next.ensures.cause.later, c.loop-served.invariant.door_later);
+      told_a = c.serve_link-end.ensures.told_a ∙ c.loop-served.invariant.told_a;
+      told_b = c.serve_link-end.ensures.told_b ∙ c.loop-served.invariant.told_b;
       later_a = omega (arith, c.serve_link-end.ensures.later_a, c.loop-served.invariant.later_a);
       later_b = omega (arith, c.serve_link-end.ensures.later_b, c.loop-served.invariant.later_b);
     }

@@ -1,4 +1,5 @@
 use Rattle.std.proofs.Common.{◌≡◌, ◌≤◌, true, false}
+use Rattle.change_journal.specs.Shut.{is_told}
 use Rattle.durable_machine.specs.Durable.{IsDurable}
 use Rattle.index_core.specs.Opened.{log_state}
 use Rattle.search_server.specs.LinkState.{link_state, shared_state}
@@ -21,6 +22,8 @@ invariant-loop-served g l = record {
   read_faults : g.P.Link.read_faults l.pipe ≡ g.P.Link.read_faults l.fn.pipe;
   write_later : g.P.Link.write_faults l.fn.pipe ≤ g.P.Link.write_faults l.pipe;
   door_later : g.D.Door.door_faults l.fn.door ≤ g.D.Door.door_faults l.door;
+  told_a : is_told (g.K.Disk.contents l.disk_a) ≡ is_told (g.K.Disk.contents l.fn.disk_a);
+  told_b : is_told (g.K.Disk.contents l.disk_b) ≡ is_told (g.K.Disk.contents l.fn.disk_b);
   later_a : g.K.Disk.disk_faults l.fn.disk_a ≤ g.K.Disk.disk_faults l.disk_a;
   later_b : g.K.Disk.disk_faults l.fn.disk_b ≤ g.K.Disk.disk_faults l.disk_b;
 }

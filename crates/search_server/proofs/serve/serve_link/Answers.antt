@@ -25,8 +25,11 @@ loop-served-init g c = record {
   progress = λ bytes e. starts bytes _ _ (ap (λ v. prepend_known v (g.P.Link.left c.args.link.now)) c.in-Ok.ensures ∙ ap (λ v. prepend_known [] v) e) refl refl refl refl;
   durable = c.requires.durable;
   due = λ due. inr (due, refl);
+  passed_few = omega arith;
   read_later = omega arith;
   write_later = omega arith;
+  told_a = refl;
+  told_b = refl;
   later_a = omega arith;
   later_b = omega arith;
 }
@@ -47,8 +50,11 @@ loop-served-preserved g c =
       durable = went_on n c.serve_one-turn.new.passed c.serve_one-turn.result (IsDurable c.serve_one-turn.new.machine (g.K.Disk.contents c.serve_one-turn.new.disk_a) (g.K.Disk.contents c.serve_one-turn.new.disk_b)) c.serve_one-turn.ensures.durable goes;
       due = due_later c.args.machine.now c.loop-served.machine c.serve_one-turn.new.machine c.loop-served.passed c.serve_one-turn.new.passed c.loop-served.invariant.due
           c.serve_one-turn.ensures.passed (went_on n c.serve_one-turn.new.passed c.serve_one-turn.result (PassedIfDue c.loop-served.machine c.serve_one-turn.new.machine c.serve_one-turn.new.passed) c.serve_one-turn.ensures.due goes);
+      passed_few = omega (arith, c.loop-served.invariant.passed_few, c.serve_one-turn.ensures.passed_few);
       read_later = omega (arith, c.serve_one-turn.ensures.read_later);
       write_later = omega (arith, c.serve_one-turn.ensures.write_later);
+      told_a = c.serve_one-turn.ensures.told_a ∙ c.loop-served.invariant.told_a;
+      told_b = c.serve_one-turn.ensures.told_b ∙ c.loop-served.invariant.told_b;
       later_a = omega (arith, c.serve_one-turn.ensures.later_a);
       later_b = omega (arith, c.serve_one-turn.ensures.later_b);
     }

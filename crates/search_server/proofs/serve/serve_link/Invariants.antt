@@ -1,5 +1,6 @@
-use Rattle.std.proofs.Common.{◌≡◌, ◌≤◌, ℕ, List, Some, false}
+use Rattle.std.proofs.Common.{◌≡◌, ◌+◌, ◌≤◌, ℕ, List, Some, false}
 use Rattle.std.specs.Io.KnownBytes.{prepend_known}
+use Rattle.change_journal.specs.Shut.{is_told}
 use Rattle.durable_machine.specs.Durable.{IsDurable}
 use Rattle.index_core.specs.Opened.{log_state}
 use Rattle.search_server.specs.LinkState.{link_state, shared_state}
@@ -18,8 +19,11 @@ invariant-loop-served g l = record {
       l.served false;
   durable : IsDurable l.machine (g.K.Disk.contents l.disk_a) (g.K.Disk.contents l.disk_b);
   due : PassedIfDue l.fn.machine l.machine l.passed;
+  passed_few : l.passed + l.fn.machine.machine.changes ≤ l.machine.machine.changes;
   read_later : g.P.Link.read_faults l.fn.link ≤ g.P.Link.read_faults l.link;
   write_later : g.P.Link.write_faults l.fn.link ≤ g.P.Link.write_faults l.link;
+  told_a : is_told (g.K.Disk.contents l.disk_a) ≡ is_told (g.K.Disk.contents l.fn.disk_a);
+  told_b : is_told (g.K.Disk.contents l.disk_b) ≡ is_told (g.K.Disk.contents l.fn.disk_b);
   later_a : g.K.Disk.disk_faults l.fn.disk_a ≤ g.K.Disk.disk_faults l.disk_a;
   later_b : g.K.Disk.disk_faults l.fn.disk_b ≤ g.K.Disk.disk_faults l.disk_b;
 }
