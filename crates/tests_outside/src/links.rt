@@ -1,3 +1,5 @@
+ghost use Rattle.std.specs.Prelude.{◌<◌};
+
 use outside_io::{Disk, Failed, FileDisk, Link, MemoryDisk, MemoryLink, StdLink};
 use std::alloc::Global;
 use std::fs;
