@@ -4,6 +4,7 @@ pub mod Classes
 pub mod Buckets
 pub mod Trace
 pub mod Told
+pub mod Opens
 pub mod Coming
 pub mod Laws
 pub mod Parts

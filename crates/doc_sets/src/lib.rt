@@ -17,6 +17,6 @@ mod merge;
 mod words;
 
 pub use bits::{BitIter, Bits};
-pub use builder::{DocSetBuilder, union_of};
+pub use builder::DocSetBuilder;
 pub use doc_set::{DocIter, DocSet};
 pub use law::{operations_are_on_members, sets_are_their_members};

@@ -9,7 +9,7 @@ ghost use Rattle.change_journal.specs.Shut.{is_told};
 ghost use Rattle.change_journal.specs.declared.opening.JournalFault.TheVariants.{Damaged, DiskFault};
 ghost use Rattle.search_routes.specs.State.{State};
 ghost use Rattle.search_routes.specs.Chosen.{answer_of, state_after};
-ghost use Rattle.index_core.specs.Opened.{log_state, Opens};
+ghost use Rattle.bucket_sort.specs.Opens.{log_state, Opens};
 ghost use Rattle.search_routes.specs.Needs.{needed_fetches};
 ghost use Rattle.search_routes.specs.Openings.{opened_by, most_opened_by};
 ghost use Rattle.search_routes.specs.Redo.{redone};

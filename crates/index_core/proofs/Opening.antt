@@ -8,7 +8,7 @@ use Rattle.bucket_sort.specs.Hits.{costs, stands_before}
 use Rattle.bucket_sort.specs.Told.{and_then}
 use Rattle.bucket_sort.specs.Trace.{place_of, is_opened, opened_classes}
 use Rattle.search_base.specs.Hits.{costs_before}
-use Rattle.index_core.specs.Opened.{LogState, Opens}
+use Rattle.bucket_sort.specs.Opens.{LogState, Opens}
 
 -- ---- lists
 

@@ -34,9 +34,6 @@ merged-stored (r ∷ rs) s = merged-stored rs (stored (updating r s) s)
 
 -- ---- the last place of an external id
 
-pub places-none : (places : BTreeMap (List ℕ) ℕ) → ((q : List ℕ) → get (slice_cmp nat_cmp) places q ≡ None) → ArePlaces places []
-places-none places empty = record { each = empty }
-
 pub map-behind : (rows : List StoreRow) (r : StoreRow) → externals (rows ++ r ∷ []) ≡ externals rows ++ r.external ∷ []
 map-behind [] r = refl
 map-behind (x ∷ rows) r = ap (λ v. x.external ∷ v) (map-behind rows r)

@@ -1,14 +1,11 @@
--- The buckets that a search opens on its way to its hits, and what a log tells of them.
-use Rattle.std.specs.Prelude.{◌≡◌, ℕ, ◌+◌, ◌*◌, min, Bool, true, false, List, [], length, map, slice_get, option_and_then, unwrap_or, Option, Some, None, Result, Ok, Err}
+-- The buckets that a search opens on its way to its hits.
+use Rattle.std.specs.Prelude.{ℕ, ◌*◌, min, List, [], length, map, slice_get, option_and_then, unwrap_or, Option, Some, None}
 use Rattle.search_base.specs.declared.cost_key.CostKey.{CostKey}
 use Rattle.search_base.specs.declared.cost_key.CostKey.TheVariants.{Number}
-use Rattle.search_base.specs.declared.fault.Fault.{Fault}
-use Rattle.search_base.specs.declared.fault.Fault.TheVariants as fault
 use Rattle.search_base.specs.CostOrder.{before}
 use Rattle.search_call.specs.SearchView.{SearchView}
 use Rattle.search_call.specs.Windows.{offset_of}
 use Rattle.bucket_sort.specs.declared.log.Opening.{Opening}
-use Rattle.bucket_sort.specs.Told.{and_then, GainsPrefix, RisesAtMost}
 use Rattle.bucket_sort.specs.Trace.{trace}
 use Rattle.doc_store.specs.Store.{row_at}
 use Rattle.search_settings.specs.declared.refusal.SearchRefusal.{SearchRefusal}
@@ -44,22 +41,3 @@ opened index call = unless_refused (search_fault index.settings call) (opened_in
 abbrev pub most_opened : Index → SearchView → ℕ
 most_opened index call = unless_refused (search_fault index.settings call)
     (length (rules_in index call) * min (window_end (most_hits index) call) (length (matching index call))) 0
-
--- what a log tells, where it tells it, and how many buckets were opened up to now
-pub record LogState : Type 0 where
-  pub told : Option (List Opening)
-  pub opened : ℕ
-
-abbrev pub log_state : Option (List Opening) → ℕ → LogState
-log_state told opened = record { told = told; opened = opened }
-
--- these buckets were opened one after the other; or, for want of memory, some of them from the first on
-abbrev pub Opens : Bool → List Opening → LogState → LogState → Type 0
-Opens false all old new = (new.told ≡ and_then old.told all) × (new.opened ≡ old.opened + length all)
-Opens true all old new = GainsPrefix old.told new.told all × RisesAtMost old.opened new.opened (length all)
-
--- whether memory was wanting
-abbrev pub is_starved : {A R : Type 0} → Result A (Fault R) → Bool
-is_starved (Ok x) = false
-is_starved (Err fault.NoMemory) = true
-is_starved (Err (fault.Refused refusal)) = false

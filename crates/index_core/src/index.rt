@@ -18,7 +18,8 @@ ghost use Rattle.index_core.specs.Fetches.{needed, hits_needed};
 ghost use Rattle.search_call.specs.Windows.{offset_of};
 ghost use Rattle.index_core.specs.Found.{found, most_hits, window_size, window_end as end_of_window};
 ghost use Rattle.index_core.specs.Matching.{matching, rules_in};
-ghost use Rattle.index_core.specs.Opened.{opened, opened_in, most_opened, log_state, Opens, is_starved};
+ghost use Rattle.bucket_sort.specs.Opens.{log_state, Opens, is_starved};
+ghost use Rattle.index_core.specs.Opened.{opened, opened_in, most_opened};
 ghost use Rattle.index_core.specs.Ranking.{IsRankingOf};
 ghost use Rattle.index_core.specs.Shown.{result_shown, hit_shown, hit_at, Finds};
 

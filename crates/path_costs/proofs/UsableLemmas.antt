@@ -218,11 +218,3 @@ known-pushed meets universe edges met edge docs last new count are is right is_e
   count = ap length is_met ∙ length-append met (Some docs ∷ []) ∙ ap (λ n. n + 1) count ∙ sym (length-append edges (edge ∷ [])) ∙ sym (ap length is_edges);
   last = subst (λ o. IfSome o (IsNumbered meets universe)) (sym is_last) right;
 }
-
--- a condition on a number is the one on its own number
-pub at_own : (condition : Condition) (n : ℕ) → number_of condition ≡ Some n → condition ≡ at_number n condition
-at_own Free n e = absurd (cc)
-at_own (Occurs term) n e = absurd (cc)
-at_own (Pair left right prefix cost) n e = let same : cost ≡ n = cc in ap (λ k. Pair left right prefix k) same
-at_own (AtRank term rank) n e = let same : rank ≡ n = cc in ap (λ k. AtRank term k) same
-at_own (AtBucket term at) n e = let same : at ≡ n = cc in ap (λ k. AtBucket term k) same

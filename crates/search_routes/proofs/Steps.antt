@@ -15,7 +15,7 @@ use Rattle.http_wire.specs.declared.reply.Reply.{Reply}
 use Rattle.index_core.specs.Index.{Index, empty_index}
 use Rattle.request_refusals.specs.declared.refusal.Refusal.{Refusal}
 use Rattle.bucket_sort.specs.declared.log.Opening.{Opening}
-use Rattle.index_core.specs.Opened.{Opens, is_starved}
+use Rattle.bucket_sort.specs.Opens.{Opens, is_starved}
 use Rattle.index_core.proofs.Opening.{opens-none, opens-some}
 use Rattle.search_base.specs.declared.fault.Fault.{Fault}
 use Rattle.search_base.specs.declared.fault.Fault.TheVariants as fault

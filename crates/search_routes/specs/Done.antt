@@ -8,7 +8,7 @@ use Rattle.http_wire.specs.Sent.{IsSentAs}
 use Rattle.http_wire.specs.declared.reply.Reply.{Reply}
 use Rattle.http_wire.specs.declared.reply.Reply.TheVariants.{Memory}
 use Rattle.index_core.specs.declared.call.Hit.{Hit as FoundHit}
-use Rattle.index_core.specs.Opened.{LogState, Opens}
+use Rattle.bucket_sort.specs.Opens.{LogState, Opens}
 use Rattle.request_replies.specs.declared.hit.Hit.{Hit}
 use Rattle.request_refusals.specs.declared.refusal.Refusal.{Refusal}
 use Rattle.search_base.specs.declared.fault.Fault.{Fault}

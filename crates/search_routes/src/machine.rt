@@ -1,6 +1,6 @@
 ghost use Rattle.std.specs.Prelude.{◌≡◌, ◌+◌, ◌<◌, ◌≤◌, IfOk, OnOk, OnErr};
 ghost use Rattle.doc_values.specs.Changes.{kind_view, change_view};
-ghost use Rattle.index_core.specs.Opened.{log_state, Opens as OpensBuckets, is_starved};
+ghost use Rattle.bucket_sort.specs.Opens.{log_state, Opens as OpensBuckets, is_starved};
 ghost use Rattle.index_image.specs.Image.{state_at};
 ghost use Rattle.index_image.specs.Rows.{image_view};
 ghost use Rattle.index_image.specs.State.{IsState};

@@ -5,7 +5,7 @@ ghost use Rattle.http_wire.specs.Wire.{request_of};
 ghost use Rattle.request_calls.specs.Calls.{IsAccepted, IsCall, OnChange, call_of};
 ghost use Rattle.request_calls.specs.Refusals.{refused};
 ghost use Rattle.search_routes.specs.Chosen.{or_memory};
-ghost use Rattle.index_core.specs.Opened.{log_state};
+ghost use Rattle.bucket_sort.specs.Opens.{log_state};
 ghost use Rattle.search_routes.specs.Done.{Answered, Answers, Performs, held_need, held_most, noted};
 ghost use Rattle.search_routes.specs.Machine.{most_changes};
 ghost use Rattle.search_routes.specs.Needs.{needed_fetches};

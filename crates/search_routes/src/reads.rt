@@ -1,7 +1,7 @@
 // The calls that change nothing, one function a route.
 ghost use Rattle.std.specs.Prelude.{◌≡◌, ◌+◌, ◌≤◌, IfOk, map, Ok};
 ghost use Rattle.std.specs.Option.{option_copied, option_map};
-ghost use Rattle.index_core.specs.Opened.{log_state, Opens, is_starved};
+ghost use Rattle.bucket_sort.specs.Opens.{log_state, Opens, is_starved};
 ghost use Rattle.index_core.specs.Shown.{result_shown};
 ghost use Rattle.request_calls.specs.Asked.{read_view};
 ghost use Rattle.request_calls.specs.Asked as asked;

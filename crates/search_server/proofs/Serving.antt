@@ -11,7 +11,7 @@ use Rattle.search_routes.specs.State.{State}
 use Rattle.search_routes.specs.Chosen.{state_after}
 use Rattle.search_routes.specs.Needs.{needed_fetches}
 use Rattle.search_routes.specs.Openings.{opened_by, most_opened_by}
-use Rattle.index_core.specs.Opened.{LogState, Opens}
+use Rattle.bucket_sort.specs.Opens.{LogState, Opens}
 use Rattle.search_server.specs.LinkState.{LinkState}
 use Rattle.search_server.specs.Run.{Event, requests_of, replies, reply_to, after, end_replies, Logs}
 use Rattle.search_server.specs.Turns.{Replied, ReplyCut, NotRecorded, NoneTaken, Quiet, TurnIs, end_by}

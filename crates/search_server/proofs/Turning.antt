@@ -9,7 +9,7 @@ use Rattle.http_wire.specs.declared.reply.Reply.{Reply}
 use Rattle.search_routes.specs.Chosen.{answer_of, state_after}
 use Rattle.search_routes.specs.Needs.{needed_fetches}
 use Rattle.search_routes.specs.Openings.{opened_by, most_opened_by}
-use Rattle.index_core.specs.Opened.{Opens}
+use Rattle.bucket_sort.specs.Opens.{Opens}
 use Rattle.search_server.specs.LinkState.{LinkState}
 use Rattle.search_server.specs.Run.{says_close, reply_to}
 use Rattle.search_server.specs.Turns.{Replied, ReplyCut}

@@ -1,7 +1,7 @@
 -- What a turn of a link finds, and serving it.
 use Rattle.std.specs.Prelude.{ℕ, List, Option}
 use Rattle.outside_io.specs.Disks.{Contents}
-use Rattle.index_core.specs.Opened.{LogState}
+use Rattle.bucket_sort.specs.Opens.{LogState}
 use Rattle.search_routes.specs.State.{State}
 
 -- what reads give of a disk and what a crash may leave of it, where it tells that; and how often it failed

@@ -2,7 +2,7 @@
 use Rattle.std.specs.Prelude.{◌≡◌, ◌≢◌, ◌⊎◌, ℕ, ◌+◌, ◌≤◌, List, Option, None, Some, Ok, Err}
 use Rattle.outside_io.specs.Disks.{Contents, fresh}
 use Rattle.bucket_sort.specs.declared.log.Opening.{Opening as OpenedBucket}
-use Rattle.index_core.specs.Opened.{log_state}
+use Rattle.bucket_sort.specs.Opens.{log_state}
 use Rattle.change_journal.specs.Format.{stored}
 use Rattle.search_routes.specs.State.{State}
 use Rattle.durable_machine.specs.Held.{held, opening_need}

@@ -4,7 +4,7 @@ use Rattle.http_wire.specs.Stream.{Request, End, between, closed, spent, rest, b
 use Rattle.http_wire.specs.Reply.{wire, refusal_answer}
 use Rattle.search_routes.specs.State.{State}
 use Rattle.search_routes.specs.Chosen.{answer_of, state_after}
-use Rattle.index_core.specs.Opened.{LogState, Opens}
+use Rattle.bucket_sort.specs.Opens.{LogState, Opens}
 use Rattle.search_routes.specs.Needs.{needed_fetches}
 use Rattle.search_routes.specs.Openings.{opened_by, most_opened_by}
 

@@ -7,7 +7,7 @@ use Rattle.http_wire.specs.Head.{IsBlank}
 use Rattle.http_wire.specs.Stops.{TakesFront}
 use Rattle.http_wire.specs.Reply.{wire, refusal_answer, WrotePart}
 use Rattle.search_routes.specs.Chosen.{state_after}
-use Rattle.index_core.specs.Opened.{Opens}
+use Rattle.bucket_sort.specs.Opens.{Opens}
 use Rattle.search_routes.specs.Needs.{needed_fetches}
 use Rattle.search_routes.specs.Openings.{opened_by, most_opened_by}
 use Rattle.durable_machine.specs.Durable.{CrashHolds}

@@ -2,7 +2,7 @@
 ghost use Rattle.std.specs.Prelude.{◌≡◌, ◌≤◌, true, false};
 ghost use Rattle.change_journal.specs.Shut.{is_told};
 ghost use Rattle.durable_machine.specs.Durable.{IsDurable};
-ghost use Rattle.index_core.specs.Opened.{log_state};
+ghost use Rattle.bucket_sort.specs.Opens.{log_state};
 ghost use Rattle.search_server.specs.LinkState.{link_state, shared_state};
 ghost use Rattle.search_server.specs.Links.{ServesDoor, door_state};
 

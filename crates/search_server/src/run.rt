@@ -3,7 +3,7 @@ ghost use Rattle.std.specs.Prelude.{◌≡◌, ◌↔◌, ◌≤◌, ℕ, Some, 
 ghost use Rattle.change_journal.specs.Fits.{IsSettled};
 ghost use Rattle.change_journal.specs.Shut.{is_told};
 ghost use Rattle.durable_machine.specs.Durable.{IsDurable};
-ghost use Rattle.index_core.specs.Opened.{log_state};
+ghost use Rattle.bucket_sort.specs.Opens.{log_state};
 ghost use Rattle.search_server.specs.LinkState.{link_state, shared_state};
 ghost use Rattle.search_server.specs.Served.{Serves};
 ghost use Rattle.search_server.specs.Links.{ServesDoor, door_state};

@@ -1,6 +1,6 @@
 use crate::checks::{check, check_ids, set_of};
 use doc_sets::{
-    Bits, DocSet, DocSetBuilder, operations_are_on_members, sets_are_their_members, union_of,
+    Bits, DocSet, DocSetBuilder, operations_are_on_members, sets_are_their_members,
 };
 use search_base::DocId;
 use std::alloc::Global;
@@ -157,8 +157,6 @@ fn check_operations(rt: &impl Abort, alloc: Global, l: &DocSet, r: &DocSet, want
     check(rt, l.and_len(r) == wanted.both.len() as u64, "length");
     let joined = l.or(alloc, r).expect(rt, "memory");
     check(rt, is_of(&joined, &wanted.either), "either");
-    let united = union_of(alloc, &[l, r]).expect(rt, "memory");
-    check(rt, is_of(&united, &wanted.either), "united");
     let alone = l.minus(alloc, r).expect(rt, "memory");
     check(rt, is_of(&alone, &wanted.alone), "alone");
 }

@@ -1,7 +1,7 @@
 use Rattle.std.proofs.Common.{[], refl, arith}
 use Rattle.doc_values.specs.Changes.{change_view}
 use Rattle.request_calls.specs.Asked.{read_view}
-use Rattle.index_core.specs.Opened.{is_starved, log_state}
+use Rattle.bucket_sort.specs.Opens.{is_starved, log_state}
 use Rattle.index_core.proofs.Opening.{opens-none}
 use Rattle.search_routes.specs.Done.{noted}
 use Rattle.search_routes.specs.Openings.{read_opened}

@@ -1,6 +1,7 @@
 use Rattle.std.proofs.Common.{true, false, Ok, subst}
 use Rattle.index_core.specs.Found.{found}
-use Rattle.index_core.specs.Opened.{Opens, log_state, is_starved, opened, most_opened}
+use Rattle.bucket_sort.specs.Opens.{Opens, log_state, is_starved}
+use Rattle.index_core.specs.Opened.{opened, most_opened}
 use Rattle.index_core.proofs.Opening.{opens-some, opens-either}
 use Rattle.index_core.specs.Shown.{result_shown}
 use Rattle.search_routes.specs.Done.{Sends}

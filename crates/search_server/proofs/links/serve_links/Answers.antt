@@ -1,6 +1,6 @@
 use Rattle.std.proofs.Common.{◌≡◌, ◌∷◌, [], ◌++◌, inl, inr, refl, ap, sym, subst, ◌∙◌, IfSome, arith}
 use Rattle.std.specs.Option.{option_map}
-use Rattle.index_core.specs.Opened.{log_state}
+use Rattle.bucket_sort.specs.Opens.{log_state}
 use Rattle.search_server.specs.LinkState.{link_state, shared_state}
 use Rattle.search_server.specs.Links.{Visit, door_state}
 use Rattle.search_server.proofs.Visits.{OneMore, nothing_yet, goes_on, ends_fault, ends_done, ends_cut, ends_failed, failed_later, rose_later}

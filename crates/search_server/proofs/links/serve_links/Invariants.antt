@@ -1,7 +1,7 @@
 use Rattle.std.proofs.Common.{◌≡◌, ◌≤◌, true, false}
 use Rattle.change_journal.specs.Shut.{is_told}
 use Rattle.durable_machine.specs.Durable.{IsDurable}
-use Rattle.index_core.specs.Opened.{log_state}
+use Rattle.bucket_sort.specs.Opens.{log_state}
 use Rattle.search_server.specs.LinkState.{link_state, shared_state}
 use Rattle.search_server.specs.Links.{door_state}
 use Rattle.search_server.proofs.Visits.{Underway}

@@ -1,5 +1,5 @@
 use Rattle.std.proofs.Common.{◌≡◌, Some, None, inl, inr, refl, subst, sym, ◌∙◌}
-use Rattle.index_core.specs.Opened.{log_state}
+use Rattle.bucket_sort.specs.Opens.{log_state}
 use Rattle.search_server.specs.LinkState.{link_state, shared_state}
 use Rattle.search_server.specs.Links.{ServesDoor, door_state}
 use Rattle.search_server.specs.Opening.{Unopened, IsUnopened, NotOpened}

@@ -2,7 +2,7 @@ use Rattle.std.proofs.Common.{◌≡◌, Some, None, [], false, refl, sym, subst
 use Rattle.std.specs.Io.KnownBytes.{prepend_known}
 use Rattle.durable_machine.specs.Durable.{IsDurable}
 use Rattle.durable_machine.proofs.Crash.{crash_now}
-use Rattle.index_core.specs.Opened.{log_state}
+use Rattle.bucket_sort.specs.Opens.{log_state}
 use Rattle.search_server.specs.LinkState.{LinkState, link_state, shared_state}
 use Rattle.search_server.specs.Passed.{PassedIfDue}
 use Rattle.search_server.specs.Turns.{end_by}

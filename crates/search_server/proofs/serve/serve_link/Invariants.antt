@@ -2,7 +2,7 @@ use Rattle.std.proofs.Common.{◌≡◌, ◌+◌, ◌≤◌, ℕ, List, Some, fa
 use Rattle.std.specs.Io.KnownBytes.{prepend_known}
 use Rattle.change_journal.specs.Shut.{is_told}
 use Rattle.durable_machine.specs.Durable.{IsDurable}
-use Rattle.index_core.specs.Opened.{log_state}
+use Rattle.bucket_sort.specs.Opens.{log_state}
 use Rattle.search_server.specs.LinkState.{link_state, shared_state}
 use Rattle.search_server.specs.Passed.{PassedIfDue}
 use Rattle.search_server.proofs.Progress.{Progress}

@@ -10,7 +10,7 @@ use Rattle.index_core.specs.Matching.{matching}
 use Rattle.index_core.proofs.EachOnce.{hits-full}
 use Rattle.search_settings.specs.SearchFaults.{search_fault}
 use Rattle.index_core.specs.Shown.{hit_at, hit_shown}
-use Rattle.index_core.specs.Opened.{log_state}
+use Rattle.bucket_sort.specs.Opens.{log_state}
 use Rattle.index_core.proofs.Tracing.{opens-fine}
 use Rattle.index_core.proofs.Finding.{filter-mapped, found-same, length-map}
 use Rattle.index_core.proofs.index.IndexCore.search.Goals as goal
