@@ -45,7 +45,7 @@ pub(crate) fn make_again<F>(
             Ok(machine) => Ok(DurableMachine { machine, journal }),
             Err(_) => Err(JournalFault::NoMemory),
         },
-        Some(rows) => match machine_of(alloc, active, rows, &changes, fetches) {
+        Some(rows) => match machine_of(alloc, active, rows, changes, fetches) {
             Ok(machine) => Ok(DurableMachine { machine, journal }),
             Err(fault) => Err(fault),
         },
@@ -57,16 +57,16 @@ fn machine_of<F>(
     alloc: Global,
     disk: u8,
     rows: ImageRows,
-    changes: &[StoredChange],
+    changes: Vec<StoredChange>,
     fetches: &mut Steps<F>,
 ) -> Result<Machine, JournalFault>
     requires { IsState (image_view rows) }
-    ensures run { (gate : ℕ) → gate < 2 ^ 64 → AllBelow gate (behind changes.now (shut gate))
-        → IsMade result (run_from disk (state_of (image_view rows)) (behind changes.now (shut gate))) }
-    ensures counted { IfOk result (λ machine. machine.changes ≡ rows.changes + length changes.now) }
+    ensures run { (gate : ℕ) → gate < 2 ^ 64 → AllBelow gate (behind changes.items (shut gate))
+        → IsMade result (run_from disk (state_of (image_view rows)) (behind changes.items (shut gate))) }
+    ensures counted { IfOk result (λ machine. machine.changes ≡ rows.changes + length changes.items) }
     ensures fault { IfErr result (λ fault. fault ≢ DiskFault) }
     ensures fetched { (gate : ℕ) → fetches.new ≤ fetches.old
-        + (image_need (image_view rows) + run_need (state_of (image_view rows)) (behind changes.now (shut gate))) }
+        + (image_need (image_view rows) + run_need (state_of (image_view rows)) (behind changes.items (shut gate))) }
 {
     let mut machine = match Machine::from_image(alloc, rows, fetches) {
         Ok(machine) => machine,
@@ -78,22 +78,22 @@ fn machine_of<F>(
     }
 }
 
-// Makes the changes behind an image again, in order, up to the first that is damaged.
+// Makes the changes behind an image again, in order, up to the first that is damaged. Each is let go once it is made.
 fn redo_all<F>(
     alloc: Global,
     machine: &mut Machine,
     disk: u8,
-    changes: &[StoredChange],
+    changes: Vec<StoredChange>,
     fetches: &mut Steps<F>,
 ) -> Result<(), JournalFault>
-    ensures run { (gate : ℕ) → gate < 2 ^ 64 → AllBelow gate (behind changes.now (shut gate))
-        → IsRun result (run_from disk machine.old (behind changes.now (shut gate))) machine.new }
-    ensures counted { OnOk result (machine.new.changes ≡ machine.old.changes + length changes.now) }
+    ensures run { (gate : ℕ) → gate < 2 ^ 64 → AllBelow gate (behind changes.items (shut gate))
+        → IsRun result (run_from disk machine.old (behind changes.items (shut gate))) machine.new }
+    ensures counted { OnOk result (machine.new.changes ≡ machine.old.changes + length changes.items) }
     ensures fault { IfErr result (λ fault. fault ≢ DiskFault) }
-    ensures fetched { (gate : ℕ) → fetches.new ≤ fetches.old + run_need machine.old (behind changes.now (shut gate)) }
+    ensures fetched { (gate : ℕ) → fetches.new ≤ fetches.old + run_need machine.old (behind changes.items (shut gate)) }
 {
     for change in changes {
-        redo_one(alloc, machine, disk, change, fetches)?;
+        redo_one(alloc, machine, disk, &change, fetches)?;
     }
     Ok(())
 }
