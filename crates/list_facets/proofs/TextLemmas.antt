@@ -1,16 +1,17 @@
 -- The rows of values, by the documents that have them.
-use Rattle.std.proofs.Common.{◌≡◌, ℕ, zero, suc, ◌≤◌, Bool, true, false, ◌&&◌, ◌||◌, cond, List, [], ◌∷◌, ◌++◌, map, take, length, refl, sym, ap, ap₂, ◌∙◌, arith, append-nil}
+use Rattle.std.proofs.Common.{◌≡◌, ℕ, zero, suc, ◌≤◌, ◌<◌, Bool, true, false, ◌&&◌, ◌||◌, cond, List, [], ◌∷◌, ◌++◌, map, take, length, nat_eq, refl, sym, ap, ap₂, subst, ◌∙◌, arith, append-nil}
 use Rattle.std.specs.BTreeMap.{is_at}
 use Rattle.std.specs.BTreeSet.{insert_key}
 use Rattle.std.specs.Cmp.Lexicographic.{slice_cmp, nat_list_cmp_total}
-use Rattle.std.specs.List.{filter, list_any}
+use Rattle.std.specs.List.{filter, list_any, starts_with, AllByRecursion}
+use Rattle.std.proofs.lemmas.Bool.{both_ways, false_from_ne_true}
 use Rattle.std.specs.List.Sorted.{IsStrictlySortedBy}
 use Rattle.std.specs.Ordering.{is_eq, nat_cmp, match_ordering}
 use Rattle.std.specs.declared.cmp.Ordering.{Ordering}
 use Rattle.std.specs.declared.cmp.Ordering.TheVariants.{Less, Equal, Greater}
 use Rattle.std.proofs.Math.Seq.{take-append_seam}
 use Rattle.std.proofs.lemmas.Cmp.{eq_by_cmp_equiv}
-use Rattle.std.proofs.lemmas.List.{take-map}
+use Rattle.std.proofs.lemmas.List.{take-map, length-map}
 use Rattle.std.proofs.lemmas.List.Folds.{list_any-append}
 use Rattle.std.proofs.lemmas.List.Kept.{IsStrictlySortedBy-filter}
 use Rattle.std.proofs.lemmas.Map.Lookups.{exact_bytes, btree_set_from_contains}
@@ -18,11 +19,12 @@ use Rattle.std.proofs.lemmas.Map.Text.{is_eq-slice_cmp}
 use Rattle.search_base.specs.declared.document.Leaf.{Leaf}
 use Rattle.search_base.specs.RowsView.{RowsView}
 use Rattle.search_base.specs.SortKeys.{leaves_under}
-use Rattle.facet_counts.specs.Counts.{text_of, is_of, leaves_at, values_at, first_shown, shown_of, count_of, count_row, count_rows}
+use Rattle.facet_counts.specs.Counts.{text_of, is_of, leaves_at, values_at, first_shown, shown_of, count_of, count_row}
 use Rattle.facet_counts.specs.Order.{in_order}
 use Rattle.facet_counts.specs.declared.rows.CountRow.{CountRow}
 use Rattle.facet_counts.proofs.InOrder.{in_order-ascends}
-use Rattle.list_facets.specs.Rows.{shown_in, has_text, row_if, rows_if}
+use Rattle.list_facets.specs.Rows.{shown_in, has_text, row_if, rows_if, values_asked, rows_asked}
+use Rattle.list_facets.specs.declared.query.FacetQuery.{FacetQuery}
 
 -- ---- texts in order
 
@@ -87,22 +89,6 @@ leaf_member q [] = refl
 leaf_member q (x ∷ xs) = ap₂ (λ a b. a || b)
     (sym (is_eq-slice_cmp (text_of x.value) q) ∙ (eq_by_cmp_equiv nat_list_cmp_total).symm (text_of x.value) q) (leaf_member q xs)
 
--- the texts in order that documents have are their values
-values_are : (path : ℕ) (documents : List RowsView) (texts : List (List ℕ)) → IsStrictlySortedBy (slice_cmp nat_cmp) texts
-    → ((q : List ℕ) → list_any (is_of q) (leaves_at path documents) ≡ true → member q texts ≡ true)
-    → filter (λ q. list_any (is_of q) (leaves_at path documents)) texts ≡ values_at path documents
-values_are path documents texts sorted all = btree_set_from_contains nat_list_cmp_total
-    (record { keys = filter (λ q. list_any (is_of q) (leaves_at path documents)) texts }) (record { keys = values_at path documents })
-    (IsStrictlySortedBy-filter (slice_cmp nat_cmp) _ texts sorted) (in_order-ascends (map (λ leaf. text_of leaf.value) (leaves_at path documents)))
-    (λ q. member_filter (λ t. list_any (is_of t) (leaves_at path documents)) texts q
-    ∙ by q (list_any (is_of q) (leaves_at path documents)) refl
-    ∙ leaf_member q (leaves_at path documents) ∙ sym (member_in_order (map (λ leaf. text_of leaf.value) (leaves_at path documents)) q)) exact_bytes
-  where
-    by : (q : List ℕ) (b : Bool) → b ≡ list_any (is_of q) (leaves_at path documents)
-        → (list_any (is_of q) (leaves_at path documents) && member q texts) ≡ list_any (is_of q) (leaves_at path documents)
-    by q true s = ap₂ (λ u v. u && v) (sym s) (all q (sym s)) ∙ s
-    by q false s = ap (λ u. u && member q texts) (sym s) ∙ s
-
 rows_are : (path : ℕ) (documents : List RowsView) (texts : List (List ℕ)) → rows_if path documents texts
     ≡ map (count_row path documents) (filter (λ q. list_any (is_of q) (leaves_at path documents)) texts)
 rows_are path documents [] = refl
@@ -117,13 +103,89 @@ rows_are path documents (t ∷ ts) = by (list_any (is_of t) (leaves_at path docu
     by true later = ap (λ xs. count_row path documents t ∷ xs) later
     by false later = later
 
--- the rows of the first values
-pub rows_of_texts : (path most : ℕ) (documents : List RowsView) (texts : List (List ℕ)) → IsStrictlySortedBy (slice_cmp nat_cmp) texts
-    → ((q : List ℕ) → list_any (is_of q) (leaves_at path documents) ≡ true → member q texts ≡ true)
-    → take most (rows_if path documents texts) ≡ count_rows path most documents
-rows_of_texts path most documents texts sorted all =
-    ap (take most) (rows_are path documents texts ∙ ap (map (count_row path documents)) (values_are path documents texts sorted all))
-    ∙ take-map (count_row path documents) most (values_at path documents)
+-- ---- the values that a query asks for
+
+module _ (query : FacetQuery) (documents : List RowsView) where
+  abbrev values : List (List ℕ)
+  values = values_at query.path.0 documents
+
+  abbrev has_leaf : List ℕ → Bool
+  has_leaf q = list_any (is_of q) (leaves_at query.path.0 documents)
+
+  abbrev begins_so : List ℕ → Bool
+  begins_so q = starts_with nat_eq q query.prefix
+
+  abbrev row_of : List ℕ → CountRow
+  row_of = count_row query.path.0 documents
+
+  -- texts in order that begin so are the values asked for, as far as documents have them
+  values_are : (texts : List (List ℕ)) → IsStrictlySortedBy (slice_cmp nat_cmp) texts
+      → ((q : List ℕ) → has_leaf q ≡ true → begins_so q ≡ true → member q texts ≡ true) → ((q : List ℕ) → member q texts ≡ true → begins_so q ≡ true)
+      → filter has_leaf texts ≡ values_asked query documents
+  values_are texts sorted all begin = btree_set_from_contains nat_list_cmp_total
+      (record { keys = filter has_leaf texts }) (record { keys = values_asked query documents })
+      (IsStrictlySortedBy-filter (slice_cmp nat_cmp) _ texts sorted)
+      (IsStrictlySortedBy-filter (slice_cmp nat_cmp) _ values (in_order-ascends (map (λ leaf. text_of leaf.value) (leaves_at query.path.0 documents))))
+      (λ q. member_filter has_leaf texts q
+      ∙ by q (has_leaf q) (begins_so q) refl refl
+      ∙ ap (λ b. begins_so q && b) (leaf_member q (leaves_at query.path.0 documents)
+      ∙ sym (member_in_order (map (λ leaf. text_of leaf.value) (leaves_at query.path.0 documents)) q))
+      ∙ sym (member_filter begins_so values q)) exact_bytes
+    where
+      by : (q : List ℕ) (has so : Bool) → has ≡ has_leaf q → so ≡ begins_so q → (has_leaf q && member q texts) ≡ (begins_so q && has_leaf q)
+      by q true true s t = ap₂ (λ u v. u && v) (sym s) (all q (sym s) (sym t)) ∙ sym (ap₂ (λ u v. u && v) (sym t) (sym s))
+      by q true false s t = ap₂ (λ u v. u && v) (sym s) (false_from_ne_true (member q texts) (λ inside. both_ways (begins_so q) (sym t) (begin q inside)))
+          ∙ sym (ap₂ (λ u v. u && v) (sym t) (sym s))
+      by q false true s t = ap (λ u. u && member q texts) (sym s) ∙ sym (ap₂ (λ u v. u && v) (sym t) (sym s))
+      by q false false s t = ap (λ u. u && member q texts) (sym s) ∙ sym (ap₂ (λ u v. u && v) (sym t) (sym s))
+
+  pub rows_of_texts : (texts : List (List ℕ)) → IsStrictlySortedBy (slice_cmp nat_cmp) texts
+      → ((q : List ℕ) → has_leaf q ≡ true → begins_so q ≡ true → member q texts ≡ true) → ((q : List ℕ) → member q texts ≡ true → begins_so q ≡ true)
+      → take query.most (rows_if query.path.0 documents texts) ≡ rows_asked query documents
+  rows_of_texts texts sorted all begin =
+      ap (take query.most) (rows_are query.path.0 documents texts ∙ ap (map row_of) (values_are texts sorted all begin))
+      ∙ take-map row_of query.most (values_asked query documents)
+
+  -- the rows of values that begin so
+  rows_begin : (xs : List (List ℕ)) → filter (λ row. begins_so row.value) (map row_of xs) ≡ map row_of (filter begins_so xs)
+  rows_begin [] = refl
+  rows_begin (x ∷ xs) = by (begins_so x) (rows_begin xs)
+    where
+      by : (b : Bool) → filter (λ row. begins_so row.value) (map row_of xs) ≡ map row_of (filter begins_so xs)
+          → cond b (row_of x ∷ filter (λ row. begins_so row.value) (map row_of xs)) (filter (λ row. begins_so row.value) (map row_of xs))
+          ≡ map row_of (cond b (x ∷ filter begins_so xs) (filter begins_so xs))
+      by true later = ap (λ ys. row_of x ∷ ys) later
+      by false later = later
+
+  -- of the rows of all values, those asked for; they are all where they are fewer than were allowed
+  pub asked_of_all : (most : ℕ) (rows : List CountRow) → rows ≡ map row_of (take most values) → length rows < most
+      → take query.most (filter (λ row. begins_so row.value) rows) ≡ rows_asked query documents
+  asked_of_all most rows are few =
+      ap (λ xs. take query.most (filter (λ row. begins_so row.value) xs)) (are ∙ ap (map row_of) (all_of most values fewer))
+      ∙ ap (take query.most) (rows_begin values)
+      ∙ take-map row_of query.most (values_asked query documents)
+    where
+      fewer : length (take most values) < most
+      fewer = subst (λ (n : ℕ). n < most) (ap length are ∙ length-map (take most values) row_of) few
+
+      all_of : (n : ℕ) (xs : List (List ℕ)) → length (take n xs) < n → take n xs ≡ xs
+      all_of zero xs h = absurd (omega arith)
+      all_of (suc n) [] h = refl
+      all_of (suc n) (x ∷ xs) h = ap (λ ys. x ∷ ys) (all_of n xs (omega arith))
+
+-- what holds of each text holds of a member
+pub member_has : (p : List ℕ → Bool) (texts : List (List ℕ)) (q : List ℕ) → AllByRecursion (λ t. p t ≡ true) texts → member q texts ≡ true → p q ≡ true
+member_has p [] q all inside = absurd (cc)
+member_has p (t ∷ texts) q all inside = by (is_at (slice_cmp nat_cmp q) t) refl inside (member_has p texts q all.1)
+  where
+    by : (b : Bool) → b ≡ is_at (slice_cmp nat_cmp q) t → (is_at (slice_cmp nat_cmp q) t || member q texts) ≡ true → (member q texts ≡ true → p q ≡ true) → p q ≡ true
+    by true s h later = ap p (by_value q t (sym s)) ∙ all.0
+    by false s h later = later (sym (ap (λ v. v || member q texts) (sym s)) ∙ h)
+
+-- all texts begin as the empty one
+pub all_begin : (texts : List (List ℕ)) → filter (λ t. starts_with nat_eq t []) texts ≡ texts
+all_begin [] = refl
+all_begin (t ∷ texts) = ap (λ xs. t ∷ xs) (all_begin texts)
 
 -- so many rows are enough
 pub enough_rows : (most : ℕ) (found rest whole : List CountRow) → found ++ rest ≡ whole → length found ≤ most → most ≤ length found

@@ -1,11 +1,12 @@
 -- The rows of documents, and those of their values that are counted.
-use Rattle.std.specs.Prelude.{◌≡◌, ℕ, Bool, List, [], ◌∷◌, flat_map, filter, Option, Some, None, if◌then◌else◌}
-use Rattle.std.specs.List.{list_any}
+use Rattle.std.specs.Prelude.{◌≡◌, ℕ, Bool, List, [], ◌∷◌, map, take, flat_map, filter, nat_eq, Option, Some, None, if◌then◌else◌}
+use Rattle.std.specs.List.{list_any, starts_with}
 use Rattle.search_base.specs.RowsView.{RowsView}
 use Rattle.search_base.specs.SortKeys.{leaves_under}
 use Rattle.postings.specs.Dictionary.{PostingsView}
-use Rattle.facet_counts.specs.Counts.{is_of, leaves_at, count_row, first_shown}
+use Rattle.facet_counts.specs.Counts.{is_of, leaves_at, values_at, count_row, first_shown}
 use Rattle.facet_counts.specs.declared.rows.CountRow.{CountRow}
+use Rattle.list_facets.specs.declared.query.FacetQuery.{FacetQuery}
 use Rattle.facet_index.specs.LeavesView.{LeavesView, leaves_of}
 use Rattle.facet_index.specs.Batches.{document_at}
 use Rattle.facet_index.specs.Places.{IsIndexOf}
@@ -44,3 +45,11 @@ rows_if path documents texts = flat_map (row_if path documents) texts
 abbrev pub listed : {X : Type 0} → Option X → List X
 listed None = []
 listed (Some x) = x ∷ []
+
+-- the values that begin as a query asks, of those that some document has
+abbrev pub values_asked : FacetQuery → List RowsView → List (List ℕ)
+values_asked query documents = filter (λ value. starts_with nat_eq value query.prefix) (values_at query.path.0 documents)
+
+-- the rows of the first of these, in the order of their bytes
+abbrev pub rows_asked : FacetQuery → List RowsView → List CountRow
+rows_asked query documents = map (count_row query.path.0 documents) (take query.most (values_asked query documents))

@@ -1,8 +1,8 @@
 use crate::checks::{check, set, word};
 use doc_sets::DocSet;
-use facet_counts::{FacetCounts, FacetPath, FacetReply, in_order};
+use facet_counts::{CountRow, FacetCounts, FacetPath, FacetReply, in_order};
 use facet_shelf::Shelf;
-use list_facets::counts;
+use list_facets::{FacetQuery, counts, counts_from};
 use search_base::{DocId, FacetValue, Leaf, PathId};
 use std::alloc::Global;
 use std::process::Abort;
@@ -176,12 +176,17 @@ pub(crate) fn asked(
     reply
 }
 
-pub(crate) fn told(rt: &impl Abort, alloc: Global, reply: &FacetReply) -> String {
+fn told_rows(rt: &impl Abort, alloc: Global, rows: &Vec<CountRow>) -> String {
     let mut text = String::new(alloc);
-    for row in &reply.rows {
+    for row in rows {
         let (value, shown) = (row.value.as_str(), row.shown.as_str());
         write!(text, "{value} {shown} {}, ", row.count).expect(rt, "memory");
     }
+    text
+}
+
+pub(crate) fn told(rt: &impl Abort, alloc: Global, reply: &FacetReply) -> String {
+    let mut text = told_rows(rt, alloc, &reply.rows);
     if let Some((least, greatest)) = reply.stats {
         write!(text, "{least} to {greatest}, ").expect(rt, "memory");
     }
@@ -197,6 +202,49 @@ fn values_of_matches_are_counted(rt: HostRuntime) {
             let matching = matches(&rt, alloc, ids, many);
             let reply = asked(&rt, alloc, &shelf, &matching, *path, *most);
             let text = told(&rt, alloc, &reply);
+            check(&rt, text.as_str() == *want, want);
+        }
+    }
+}
+
+// The matches, the path, how the values begin, how many are given at most, and what is told of them.
+const BEGINNINGS: [(&[u32], u16, &str, u64, &str); 14] = [
+    (
+        &[0, 1],
+        GENRE,
+        "",
+        100,
+        "action Action 1, drama Drama 2, élan Élan 1, ",
+    ),
+    (&[0, 1], GENRE, "d", 100, "drama Drama 2, "),
+    (&[0, 1], GENRE, "drama", 1, "drama Drama 2, "),
+    (&[0, 1], GENRE, "dramas", 100, ""),
+    (&[0, 1], GENRE, "D", 100, ""),
+    (&[0, 1], GENRE, "é", 100, "élan Élan 1, "),
+    (&[0, 1], GENRE, "x", 100, ""),
+    (&[0, 1], GENRE, "", 2, "action Action 1, drama Drama 2, "),
+    (&[0, 1], GENRE, "a", 0, ""),
+    (&[2], GENRE, "dr", 100, "drama DraMa 1, "),
+    (&[], GENRE, "d", 100, ""),
+    (&[0, 1], YEAR, "5", 100, "5 5 2, "),
+    (&[1, 2], MIXED, "", 3, "-2 -2 1, 3 3 1, 7 7 1, "),
+    (&[0, 1, 2, 3], 9, "", 100, ""),
+];
+
+#[test]
+fn values_that_begin_so_are_counted(rt: HostRuntime) {
+    let alloc = rt.alloc();
+    let shelf = shelf(&rt, alloc);
+    for (ids, path, prefix, most, want) in &BEGINNINGS {
+        let query = FacetQuery {
+            path: PathId(*path),
+            prefix: word(&rt, alloc, prefix),
+            most: *most,
+        };
+        for many in [false, true] {
+            let matching = matches(&rt, alloc, ids, many);
+            let rows = counts_from(alloc, &shelf, shelf.leaves(), &matching, &query);
+            let text = told_rows(&rt, alloc, &rows.expect(&rt, "memory"));
             check(&rt, text.as_str() == *want, want);
         }
     }

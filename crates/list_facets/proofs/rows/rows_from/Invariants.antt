@@ -9,8 +9,8 @@ use Rattle.list_facets.proofs.rows.rows_from.Given as goal
 abbrev pub invariant-loop-key : goal.invariant-loop-key
 invariant-loop-key l = record {
   rows : AllByRecursion (IsRowIn l.fn.first l.keys) (rows_left l.key-iterator);
-  few : length l.found.items ≤ l.most;
+  few : length l.found.items ≤ l.query.most;
   found : (row : ℕ → RowsView) → AreRowsIn l.keys row
-      → l.found.items ++ rows_if l.path.0 (map row l.matching.ids) (texts_of l.fn.first (rows_left l.key-iterator))
-      ≡ rows_if l.path.0 (map row l.matching.ids) (texts_of l.fn.first (rows_left l.initial.key-iterator));
+      → l.found.items ++ rows_if l.query.path.0 (map row l.matching.ids) (texts_of l.fn.first (rows_left l.key-iterator))
+      ≡ rows_if l.query.path.0 (map row l.matching.ids) (texts_of l.fn.first (rows_left l.initial.key-iterator));
 }
