@@ -1,4 +1,3 @@
-pub mod Behind
 pub mod HitLemmas
 pub mod Finding
 pub mod Opening
@@ -6,16 +5,4 @@ pub mod Tracing
 pub mod EachOnce
 pub mod InOrder
 pub mod NoWord
-pub mod Stable
-pub mod Indexing
-pub mod Updating
-pub mod Reading
-pub mod Merging
-pub mod OwnPaths
-pub mod Replaced
-pub mod Settling
 pub mod LawLemmas
-pub mod StayLemmas
-pub mod Rising
-pub mod Keeping
-pub mod Imaging

@@ -20,11 +20,12 @@ use Rattle.rule_buckets.specs.Matches.{match_at, ids_of, hits_of}
 use Rattle.serde_json.specs.Data.{Data}
 use Rattle.doc_store.specs.Store.{Row, row_at}
 use Rattle.doc_store.specs.Sound.{Increase}
-use Rattle.index_core.specs.Index.{Index}
+use Rattle.index_changes.specs.Index.{Index}
 use Rattle.index_core.specs.Matching.{Matching, with_costs, match_of, query_in, rows_in, rules_in}
 use Rattle.index_core.specs.Found.{hit_of}
 use Rattle.index_core.specs.Laws.{AskOfTheQuery}
-use Rattle.index_core.proofs.Finding.{as_match, IsMatch, IsThere}
+use Rattle.index_changes.proofs.ByIds.{IsThere}
+use Rattle.index_core.proofs.Finding.{as_match, IsMatch}
 use Rattle.index_core.proofs.InOrder.{RiseAlike, part-of}
 
 -- ---- all cost nothing

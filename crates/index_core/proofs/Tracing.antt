@@ -32,13 +32,14 @@ use Rattle.rule_buckets.proofs.Slices.{entries-listed}
 use Rattle.row_index.specs.Documents.{IndexedDocument, document_at}
 use Rattle.rule_buckets.specs.Entries.{entry_at, entry_of}
 use Rattle.index_core.specs.Found.{most_hits, window_end}
-use Rattle.index_core.specs.Index.{Index}
+use Rattle.index_changes.specs.Index.{Index}
 use Rattle.index_core.specs.Matching.{Matching, with_costs, match_of, matching, costs_in, rows_in, rules_in, uses_in}
 use Rattle.search_settings.specs.SearchFaults.{search_fault}
 use Rattle.bucket_sort.specs.Opens.{LogState, Opens}
 use Rattle.index_core.specs.Opened.{costs_at, opened_in, unless_refused}
 use Rattle.index_core.specs.Opened as index
-use Rattle.index_core.proofs.Finding.{IsAsked, IsThere, rows-there, matches-same, costs-same, as_match}
+use Rattle.index_changes.proofs.ByIds.{IsThere, rows-there}
+use Rattle.index_core.proofs.Finding.{IsAsked, matches-same, costs-same, as_match}
 use Rattle.index_core.proofs.Opening.{HasSame, opened-same, none-opened, opens-either}
 
 -- ---- a list of costs by its places

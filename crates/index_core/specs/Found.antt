@@ -12,7 +12,7 @@ use Rattle.search_call.specs.Windows.{offset_of, limit_of}
 use Rattle.facet_counts.specs.FacetView.{FacetView}
 use Rattle.facet_counts.specs.Counts.{counted}
 use Rattle.search_settings.specs.declared.refusal.SearchRefusal.{SearchRefusal}
-use Rattle.index_core.specs.Index.{Index}
+use Rattle.index_changes.specs.Index.{Index}
 use Rattle.index_core.specs.Matching.{Matching, matching, rows_matching}
 use Rattle.search_settings.specs.Asked.{facet_paths}
 use Rattle.search_settings.specs.SearchFaults.{search_fault}

@@ -1,5 +1,5 @@
 -- The documents of an index that match a search, each with the costs by which it is ranked.
-use Rattle.std.specs.Prelude.{ℕ, Bool, List, map, Option, None, if◌then◌else◌}
+use Rattle.std.specs.Prelude.{Bool, List, map, Option, None, if◌then◌else◌}
 use Rattle.std.specs.Option.{option_map}
 use Rattle.std.specs.List.{filter_map}
 use Rattle.serde_json.specs.Data.{Data}
@@ -12,8 +12,7 @@ use Rattle.row_filter.specs.Holds.{holds}
 use Rattle.doc_rows.specs.declared.path_use.PathUse.{PathUse}
 use Rattle.doc_rows.specs.Rows.{rows_of}
 use Rattle.doc_store.specs.Store.{Row}
-use Rattle.index_settings.specs.View.{SettingsView}
-use Rattle.index_core.specs.Index.{Index}
+use Rattle.index_changes.specs.Index.{Index}
 use Rattle.search_settings.specs.QueryWords.{query_with}
 use Rattle.search_settings.specs.Uses.{uses_from}
 use Rattle.search_settings.specs.Rules.{rules_with}
@@ -21,10 +20,6 @@ use Rattle.search_settings.specs.Rules.{rules_with}
 -- how each path of the index is used, in the order of the registry
 abbrev pub uses_in : Index → List PathUse
 uses_in index = uses_from index.settings 0 index.store.paths
-
--- what a search sees of a document, in an index with these settings and this registry of paths
-abbrev pub rows_with : SettingsView → List (List ℕ) → Data → RowsView
-rows_with settings paths document = rows_of document paths (uses_from settings 0 paths)
 
 -- what a search sees of a document of the index
 abbrev pub rows_in : Index → Data → RowsView

@@ -10,7 +10,7 @@ use Rattle.bucket_sort.specs.Trace.{trace}
 use Rattle.doc_store.specs.Store.{row_at}
 use Rattle.search_settings.specs.declared.refusal.SearchRefusal.{SearchRefusal}
 use Rattle.search_settings.specs.SearchFaults.{search_fault}
-use Rattle.index_core.specs.Index.{Index}
+use Rattle.index_changes.specs.Index.{Index}
 use Rattle.index_core.specs.Matching.{costs_in, matching, rules_in}
 use Rattle.index_core.specs.Found.{most_hits, window_end}
 

@@ -8,7 +8,7 @@ use Rattle.search_base.specs.Terms.{terms_of, terms_under, HaveSame}
 use Rattle.search_base.specs.Tuple.{tuple}
 use Rattle.search_call.specs.SearchView.{SearchView}
 use Rattle.index_core.specs.declared.ranking.Ranking.{Ranking}
-use Rattle.index_core.specs.Index.{Index}
+use Rattle.index_changes.specs.Index.{Index}
 use Rattle.index_core.specs.Matching.{query_in, rules_in, uses_in}
 
 -- the uses and rules are those of the index, ranks are below a bound, each document costs under the graph what it costs

@@ -10,7 +10,7 @@ use Rattle.facet_counts.specs.FacetView.{FacetView}
 use Rattle.search_call.specs.SearchView.{SearchView}
 use Rattle.index_core.specs.declared.call.Hit.{Hit}
 use Rattle.index_core.specs.declared.call.SearchResult.{SearchResult}
-use Rattle.index_core.specs.Index.{Index}
+use Rattle.index_changes.specs.Index.{Index}
 use Rattle.index_core.specs.Found.{FoundHit, Found, found_in}
 use Rattle.index_core.specs.Matching.{rows_in, query_in, rules_in}
 

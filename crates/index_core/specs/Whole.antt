@@ -2,9 +2,9 @@
 use Rattle.std.specs.Prelude.{◌≡◌, ℕ, List, [], Option}
 use Rattle.doc_store.specs.StoreView.{StoreView}
 use Rattle.index_settings.specs.View.{SettingsView}
-use Rattle.index_core.specs.declared.kept.KeptRows.{KeptRows}
-use Rattle.index_core.specs.Indexed.{IsIndexed}
-use Rattle.index_core.specs.Keyed.{IsKeyed}
+use Rattle.index_changes.specs.declared.kept.KeptRows.{KeptRows}
+use Rattle.index_changes.specs.Indexed.{IsIndexed}
+use Rattle.index_changes.specs.Keyed.{IsKeyed}
 use Rattle.search_settings.specs.QueryWords.{QueryWordsView, AreWordsOf}
 
 -- the documents stand under the key, what is kept and the words are those of the store and the settings, and no document

@@ -8,13 +8,14 @@ ghost use Rattle.doc_store.specs.Sound.{IsSound};
 ghost use Rattle.doc_store.specs.Store.{spent};
 ghost use Rattle.index_image.specs.Rows.{IndexData, index_view};
 ghost use Rattle.index_image.specs.State.{IsIndex, is_above};
-ghost use Rattle.index_core.specs.Images.{index_of};
-ghost use Rattle.index_core.specs.Keyed.{HasKey, IsKeyedWork};
-ghost use Rattle.index_core.specs.Index.{empty_index, documents as documents_in, document_under};
-ghost use Rattle.index_core.specs.Refusals.{store_refusal};
-ghost use Rattle.index_core.specs.PlanView.{work_view, IsGood};
-ghost use Rattle.index_core.specs.Plans.{planned, applied, after_work, settings_after, IsPlanFor};
-ghost use Rattle.index_core.specs.Fetches.{needed, hits_needed};
+ghost use Rattle.index_changes.specs.Images.{index_of};
+ghost use Rattle.index_changes.specs.Keyed.{HasKey, IsKeyedWork};
+ghost use Rattle.index_changes.specs.Index.{empty_index, documents as documents_in, document_under};
+ghost use Rattle.index_changes.specs.Refusals.{store_refusal};
+ghost use Rattle.index_changes.specs.PlanView.{work_view, IsGood};
+ghost use Rattle.index_changes.specs.Plans.{planned, applied, after_work, settings_after, IsPlanFor};
+ghost use Rattle.index_changes.specs.Fetches.{needed};
+ghost use Rattle.index_core.specs.Fetches.{hits_needed};
 ghost use Rattle.search_call.specs.Windows.{offset_of};
 ghost use Rattle.index_core.specs.Found.{found, most_hits, window_size, window_end as end_of_window};
 ghost use Rattle.index_core.specs.Matching.{matching, rules_in};
@@ -24,25 +25,19 @@ ghost use Rattle.index_core.specs.Ranking.{IsRankingOf};
 ghost use Rattle.index_core.specs.Shown.{result_shown, hit_shown, hit_at, Finds};
 
 use crate::call::{Hit, Listing, SearchResult};
-use crate::change::{joined, remove_named, store_rows};
-use crate::external_ids::ids_of;
 use crate::findings::{Findings, if_asked};
-use crate::image::{copy_of_settings, image_documents, stored_rows};
-use crate::kept::KeptRows;
-use crate::key::{copy_of, text_of};
-use crate::new_settings::{index_of_store, patch_settings, reset_settings};
-use crate::plan::{
-    Plan, Work, keeping_key, no_work, planned_patch, planned_replace, planned_update,
-};
 use crate::ranking::{Ranking, costs_of};
 use crate::read::read;
-use crate::refusal::CoreFault;
-use crate::update::update_rows;
 use bucket_sort::BucketLog;
-use doc_index::{clear_documents, read_named};
+use doc_index::clear_documents;
 use doc_search::search_documents;
 use doc_store::DocStore;
 use doc_values::{ChangeKind, DocumentText};
+use index_changes::{
+    CoreFault, KeptRows, Plan, Work, image_of, index_of_store, keeping_key, no_work,
+    patch_settings, planned_patch, planned_replace, planned_update, remove_named,
+    replace_documents, reset_settings, stored_rows, update_documents,
+};
 use index_image::ImageIndex;
 use index_settings::Settings;
 use row_index::RowIndex;
@@ -68,7 +63,7 @@ pub struct IndexCore {
 }
 
 impl Model for IndexCore {
-    ghost use Rattle.index_core.specs.Index.{Index, index_code};
+    ghost use Rattle.index_changes.specs.Index.{Index, index_code};
     ghost use Rattle.index_core.specs.Whole.{IsWhole};
 
     ghost Value = { Index };
@@ -196,44 +191,17 @@ impl IndexCore {
         let settings = &mut self.settings;
         match work {
             Work::Replace { rows } => {
-                let ids = ids_of(alloc, rows.as_slice())?;
-                let replaced = read_named(alloc, &self.store, ids.as_slice(), fetches)?;
-                let replaced = replaced.as_slice();
-                store_rows(
-                    alloc,
-                    settings,
-                    &mut self.store,
-                    &mut self.kept,
-                    rows,
-                    replaced,
-                )
+                let (store, kept) = (&mut self.store, &mut self.kept);
+                replace_documents(alloc, settings, store, kept, rows, fetches)
             }
             Work::Update { rows } => {
-                let ids = ids_of(alloc, rows.as_slice())?;
-                let replaced = read_named(alloc, &self.store, ids.as_slice(), fetches)?;
-                let replaced = replaced.as_slice();
-                let rows = update_rows(alloc, &self.store, rows, replaced)?;
-                store_rows(
-                    alloc,
-                    settings,
-                    &mut self.store,
-                    &mut self.kept,
-                    rows,
-                    replaced,
-                )
+                let (store, kept) = (&mut self.store, &mut self.kept);
+                update_documents(alloc, settings, store, kept, rows, fetches)
             }
             Work::Remove { ids } => {
+                let (store, kept) = (&mut self.store, &mut self.kept);
                 let ids = ids.as_slice();
-                let removed = read_named(alloc, &self.store, ids, fetches)?;
-                let removed = removed.as_slice();
-                remove_named(
-                    alloc,
-                    settings,
-                    &mut self.store,
-                    &mut self.kept,
-                    ids,
-                    removed,
-                )?;
+                remove_named(alloc, settings, store, kept, ids, fetches)?;
                 Ok(())
             }
             Work::Clear => {
@@ -450,14 +418,8 @@ impl IndexCore {
         ensures state { IfOk result (λ image. is_uid uid ≡ true → (before : List IndexData) → is_above before uid ≡ true
             → IsIndex before (index_view image)) }
     {
-        Ok(ImageIndex {
-            uid,
-            key: copy_of(self.key.as_ref())?,
-            next_id: self.store.next_id(),
-            paths: joined(alloc, self.store.paths(), &[])?,
-            settings: copy_of_settings(alloc, &self.settings)?,
-            documents: image_documents(alloc, &self.store)?,
-        })
+        let key = self.key.as_ref();
+        image_of(alloc, uid, key, &self.store, &self.settings)
     }
 
     /// The index that stands in these rows, which an image may hold. Reads each document once.
@@ -479,7 +441,7 @@ impl IndexCore {
             settings,
             documents,
         } = image;
-        let rows = stored_rows(alloc, text_of(&key), documents)?;
+        let rows = stored_rows(alloc, &key, documents)?;
         let store = DocStore::restore(alloc, paths, next_id, rows)?;
         let kept = index_of_store(alloc, &store, &settings, fetches)?;
         Ok(IndexCore {

@@ -1,17 +1,4 @@
-ghost use Rattle.index_core.specs.Laws.{KeyStays, PathsStay, IdsAreSpentOnce, DocumentsStay, NoWordFindsTheList, HitsAreEachOnce, OtherPatchesLeaveRanking, SettingsReadOnce};
-
-/// What stays of an index whatever change it takes: its primary key, the paths of its registry, and that an internal id
-/// is given once. It does nothing.
-pub fn changes_keep_key_paths_and_ids()
-    ensures key { KeyStays }
-    ensures paths { PathsStay }
-    ensures ids { IdsAreSpentOnce }
-{}
-
-/// A document keeps its internal id over each change that does not take it away. It does nothing.
-pub fn documents_stay_under_their_ids()
-    ensures { DocumentsStay }
-{}
+ghost use Rattle.index_core.specs.Laws.{NoWordFindsTheList, HitsAreEachOnce, OtherPatchesLeaveRanking};
 
 /// A search for no word finds the documents in the order of their internal ids, where no rule asks for a value of
 /// theirs. It does nothing.
@@ -28,9 +15,4 @@ pub fn hits_are_each_once()
 /// rank them, and reads no document. It does nothing.
 pub fn other_patches_leave_ranking()
     ensures { OtherPatchesLeaveRanking }
-{}
-
-/// New settings read each document of the index at most once. It does nothing.
-pub fn settings_read_once()
-    ensures { SettingsReadOnce }
 {}

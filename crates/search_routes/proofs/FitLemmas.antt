@@ -18,9 +18,9 @@ use Rattle.doc_values.specs.Changes.{KindData, create, drop_index, replace, upda
 use Rattle.doc_values.specs.Ids.{is_uid}
 use Rattle.index_image.specs.Rows.{IndexData, ImageData}
 use Rattle.index_image.specs.State.{EachAfter, IsIndex, IsState}
-use Rattle.index_core.specs.Index.{Index, empty_index}
-use Rattle.index_core.specs.Plans.{planned, applied}
-use Rattle.index_core.specs.Keyed.{HasKey}
+use Rattle.index_changes.specs.Index.{Index, empty_index}
+use Rattle.index_changes.specs.Plans.{planned, applied}
+use Rattle.index_changes.specs.Keyed.{HasKey}
 use Rattle.request_refusals.specs.declared.refusal.Refusal.{Refusal}
 use Rattle.request_refusals.specs.declared.refusal.Refusal.TheVariants.{IndexExists, NoIndex, ChangesSpent, IndexesSpent}
 use Rattle.request_calls.specs.Calls.{IsAcceptedKind}

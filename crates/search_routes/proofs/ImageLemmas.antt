@@ -14,8 +14,8 @@ use Rattle.std.proofs.lemmas.List.{map-append}
 use Rattle.index_image.specs.declared.rows.ImageIndex.{ImageIndex}
 use Rattle.index_image.specs.Rows.{IndexData, index_view}
 use Rattle.index_image.specs.State.{EachAfter, IsIndex, is_above}
-use Rattle.index_core.specs.Index.{Index}
-use Rattle.index_core.specs.Images.{index_of}
+use Rattle.index_changes.specs.Index.{Index}
+use Rattle.index_changes.specs.Images.{index_of}
 use Rattle.search_routes.specs.State.{Indexes}
 use Rattle.search_routes.specs.Images.{entry_of}
 

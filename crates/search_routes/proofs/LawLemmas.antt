@@ -4,7 +4,7 @@ use Rattle.serde_json.specs.Data.{Data}
 use Rattle.doc_values.specs.Changes.{KindData}
 use Rattle.http_wire.specs.Stream.{Request}
 use Rattle.http_wire.specs.Reply.{Answer}
-use Rattle.index_core.specs.Index.{Index, documents as documents_in, document_under}
+use Rattle.index_changes.specs.Index.{Index, documents as documents_in, document_under}
 use Rattle.index_core.specs.Found.{Found, found}
 use Rattle.search_settings.specs.declared.refusal.SearchRefusal.{SearchRefusal}
 use Rattle.search_call.specs.SearchView.{SearchView}

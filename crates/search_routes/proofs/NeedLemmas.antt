@@ -9,12 +9,12 @@ use Rattle.index_settings.specs.View.{SettingsView}
 use Rattle.index_settings.specs.Table.{defaults, patch_fault}
 use Rattle.index_settings.specs.Patch.{patched}
 use Rattle.index_settings.specs.declared.fault.SettingsRefusal.{SettingsRefusal}
-use Rattle.index_core.specs.Index.{Index, empty_index}
-use Rattle.index_core.specs.PlanView.{PlanView}
-use Rattle.index_core.specs.PlanView as work
-use Rattle.index_core.specs.Plans.{planned}
-use Rattle.index_core.specs.declared.refusal.CoreRefusal.{CoreRefusal}
-use Rattle.index_core.specs.Fetches.{needed, needed_under}
+use Rattle.index_changes.specs.Index.{Index, empty_index}
+use Rattle.index_changes.specs.PlanView.{PlanView}
+use Rattle.index_changes.specs.PlanView as work
+use Rattle.index_changes.specs.Plans.{planned}
+use Rattle.index_changes.specs.declared.refusal.CoreRefusal.{CoreRefusal}
+use Rattle.index_changes.specs.Fetches.{needed, needed_under}
 use Rattle.search_settings.specs.Uses.{same_rank, same_use, use_alike, uses_from}
 use Rattle.doc_values.specs.Changes.{KindData, patch, reset}
 use Rattle.index_settings.specs.Paths.{rank_of, is_faceted}

@@ -3,7 +3,7 @@ use Rattle.std.proofs.Common.{◌≡◌, ℕ, Bool, List, Option, Some, None, Ok
 use Rattle.bucket_sort.specs.declared.log.Opening.{Opening}
 use Rattle.search_base.specs.Trying.{or_refuse}
 use Rattle.request_refusals.specs.declared.refusal.Refusal.TheVariants.{NoIndex}
-use Rattle.index_core.specs.Index.{Index}
+use Rattle.index_changes.specs.Index.{Index}
 use Rattle.bucket_sort.specs.Opens.{LogState, Opens}
 use Rattle.search_routes.specs.State.{Indexes}
 use Rattle.search_routes.specs.Machine.{index_at, index_named}

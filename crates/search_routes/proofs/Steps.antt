@@ -12,7 +12,7 @@ use Rattle.http_wire.specs.Reply.{Answer}
 use Rattle.http_wire.specs.Sent.{IsSentAs}
 use Rattle.request_calls.specs.Refusals.{refused}
 use Rattle.http_wire.specs.declared.reply.Reply.{Reply}
-use Rattle.index_core.specs.Index.{Index, empty_index}
+use Rattle.index_changes.specs.Index.{Index, empty_index}
 use Rattle.request_refusals.specs.declared.refusal.Refusal.{Refusal}
 use Rattle.bucket_sort.specs.declared.log.Opening.{Opening}
 use Rattle.bucket_sort.specs.Opens.{Opens, is_starved}
@@ -26,8 +26,8 @@ use Rattle.request_calls.specs.Calls.{call_of, IsCall}
 use Rattle.search_base.specs.Gives.{Fails, Checks}
 use Rattle.request_refusals.specs.declared.refusal.Refusal.TheVariants.{IndexExists}
 use Rattle.search_base.specs.Trying.{◌>>=◌, ◌>>◌, refuse_if, refused_as}
-use Rattle.index_core.specs.PlanView.{PlanView}
-use Rattle.index_core.specs.Plans.{planned, applied}
+use Rattle.index_changes.specs.PlanView.{PlanView}
+use Rattle.index_changes.specs.Plans.{planned, applied}
 use Rattle.index_core.specs.declared.call.Hit.{Hit as HeldFound}
 use Rattle.index_core.specs.Shown.{hit_shown}
 use Rattle.search_routes.specs.Done.{reply_hit, Grows, Steps, Sends, Answers, Answered, Makes, Noted, Performs, held_need, held_most}

@@ -4,8 +4,8 @@ use Rattle.change_payloads.specs.Change.{Spot}
 use Rattle.change_payloads.specs.declared.fault.ImageFault.{ImageFault}
 use Rattle.change_payloads.specs.declared.fault.ImageFault.TheVariants.{Damaged, NoMemory}
 use Rattle.index_image.specs.Rows.{IndexData, ImageData}
-use Rattle.index_core.specs.Index.{Index}
-use Rattle.index_core.specs.Images.{index_of}
+use Rattle.index_changes.specs.Index.{Index}
+use Rattle.index_changes.specs.Images.{index_of}
 use Rattle.search_routes.specs.State.{State}
 
 abbrev pub entry_of : IndexData → List ℕ × Index

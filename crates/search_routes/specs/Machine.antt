@@ -11,11 +11,11 @@ use Rattle.doc_values.specs.Changes.{KindData, create, drop_index, replace, upda
 use Rattle.doc_values.specs.Ids.{key_of}
 use Rattle.http_wire.specs.Stream.{Request}
 use Rattle.http_wire.specs.Reply.{Answer}
-use Rattle.index_core.specs.Index.{Index, empty_index, documents as documents_in, document_under}
-use Rattle.index_core.specs.Plans.{planned, applied}
+use Rattle.index_changes.specs.Index.{Index, empty_index, documents as documents_in, document_under}
+use Rattle.index_changes.specs.Plans.{planned, applied}
 use Rattle.index_core.specs.Found.{Found, FoundHit, found}
-use Rattle.index_core.specs.declared.refusal.CoreRefusal.{CoreRefusal}
-use Rattle.index_core.specs.declared.refusal.CoreRefusal.TheVariants as core
+use Rattle.index_changes.specs.declared.refusal.CoreRefusal.{CoreRefusal}
+use Rattle.index_changes.specs.declared.refusal.CoreRefusal.TheVariants as core
 use Rattle.search_settings.specs.declared.refusal.SearchRefusal.{SearchRefusal}
 use Rattle.search_settings.specs.declared.refusal.SearchRefusal.TheVariants as asked
 use Rattle.request_refusals.specs.declared.refusal.Refusal.{Refusal}

@@ -4,12 +4,13 @@ use Rattle.serde_json.specs.Data.{Data}
 use Rattle.serde_json.specs.Find.{get}
 use Rattle.doc_values.specs.Changes.{KindData, create, drop_index, replace, update, remove, clear, patch, reset}
 use Rattle.http_wire.specs.Stream.{Request}
-use Rattle.index_core.specs.Index.{Index, empty_index, documents as documents_in, document_under}
-use Rattle.index_core.specs.PlanView.{PlanView}
-use Rattle.index_core.specs.Plans.{planned}
-use Rattle.index_core.specs.Fetches.{needed, hits_needed}
+use Rattle.index_changes.specs.Index.{Index, empty_index, documents as documents_in, document_under}
+use Rattle.index_changes.specs.PlanView.{PlanView}
+use Rattle.index_changes.specs.Plans.{planned}
+use Rattle.index_changes.specs.Fetches.{needed}
+use Rattle.index_core.specs.Fetches.{hits_needed}
 use Rattle.index_core.specs.Found.{found}
-use Rattle.index_core.specs.declared.refusal.CoreRefusal.{CoreRefusal}
+use Rattle.index_changes.specs.declared.refusal.CoreRefusal.{CoreRefusal}
 use Rattle.request_refusals.specs.declared.refusal.Refusal.{Refusal}
 use Rattle.request_calls.specs.Asked.{ReadData, health, indexes, index, documents, document, settings, search, CallData, write, read}
 use Rattle.request_calls.specs.Calls.{call_of}

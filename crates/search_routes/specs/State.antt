@@ -1,7 +1,7 @@
 -- What the machine holds.
 use Rattle.std.specs.Prelude.{ℕ, List, refl}
 use Rattle.std.specs.Coded.{Coded, code_by, coded×, coded_ℕ, coded_list}
-use Rattle.index_core.specs.Index.{Index, index_code}
+use Rattle.index_changes.specs.Index.{Index, index_code}
 
 -- the indexes by their uids, in the order of the uids' bytes
 abbrev pub Indexes : Type 0

@@ -6,7 +6,7 @@ ghost use Rattle.std.specs.List.Sorted.{IsStrictlySortedBy};
 ghost use Rattle.std.specs.Map.{keys_of};
 ghost use Rattle.std.specs.Ordering.{nat_cmp};
 ghost use Rattle.doc_values.specs.Ids.{is_uid};
-ghost use Rattle.index_core.specs.Images.{index_of};
+ghost use Rattle.index_changes.specs.Images.{index_of};
 ghost use Rattle.index_image.specs.Rows.{IndexData, index_view};
 ghost use Rattle.index_image.specs.State.{EachAfter, IsIndex};
 ghost use Rattle.search_routes.specs.Images.{entry_of, documents_of};

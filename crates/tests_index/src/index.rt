@@ -1,5 +1,5 @@
 ghost use Rattle.doc_values.specs.Changes.{kind_view};
-ghost use Rattle.index_core.specs.Keyed.{HasKey};
+ghost use Rattle.index_changes.specs.Keyed.{HasKey};
 
 use crate::checks::{check, check_text, word};
 use bucket_sort::{BucketLog, Opening, RecordLog};

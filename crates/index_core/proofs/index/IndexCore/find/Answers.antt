@@ -17,7 +17,7 @@ use Rattle.rule_buckets.proofs.Slices.{on-err}
 use Rattle.index_core.specs.Opened.{opened_in}
 use Rattle.rule_buckets.specs.Matches.{ids_of, hits_of}
 use Rattle.row_index.specs.Standing.{StandsFor}
-use Rattle.index_core.specs.Index.{Index}
+use Rattle.index_changes.specs.Index.{Index}
 use Rattle.index_core.specs.Found.{most_hits, window_end}
 use Rattle.search_settings.specs.Asked.{paths_asked}
 use Rattle.index_core.specs.Matching.{matching, rules_in, uses_in}

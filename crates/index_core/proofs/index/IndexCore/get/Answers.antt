@@ -1,8 +1,8 @@
 use Rattle.std.proofs.Common.{◌≡◌, ◌+◌, Option, Some, None, refl, ap, ◌∙◌, sym, cond, true}
 use Rattle.std.specs.Option.{option_map, is_some}
 use Rattle.doc_store.specs.Store.{id_of}
-use Rattle.index_core.specs.Index.{Index, document_under}
-use Rattle.index_core.proofs.Finding.{document-under, no-document-under}
+use Rattle.index_changes.specs.Index.{Index, document_under}
+use Rattle.index_changes.proofs.ByIds.{document-under, no-document-under}
 use Rattle.index_core.proofs.index.IndexCore.get.Goals as goal
 
 pub returns-in-Some-clause-document : goal.returns-in-Some-clause-document

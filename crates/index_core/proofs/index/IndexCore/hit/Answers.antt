@@ -4,7 +4,7 @@ use Rattle.search_base.specs.Tuple.{tuple}
 use Rattle.search_call.specs.SearchView.{SearchView}
 use Rattle.doc_rows.specs.Rows.{rows_of}
 use Rattle.doc_store.specs.Store.{row_at}
-use Rattle.index_core.specs.Index.{Index}
+use Rattle.index_changes.specs.Index.{Index}
 use Rattle.index_core.specs.Ranking.{IsRankingOf}
 use Rattle.index_core.specs.Shown.{hit_at, costs_shown}
 use Rattle.index_core.proofs.Finding.{hit-some, costs-ranked, costs-hidden}

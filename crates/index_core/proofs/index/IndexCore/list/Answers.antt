@@ -2,8 +2,8 @@ use Rattle.std.proofs.Common.{ap, ◌∙◌, take, drop}
 use Rattle.std.specs.Option.{option_map}
 use Rattle.std.specs.List.{filter_map}
 use Rattle.doc_store.specs.Store.{row_at}
-use Rattle.index_core.specs.Index.{Index, documents}
-use Rattle.index_core.proofs.Finding.{part-read}
+use Rattle.index_changes.specs.Index.{Index, documents}
+use Rattle.index_changes.proofs.ByIds.{part-read}
 use Rattle.index_core.proofs.index.IndexCore.list.Goals as goal
 
 pub returns-clause-documents : goal.returns-clause-documents

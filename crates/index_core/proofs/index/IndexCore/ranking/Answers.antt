@@ -2,7 +2,7 @@ use Rattle.std.proofs.Common.{◌≡◌, length, ap, subst, sym, ◌∙◌, arit
 use Rattle.doc_search.specs.Ranked.{RankedBelow}
 use Rattle.search_call.specs.SearchView.{SearchView}
 use Rattle.index_core.specs.declared.ranking.Ranking.{Ranking}
-use Rattle.index_core.specs.Index.{Index}
+use Rattle.index_changes.specs.Index.{Index}
 use Rattle.index_core.specs.Matching.{rules_in}
 use Rattle.search_settings.specs.Uses.{uses_from}
 use Rattle.index_core.specs.Ranking.{IsRankingOf}

@@ -3,7 +3,7 @@ use Rattle.std.specs.List.{filter_map}
 use Rattle.std.specs.Option.{option_map}
 use Rattle.search_base.specs.Trying.{◌>>◌}
 use Rattle.search_base.specs.declared.document.DocId.{DocId}
-use Rattle.index_core.specs.Index.{Index}
+use Rattle.index_changes.specs.Index.{Index}
 use Rattle.search_call.specs.Windows.{offset_of}
 use Rattle.index_core.specs.Found.{found_in, asked_of, hit_of, most_hits, window_size}
 use Rattle.index_core.specs.Matching.{matching}

@@ -1,0 +1,15 @@
+pub mod Behind
+pub mod ByIds
+pub mod Stable
+pub mod Indexing
+pub mod Updating
+pub mod Reading
+pub mod Merging
+pub mod OwnPaths
+pub mod Replaced
+pub mod Settling
+pub mod LawLemmas
+pub mod StayLemmas
+pub mod Rising
+pub mod Keeping
+pub mod Imaging

@@ -1,0 +1,81 @@
+ghost use Rattle.std.specs.Prelude.{◌≡◌, IfOk};
+ghost use Rattle.std.specs.Option.{option_copied};
+ghost use Rattle.search_base.specs.Gives.{Gives};
+ghost use Rattle.search_base.specs.Trying.{refused_as};
+ghost use Rattle.doc_store.specs.Store.{externals};
+ghost use Rattle.doc_values.specs.Ids.{external_id_of};
+ghost use Rattle.index_changes.specs.Refusals.{id_refusal};
+ghost use Rattle.index_changes.specs.Plans.{rows_for as rows_of_change, rows_under as rows_from};
+
+use crate::refusal::{CoreFault, CoreRefusal};
+use doc_store::StoreRow;
+use doc_values::{DocumentText, IdRefusal, external_id};
+use search_base::{Fault, NoMemory, Word};
+use std::alloc::Global;
+
+/// The documents of a change, each with its external id under the key. Without a key there are no documents.
+pub(crate) fn rows_for(
+    alloc: Global,
+    key: Option<&Word>,
+    documents: Vec<DocumentText>,
+) -> Result<Vec<StoreRow>, CoreFault>
+    ensures { Gives (λ rows. rows.items) result (rows_of_change (option_copied key.entry) documents.items) }
+{
+    match key {
+        Some(key) => rows_under(alloc, key.as_str(), documents),
+        None => Ok(Vec::new(alloc)),
+    }
+}
+
+fn rows_under(
+    alloc: Global,
+    key: &str,
+    documents: Vec<DocumentText>,
+) -> Result<Vec<StoreRow>, CoreFault>
+    ensures { Gives (λ rows. rows.items) result (rows_from key.now 1 documents.items) }
+{
+    let mut rows = Vec::with_capacity(alloc, documents.len())?;
+    let mut before: u32 = 0;
+    for document in documents {
+        if before == u32::MAX {
+            return Err(Fault::NoMemory);
+        }
+        let external = id_at(alloc, &document, key, before + 1)?;
+        rows.push(StoreRow { external, document })?;
+        before += 1;
+    }
+    Ok(rows)
+}
+
+/// The external id of the document at a place, which is read back from its text and let go at once.
+pub(crate) fn id_at(
+    alloc: Global,
+    text: &DocumentText,
+    key: &str,
+    place: u32,
+) -> Result<Word, CoreFault>
+    ensures { Gives (λ id. id) result (refused_as (id_refusal place) (external_id_of key.now text.now)) }
+{
+    let document = text.document(alloc)?;
+    match external_id(alloc, &document, key) {
+        Ok(id) => Ok(id),
+        Err(Fault::Refused(IdRefusal::MissingId)) => {
+            Err(Fault::Refused(CoreRefusal::MissingId { document: place }))
+        }
+        Err(Fault::Refused(IdRefusal::BadId)) => {
+            Err(Fault::Refused(CoreRefusal::BadId { document: place }))
+        }
+        Err(Fault::NoMemory) => Err(Fault::NoMemory),
+    }
+}
+
+/// The external ids of documents that come.
+pub(crate) fn ids_of(alloc: Global, rows: &[StoreRow]) -> Result<Vec<Word>, NoMemory>
+    ensures { IfOk result (λ ids. ids.items ≡ externals rows.now) }
+{
+    let mut ids = Vec::with_capacity(alloc, rows.len())?;
+    for row in rows {
+        ids.push(row.external.clone()?)?;
+    }
+    Ok(ids)
+}

@@ -1,5 +1,0 @@
-use Rattle.index_core.proofs.StayLemmas.{documents_stay}
-use Rattle.index_core.proofs.laws.documents_stay_under_their_ids.Goals as goal
-
-pub returns : goal.returns
-returns c = documents_stay

@@ -1,5 +1,0 @@
-use Rattle.index_core.proofs.LawLemmas.{settings_read_once}
-use Rattle.index_core.proofs.laws.settings_read_once.Goals as goal
-
-pub returns : goal.returns
-returns c = settings_read_once
