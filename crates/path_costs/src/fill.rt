@@ -5,7 +5,7 @@ ghost use Rattle.doc_sets.specs.SetView.{SetView};
 ghost use Rattle.condition_graph.specs.declared.graph.ConditionEdge.{ConditionEdge};
 ghost use Rattle.path_costs.specs.declared.found.Filled.{Filled};
 ghost use Rattle.path_costs.specs.Links.{IsLinks, IsFrom, IsOut};
-ghost use Rattle.path_costs.specs.Found.{AreMet, IsFound, IsFilledAt};
+ghost use Rattle.path_costs.specs.Found.{AreMet, AreMeeting, IsFound, IsFilledAt};
 
 use crate::found::{Filled, Found, NO_COST, filled_at, find, put, take_at};
 use crate::links::Links;
@@ -28,7 +28,7 @@ fn at_end(alloc: Global, universe: &DocSet, cost: u32) -> Result<DocSet, NoMemor
 }
 
 // The indices of the edges that go from a node.
-fn out_of(links: &Links, node: u64) -> &[usize]
+pub(crate) fn out_of(links: &Links, node: u64) -> &[usize]
     requires right { IsLinks links.now }
     requires node { node < links.now.last + 1 }
     ensures { IsOut links.now.edges.items node result.now }
@@ -37,7 +37,7 @@ fn out_of(links: &Links, node: u64) -> &[usize]
 }
 
 // The i-th of these indices.
-fn next_out(_links: &Links, _node: u64, list: &[usize], i: usize) -> usize
+pub(crate) fn next_out(_links: &Links, _node: u64, list: &[usize], i: usize) -> usize
     requires here { i < length list.now }
     requires out { IsOut _links.now.edges.items _node list.now }
     ensures is { slice_get list.now i ≡ Some result }
@@ -48,7 +48,7 @@ fn next_out(_links: &Links, _node: u64, list: &[usize], i: usize) -> usize
 }
 
 // The edge at an index, which goes from a node.
-fn edge_at(links: &Links, _node: u64, at: usize) -> &ConditionEdge
+pub(crate) fn edge_at(links: &Links, _node: u64, at: usize) -> &ConditionEdge
     requires right { IsLinks links.now }
     requires from { IsFrom links.now.edges.items _node at }
     ensures is { slice_get links.now.edges.items at ≡ Some result.now }
@@ -59,38 +59,39 @@ fn edge_at(links: &Links, _node: u64, at: usize) -> &ConditionEdge
 }
 
 // The edge at an index.
-fn condition_at(links: &Links, at: usize) -> &ConditionEdge
+pub(crate) fn condition_at(links: &Links, at: usize) -> &ConditionEdge
     requires { at < length links.now.edges.items }
     ensures { slice_get links.now.edges.items at ≡ Some result.now }
 {
     &links.edges[at]
 }
 
-// Finds the documents that meet the condition of an edge, if they were not found before.
-fn resolve<R: Resolve>(
+// The documents of a set that meet the condition of an edge, so far as they are the universe's. It is asked for unless
+// the universe's documents that meet it are known.
+pub(crate) fn meeting_among<R: Resolve>(
     alloc: Global,
     links: &Links,
     source: &mut R,
-    universe: &DocSet,
-    met: &mut Vec<Option<DocSet>>,
+    _universe: &DocSet,
+    met: &Vec<Option<DocSet>>,
     edge: usize,
-) -> Result<(), NoMemory>
+    docs: &DocSet,
+) -> Result<DocSet, NoMemory>
     requires links { IsLinks links.now }
     requires edge { edge < length links.now.edges.items }
-    requires len { length met.old.items ≡ length links.now.edges.items }
-    requires right { AreMet (R.meets source.old) links.now.edges.items universe.now.ids met.old.items }
+    requires len { length met.now.items ≡ length links.now.edges.items }
+    requires right { AreMet (R.meets source.old) links.now.edges.items _universe.now.ids met.now.items }
     ensures kept { R.meets source.new ≡ R.meets source.old }
-    ensures len { OnOk result (length met.new.items ≡ length met.old.items) }
-    ensures right { OnOk result (AreMet (R.meets source.old) links.now.edges.items universe.now.ids met.new.items) }
-    ensures here { OnOk result ((set : SetView) × (slice_get met.new.items edge ≡ Some (Some set))) }
+    ensures docs { IfOk result (λ set. (e : ConditionEdge) → slice_get links.now.edges.items edge ≡ Some e
+        → AreMeeting (R.meets source.old e.condition) _universe.now.ids docs.now.ids set.ids) }
 {
     if is_met(met, edge) {
-        return Ok(());
+        let both = docs.and(alloc, met_at(met, edge))?;
+        return Ok(both);
     }
     let asked = condition_at(links, edge);
-    let docs = source.docs(alloc, &asked.condition, universe)?;
-    met[edge] = Some(docs);
-    Ok(())
+    let set = source.docs(alloc, &asked.condition, docs)?;
+    Ok(set)
 }
 
 fn is_met(met: &Vec<Option<DocSet>>, edge: usize) -> bool
@@ -110,31 +111,29 @@ fn met_at(met: &Vec<Option<DocSet>>, edge: usize) -> &DocSet
     }
 }
 
-fn is_free(condition: &Condition) -> bool
+pub(crate) fn is_free(condition: &Condition) -> bool
     ensures { result ≡ true → condition.now ≡ Condition.Free }
 {
     matches!(condition, Condition::Free)
 }
 
 // Adds the documents of a set that meet the condition of an edge. Where the set is empty, or all
-// meet it, the condition is not asked for.
+// meet it, the condition is not asked for; else it is asked of the set alone, where it is.
 fn add_met<R: Resolve>(
     alloc: Global,
     links: &Links,
     source: &mut R,
     universe: &DocSet,
-    met: &mut Vec<Option<DocSet>>,
+    met: &Vec<Option<DocSet>>,
     edge: usize,
     rest: &DocSet,
     docs: DocSet,
 ) -> Result<DocSet, NoMemory>
     requires links { IsLinks links.now }
     requires edge { edge < length links.now.edges.items }
-    requires len { length met.old.items ≡ length links.now.edges.items }
-    requires right { AreMet (R.meets source.old) links.now.edges.items universe.now.ids met.old.items }
+    requires len { length met.now.items ≡ length links.now.edges.items }
+    requires right { AreMet (R.meets source.old) links.now.edges.items universe.now.ids met.now.items }
     ensures kept { R.meets source.new ≡ R.meets source.old }
-    ensures len { OnOk result (length met.new.items ≡ length met.old.items) }
-    ensures right { OnOk result (AreMet (R.meets source.old) links.now.edges.items universe.now.ids met.new.items) }
     ensures docs { IfOk result (λ set. (e : ConditionEdge) → slice_get links.now.edges.items edge ≡ Some e
         → (d : ℕ) → has universe.now.ids d ≡ true → has set.ids d
         ≡ (has docs.ids d || (R.meets source.old e.condition d && has rest.now.ids d))) }
@@ -146,8 +145,7 @@ fn add_met<R: Resolve>(
         let with_rest = docs.or(alloc, rest)?;
         return Ok(with_rest);
     }
-    resolve(alloc, links, source, universe, met, edge)?;
-    let both = met_at(met, edge).and(alloc, rest)?;
+    let both = meeting_among(alloc, links, source, universe, met, edge, rest)?;
     let all = docs.or(alloc, &both)?;
     Ok(all)
 }
@@ -216,14 +214,7 @@ pub(crate) fn fill<R: Resolve>(
         beyond = bound_along(&found.filled, at, beyond, step);
         let rest = filled_at(&found.filled, at);
         docs = add_met(
-            alloc,
-            links,
-            source,
-            universe,
-            &mut found.met,
-            index,
-            &rest.docs,
-            docs,
+            alloc, links, source, universe, &found.met, index, &rest.docs, docs,
         )?;
     }
     let new = take_at(alloc, found, node, cost, docs)?;
