@@ -4,7 +4,8 @@ pub mod Windows
 pub mod Tagged
 pub mod Formats
 pub mod Laws
--- and what private contracts speak of: the walk over the tokens, and tokens by their marks
+-- and what private contracts speak of: the walk over the tokens, terms by their first words, and tokens by their marks
 pub mod Runs
+pub mod FirstWords
 pub mod Marked
 pub mod Cuts
