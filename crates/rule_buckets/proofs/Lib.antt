@@ -5,3 +5,4 @@ pub mod Streaming
 pub mod Within
 pub mod Keys
 pub mod Slices
+pub mod OpenLemmas

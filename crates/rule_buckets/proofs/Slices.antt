@@ -1,6 +1,6 @@
 -- The slice of documents by their entries is the slice of their matches.
-use Rattle.std.proofs.Common.{◌≡◌, ℕ, zero, suc, ◌==◌, Bool, true, false, cond, List, [], ◌∷◌, ◌++◌, length, map, filter, Option, Some, None, refl, sym, ap, subst, ◌∙◌, unwrap_or, append_assoc, length-append, append-nil, arith}
-use Rattle.std.specs.Prelude.{is_some, flat_map, get_or, OnErr, Result, Ok, Err}
+use Rattle.std.proofs.Common.{◌≡◌, ℕ, zero, suc, ◌+◌, ◌==◌, Bool, true, false, cond, List, [], ◌∷◌, ◌++◌, length, map, filter, Option, Some, None, refl, sym, ap, ap₂, subst, ◌∙◌, unwrap_or, append_assoc, length-append, arith}
+use Rattle.std.specs.Prelude.{is_some, flat_map, get_or}
 use Rattle.std.specs.Option.{option_map}
 use Rattle.std.specs.List.{cons_option}
 use Rattle.std.proofs.lemmas.List.{length-map, map-append}
@@ -19,9 +19,9 @@ use Rattle.search_base.specs.Tuple.{cost_of, entry}
 use Rattle.bucket_sort.specs.Hits.{costs, hits_of as hits_by}
 use Rattle.rule_buckets.specs.Entries.{entry_of, entry_at, is_match}
 use Rattle.rule_buckets.specs.Rules.{RulesView}
-use Rattle.bucket_sort.specs.declared.log.Opening.{Opening}
-use Rattle.bucket_sort.specs.Told.{GainsPrefix, RisesAtMost, and_then}
-use Rattle.rule_buckets.specs.Matches.{match_at, matches_among, ids_of, hits_of}
+use Rattle.bucket_sort.specs.Trace.{trace}
+use Rattle.rule_buckets.specs.declared.hits.HitWindow.{HitWindow}
+use Rattle.rule_buckets.specs.Matches.{match_at, matches_among, matches_in, ids_of, hits_of, opened, opened_in}
 
 -- ---- a slice of things of any kind is the slice of what stands for them
 
@@ -135,30 +135,59 @@ module _ (rows : ℕ → RowsView) (query : GraphView) (rules : List Rule) where
   pub ids-length : (ids : List ℕ) → length (ids_of (matches_among rows query rules ids)) ≡ length (matches_among rows query rules ids)
   ids-length ids = length-map (matches_among rows query rules ids) (λ (m : Match). m.id)
 
+-- ---- the hits of rules
+
+module _ {S : Type 0} (rows : S → ℕ → RowsView) where
+  ranked-in : (over : RulesView S) (ids : List ℕ) → map (λ d. match_at d (map (entry_of (rows over.source d) over.graph) over.rules)) ids
+      ≡ map (ranked (rows over.source) over.graph over.rules) ids
+  ranked-in over [] = refl
+  ranked-in over (d ∷ ids) =
+      ap₂ (λ costs rest. match_at d costs ∷ rest) (sym (entries-listed (rows over.source) over.graph over.rules d)) (ranked-in over ids)
+
+  ids-ranked : (over : RulesView S) (ids : List ℕ) → ids_of (map (ranked (rows over.source) over.graph over.rules) ids) ≡ ids
+  ids-ranked over [] = refl
+  ids-ranked over (d ∷ ids) = ap (λ ys. d ∷ ys) (ids-ranked over ids)
+
+  -- the slice of the documents by their entries is that of their matches
+  pub hits-in : (over : RulesView S) (offset limit : ℕ)
+      → hits_by before (λ level d. entry_at (rows over.source d) over.graph over.rules level) (length over.rules) over.matching offset limit
+      ≡ ids_of (hits_of (matches_in rows over) offset limit)
+  hits-in over offset limit =
+      sym (ap (λ ms. ids_of (hits_of ms offset limit)) (ranked-in over over.matching)
+      ∙ ap ids_of (slice-same (ranked (rows over.source) over.graph over.rules) over.matching offset limit)
+      ∙ ids-ranked over (hits_by before (λ level d. entry_at (rows over.source d) over.graph over.rules level) (length over.rules) over.matching offset limit))
+
 -- ---- rules that are made of these parts
 
-pub rules-are : {S : Type 0} (r : RulesView S) (source : S) (graph : GraphView) (rules : List Rule) → r.source ≡ source → r.graph ≡ graph → r.rules ≡ rules
-    → r ≡ record { source = source; graph = graph; rules = rules; matching = r.matching }
-rules-are {S} r source graph rules s g l =
-    subst (λ (x : S). r ≡ record { source = x; graph = graph; rules = rules; matching = r.matching }) s
-    (subst (λ (y : GraphView). r ≡ record { source = r.source; graph = y; rules = rules; matching = r.matching }) g
-    (subst (λ (z : List Rule). r ≡ record { source = r.source; graph = r.graph; rules = z; matching = r.matching }) l refl))
+-- rules over the documents of a universe that match
+pub record AreMade {S : Type 0} (rows : S → ℕ → RowsView) (made : RulesView S) (source : S) (graph : GraphView) (rules : List Rule)
+    (universe : List ℕ) : Type 0 where
+  pub source_is : made.source ≡ source
+  pub graph_is : made.graph ≡ graph
+  pub rules_are : made.rules ≡ rules
+  pub matching_is : made.matching ≡ filter (λ d. is_match (rows source d) graph) universe
 
-pub at-rules : {S : Type 0} (P : RulesView S → List ℕ → Type 0) (r r' : RulesView S) (ids ids' : List ℕ) → r ≡ r' → ids ≡ ids' → P r ids → P r' ids'
-at-rules P r r' ids ids' same here p = subst (λ x. P x ids') same (subst (P r) here p)
+module _ {S : Type 0} (rows : S → ℕ → RowsView) (made : RulesView S) (source : S) (graph : GraphView) (rules : List Rule) (universe : List ℕ)
+    (are : AreMade rows made source graph rules universe) where
+  all-parts : made ≡ record { source = source; graph = graph; rules = rules; matching = filter (λ d. is_match (rows source d) graph) universe }
+  all-parts =
+      subst (λ (x : S). made ≡ record { source = x; graph = graph; rules = rules; matching = filter (λ d. is_match (rows source d) graph) universe }) are.source_is
+      (subst (λ (y : GraphView). made ≡ record { source = made.source; graph = y; rules = rules; matching = filter (λ d. is_match (rows source d) graph) universe }) are.graph_is
+      (subst (λ (z : List Rule). made ≡ record { source = made.source; graph = made.graph; rules = z; matching = filter (λ d. is_match (rows source d) graph) universe }) are.rules_are
+      (subst (λ (w : List ℕ). made ≡ record { source = made.source; graph = made.graph; rules = made.rules; matching = w }) are.matching_is refl)))
 
--- ---- a log to which nothing was told
+  -- their matches are those among the universe
+  pub made-matches : matches_in rows made ≡ matches_among (rows source) graph rules universe
+  made-matches =
+      ap (matches_in rows) all-parts
+      ∙ ranked-in rows (record { source = source; graph = graph; rules = rules; matching = [] }) (filter (λ d. is_match (rows source d) graph) universe)
+      ∙ sym (matches-ranked (rows source) graph rules universe)
 
-pub told-nothing : (told : Option (List Opening)) → and_then told [] ≡ told
-told-nothing None = refl
-told-nothing (Some rows) = ap Some (append-nil rows)
+  pub made-matching : made.matching ≡ ids_of (matches_among (rows source) graph rules universe)
+  made-matching = are.matching_is ∙ matching-ids (rows source) graph rules universe
 
-pub gains-nothing : (told : Option (List Opening)) (all : List Opening) → GainsPrefix told told all
-gains-nothing told all = record { gained = []; others = all; parts = refl; told = sym (told-nothing told) }
-
-pub rises-nothing : (n most : ℕ) → RisesAtMost n n most
-rises-nothing n most = record { low = omega arith; high = omega arith }
-
-pub on-err : {T E P : Type 0} (r : Result T E) → P → OnErr r P
-on-err (Ok x) p = tt
-on-err (Err e) p = p
+  pub made-opened : (window : HitWindow) → opened_in rows made window ≡ opened (rows source) graph rules universe window.offset window.limit
+  made-opened window =
+      ap (λ over. opened_in rows over window) all-parts
+      ∙ ap (λ ids. trace before (λ level d. entry_at (rows source d) graph rules level) (length rules) ids window.offset (window.offset + window.limit))
+      (matching-ids (rows source) graph rules universe)

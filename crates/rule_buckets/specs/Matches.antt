@@ -12,7 +12,9 @@ use Rattle.search_base.specs.RowsView.{RowsView}
 use Rattle.search_base.specs.Tuple.{tuple}
 use Rattle.bucket_sort.specs.declared.log.Opening.{Opening}
 use Rattle.bucket_sort.specs.Trace.{trace}
-use Rattle.rule_buckets.specs.Entries.{entry_at}
+use Rattle.rule_buckets.specs.declared.hits.HitWindow.{HitWindow}
+use Rattle.rule_buckets.specs.Entries.{entry_at, entry_of}
+use Rattle.rule_buckets.specs.Rules.{RulesView}
 
 abbrev pub match_at : ℕ → List CostKey → Match
 match_at id costs = record { costs = costs; id = id }
@@ -37,3 +39,18 @@ abbrev pub opened : (ℕ → RowsView) → GraphView → List Rule → List ℕ 
 opened rows query rules universe offset limit =
     trace before (λ level d. entry_at (rows d) query rules level) (length rules)
     (ids_of (matches_among rows query rules universe)) offset (offset + limit)
+
+-- the documents that rules are over, each with its costs. `rows` gives what an index has of each document
+abbrev pub matches_in : {S : Type 0} → (S → ℕ → RowsView) → RulesView S → List Match
+matches_in rows over =
+    map (λ d. match_at d (map (entry_of (rows over.source d) over.graph) over.rules)) over.matching
+
+-- the hits of a window, in their order
+abbrev pub hits_in : {S : Type 0} → (S → ℕ → RowsView) → RulesView S → HitWindow → List Match
+hits_in rows over window = hits_of (matches_in rows over) window.offset window.limit
+
+-- the buckets on the way to these
+abbrev pub opened_in : {S : Type 0} → (S → ℕ → RowsView) → RulesView S → HitWindow → List Opening
+opened_in rows over window =
+    trace before (λ level d. entry_at (rows over.source d) over.graph over.rules level) (length over.rules)
+    over.matching window.offset (window.offset + window.limit)

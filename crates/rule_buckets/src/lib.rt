@@ -8,22 +8,22 @@
 //! order than goes through their entries. The crate stands on `search_base`, `doc_sets`, `condition_graph`,
 //! `path_costs`, `sort_rule` and `bucket_sort`.
 //!
-//! `find` takes the documents that a search is about besides, and gives those that match and the asked slice of them by
-//! their costs and then by internal id, opening no more buckets than lead to that slice. Its definitions know no
-//! bucket: they list the costs of each document that matches, and take the slice of the list.
+//! `page` gives the asked slice of the documents that match, by their costs and then by internal id, opening no more
+//! buckets than lead to that slice. Its definitions know no bucket: they list the costs of each document that matches,
+//! and take the slice of the list.
 #![tactic(auto)]
 
 mod buckets;
+mod hits;
 mod keyed;
 mod listed;
 mod matching;
 mod paths;
 mod query;
 mod rules;
-mod search;
 mod source;
 
 pub use buckets::RuleBuckets;
+pub use hits::{HitWindow, page};
 pub use rules::Rules;
-pub use search::{Found, find};
 pub use source::RuleSource;

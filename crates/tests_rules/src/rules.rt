@@ -4,7 +4,7 @@ ghost use Rattle.search_base.specs.Graphs.{IsGraph};
 use bucket_sort::{Bucket, BucketLog, BucketStream, RecordLog, RuleSet};
 use condition_graph::Condition;
 use doc_sets::DocSet;
-use rule_buckets::{RuleSource, Rules, find};
+use rule_buckets::{HitWindow, RuleSource, Rules, page};
 use search_base::{CostKey, DocId, Graph, NoMemory, PathId, Rule, SortKey, Steps, Word};
 use std::alloc::Global;
 use std::process::Abort;
@@ -165,11 +165,12 @@ fn the_asked_slice_is_found(rt: HostRuntime) {
     let mut log: Box<dyn BucketLog> = log;
     let mut openings: Steps<Counted> = Steps::new();
     let (log, steps) = (&mut log, &mut openings);
-    let found = find(alloc, &Bare, &graph, &rules, &universe, 1, 5, log, steps);
-    let found = found.expect(&rt, "memory");
-    assert!(rt;
-        found.hits.as_slice() == [DocId(3), DocId(4)].as_slice(),
-        "hits"
-    );
-    assert!(rt; found.matching.len() == 3, "matching");
+    let rules = Rules::new(alloc, &Bare, &graph, &rules, &universe).expect(&rt, "memory");
+    let window = HitWindow {
+        offset: 1,
+        limit: 5,
+    };
+    let hits = page(alloc, &rules, window, log, steps).expect(&rt, "memory");
+    assert!(rt; hits.as_slice() == [DocId(3), DocId(4)].as_slice(), "hits");
+    assert!(rt; rules.matching().len() == 3, "matching");
 }
