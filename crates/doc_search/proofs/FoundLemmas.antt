@@ -1,5 +1,5 @@
 -- The documents that match, by their ids and by their rows.
-use Rattle.std.proofs.Common.{◌≡◌, ℕ, suc, ◌<◌, ◌==◌, ◌&&◌, Bool, true, false, cond, List, [], ◌∷◌, map, Option, Some, None, refl, sym, ap, ◌∙◌, arith}
+use Rattle.std.proofs.Common.{◌≡◌, ℕ, suc, ◌<◌, ◌==◌, ◌&&◌, Bool, true, false, cond, List, [], ◌∷◌, length, map, Option, Some, None, refl, sym, ap, ◌∙◌, arith}
 use Rattle.std.specs.Option.{option_map, is_some}
 use Rattle.std.specs.List.{AllByRecursion, cons_option}
 use Rattle.search_base.specs.declared.rule.Rule.{Rule}
@@ -16,11 +16,22 @@ use Rattle.facet_index.specs.Batches as facets
 use Rattle.facet_index.specs.LeavesView.{leaves_of}
 use Rattle.list_facets.specs.Rows.{AreRowsOf}
 use Rattle.rule_buckets.specs.Matches.{match_at, ids_of}
-use Rattle.doc_search.specs.Matches.{AreInOrder, matches_among}
+use Rattle.doc_search.specs.Matches.{AreInOrder, matches_among, passing}
 use Rattle.doc_search.specs.Rows.{rows_of, rows_at}
 use Rattle.doc_index.specs.Documents.{documents_of}
 use Rattle.doc_index.proofs.SameLemmas.{all-from, at-among}
 use Rattle.doc_search.specs.Matched.{rows_matching}
+use Rattle.std.proofs.lemmas.List.{length-map}
+use Rattle.facet_counts.specs.Counts.{counted}
+use Rattle.search_base.specs.Hits.{Match}
+use Rattle.rule_buckets.specs.Matches as lists
+use Rattle.rule_buckets.specs.Rules.{RulesView}
+use Rattle.rule_buckets.proofs.Slices.{AreMade, made-matches, made-matching, made-opened}
+use Rattle.doc_search.specs.declared.found.Search.{Search}
+use Rattle.doc_search.specs.Found.{passes_in, matches_in, opened_in, counts_in}
+use Rattle.doc_search.specs.Searched.{DocumentsView}
+use Rattle.doc_search.proofs.MatchLemmas.{matches_over}
+use Rattle.doc_search.proofs.OrderLemmas.{apart_in_order}
 
 -- ---- documents of a store are in order
 above-ids : (paths : List (List ℕ)) (uses : List PathUse) (n low : ℕ) (rows : List Row) (high : ℕ) → Increase low rows high → n < low → AreAbove n (map (λ (d : IndexedDocument). d.id) (documents_of paths uses rows))
@@ -71,3 +82,34 @@ are-rows (d ∷ ds) id = by (d.id == id) (are-rows ds id)
         → (rows_of (cond b (Some d) (document_at id ds))).leaves ≡ leaves_of (cond b (Some (faceted d)) (facets.document_at id (map faceted ds)))
     by true rest = refl
     by false rest = rest
+
+-- ---- what rules over the documents that pass give
+
+abbrev pub rows_among : DocumentsView → ℕ → RowsView
+rows_among among = rows_at among.documents
+
+module _ (among : DocumentsView) (search : Search) (made : RulesView DocumentsView) (universe : List ℕ)
+    (order : AreInOrder among.documents) (is : universe ≡ passing (passes_in among search) among.documents)
+    (are : AreMade rows_among made among search.query.now search.rules.now universe) where
+  over : lists.matches_among (rows_at among.documents) search.query.now search.rules.now universe ≡ matches_in among search
+  over = matches_over (passes_in among search) search.query.now search.rules.now among.documents universe order is
+
+  pub same-matches : lists.matches_in rows_among made ≡ matches_in among search
+  same-matches = made-matches rows_among made among search.query.now search.rules.now universe are ∙ over
+
+  same-matching : made.matching ≡ ids_of (matches_in among search)
+  same-matching = made-matching rows_among made among search.query.now search.rules.now universe are ∙ ap ids_of over
+
+  pub same-total : length made.matching ≡ length (matches_in among search)
+  same-total = ap length same-matching ∙ length-map (matches_in among search) (λ (m : Match). m.id)
+
+  pub same-opened : lists.opened_in rows_among made search.window ≡ opened_in among search
+  same-opened =
+      made-opened rows_among made among search.query.now search.rules.now universe are search.window
+      ∙ ap (λ ids. lists.opened (rows_at among.documents) search.query.now search.rules.now ids search.window.offset search.window.limit) is
+
+  pub same-counts : map (counted search.counts.most (map (rows_at among.documents) made.matching)) search.counts.attributes.items ≡ counts_in among search
+  same-counts =
+      ap (λ rows. map (counted search.counts.most rows) search.counts.attributes.items)
+      (ap (map (rows_at among.documents)) same-matching
+      ∙ rows-matched (passes_in among search) search.query.now search.rules.now among.documents (apart_in_order among.documents order))

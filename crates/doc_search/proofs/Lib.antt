@@ -7,4 +7,3 @@ pub mod MatchLemmas
 pub mod MeetLemmas
 pub mod RankLemmas
 pub mod FoundLemmas
-pub mod ToldLemmas

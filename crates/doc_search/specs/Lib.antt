@@ -7,3 +7,4 @@ pub mod Meeting
 pub mod Ranked
 pub mod Matched
 pub mod Searched
+pub mod Found

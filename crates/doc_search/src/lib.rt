@@ -1,35 +1,38 @@
 //! A search over the documents of a store, answered from their row index with no document read.
 //!
-//! `search_documents` takes a store, the row index of its documents, and how its paths are used. It gives the hits of a
-//! search as internal ids, the best first, how many documents match, and the counts of facets over all that match.
-//! Definitions know the documents of the store alone.
+//! `IndexedDocuments` borrows a store, the row index of its documents, and how its paths are used, so that no change is
+//! made while it lives. `search_documents` takes it with a `Search`. It gives the hits of the search as internal ids,
+//! the best first, how many documents match, and the counts of facets over all that match. Definitions know the
+//! documents of the store alone.
 //!
-//! Below it a `Snapshot` borrows what has a `RowIndex` and knows of which documents it is the index, so that no change is
-//! made while it lives. It is a `RuleSource`: each question of the ranking rules is one of posting lists, lengths, the
-//! facet index or the documents' own leaves, and the rows of an id are those of its document, or none. `search` gives
-//! the documents that pass a filter and that a query matches, and the asked slice of them, by definitions over the list
-//! of documents alone. Each condition of a condition graph is one question of `posting_sets` or `near_words` (`meeting`);
-//! one on ranks, buckets or pair costs is answered for all numbers in one pass (`meeting_by_number`).
-//! Few documents are sorted by their own leaves, and many by the keys of the facet index. The crate stands on
-//! `doc_store`, `doc_index`, `row_index`, `whole_words`, `near_words`, `filter_sets`, `sort_rule`, `rule_buckets`, and on
-//! `list_facets`, which counts.
+//! A search is three steps: the documents that pass the filter (`documents_passing`), the rules over those of them that
+//! match (`Rules` of `rule_buckets`), and the hits of the window over these (`page`). Below them a `Snapshot` borrows
+//! what has a `RowIndex` and knows of which documents it is the index. It is a `RuleSource`: each question of the
+//! ranking rules is one of posting lists, lengths, the facet index or the documents' own leaves, and the rows of an id
+//! are those of its document, or none. Each condition of a condition graph is one question of `posting_sets` or
+//! `near_words` (`meeting`); one on ranks, buckets or pair costs is answered for all numbers in one pass
+//! (`meeting_by_number`). Few documents are sorted by their own leaves, and many by the keys of the facet index. The
+//! crate stands on `doc_store`, `doc_index`, `row_index`, `whole_words`, `near_words`, `filter_sets`, `sort_rule`,
+//! `rule_buckets`, and on `list_facets`, which counts.
 #![tactic(auto)]
 
 mod answers;
 mod by_number;
 mod documents;
 mod facets;
-mod hits;
+mod found;
 mod indexed;
 mod met;
 mod ordered;
 mod parts;
-mod searched;
+mod passing;
 mod source;
 
 pub use by_number::meeting_by_number;
-pub use documents::{DocumentsFound, search_documents};
-pub use hits::search;
+pub use documents::IndexedDocuments;
+pub use facets::AskedCounts;
+pub use found::{DocumentsFound, Search, search_documents};
 pub use indexed::IndexedRows;
 pub use met::meeting;
+pub use passing::documents_passing;
 pub use source::Snapshot;

@@ -4,10 +4,10 @@ use crate::checks::{check, word};
 use crate::costs::{CASES, KNIGHT, RULES, graph, rows};
 use crate::shelves::{Shelf, make_shelf};
 use bucket_sort::{BucketLog, RecordLog};
-use doc_search::{Snapshot, search};
+use doc_search::{Snapshot, documents_passing};
 use filter_tree::{Filter, Test};
-use rule_buckets::Found;
-use search_base::{PathId, Rule, Steps};
+use rule_buckets::{HitWindow, Rules, page};
+use search_base::{DocId, PathId, Rule, Steps};
 use std::alloc::Global;
 use std::process::Abort;
 
@@ -23,6 +23,13 @@ fn shelf(rt: &impl Abort, alloc: Global, lines: &str) -> Shelf {
     make_shelf(rt, alloc, all)
 }
 
+// What a search finds: the hits, and how many documents match.
+#[derive(Drop)]
+struct HitsFound {
+    hits: Vec<DocId>,
+    total: u64,
+}
+
 // What a search finds, whose filter names the paths by their numbers.
 fn found(
     rt: &impl Abort,
@@ -31,9 +38,8 @@ fn found(
     query: &str,
     filter: &Filter,
     rules: &[Rule],
-    offset: u64,
-    limit: u64,
-) -> Found {
+    window: HitWindow,
+) -> HitsFound {
     let graph = graph(rt, alloc, query);
     let paths = [
         word(rt, alloc, "0"),
@@ -44,19 +50,13 @@ fn found(
     let mut log: Box<dyn BucketLog> = log;
     let mut openings: Steps<Counted> = Steps::new();
     let snapshot = Snapshot::new(shelf);
-    let found = search(
-        alloc,
-        &snapshot,
-        &graph,
-        filter,
-        &paths,
-        rules,
-        offset,
-        limit,
-        &mut log,
-        &mut openings,
-    );
-    found.expect(rt, "memory")
+    let passing = documents_passing(alloc, shelf, filter, &paths).expect(rt, "memory");
+    let rules = Rules::new(alloc, &snapshot, &graph, rules, &passing).expect(rt, "memory");
+    let hits = page(alloc, &rules, window, &mut log, &mut openings).expect(rt, "memory");
+    HitsFound {
+        hits,
+        total: rules.matching().len(),
+    }
 }
 
 // The costs of a document, told so that they stand in the order of their numbers, and none where it does not match.
@@ -85,7 +85,7 @@ fn stand_in_order(
     rt: &impl Abort,
     alloc: Global,
     lines: &str,
-    found: &Found,
+    found: &HitsFound,
     from: usize,
     to: usize,
 ) -> bool {
@@ -108,8 +108,12 @@ fn check_found(rt: &impl Abort, alloc: Global, query: &str, lines: &str, from: u
 {
     let shelf = shelf(rt, alloc, lines);
     let rules = &RULES[from.min(to)..to];
-    let found = found(rt, alloc, &shelf, query, &Filter::All, rules, 0, 100);
-    check(rt, found.matching.len() == match_count(lines), lines);
+    let window = HitWindow {
+        offset: 0,
+        limit: 100,
+    };
+    let found = found(rt, alloc, &shelf, query, &Filter::All, rules, window);
+    check(rt, found.total == match_count(lines), lines);
     check(rt, found.hits.len() as u64 == match_count(lines), lines);
     check(
         rt,
@@ -231,7 +235,10 @@ fn filter(rt: &impl Abort, alloc: Global, least: Option<i128>) -> Filter {
 fn check_search(rt: &impl Abort, alloc: Global, search: &Search) {
     let shelf = shelf(rt, alloc, SHELF);
     let filter = filter(rt, alloc, search.least);
-    let (offset, limit) = (search.offset, search.limit);
+    let window = HitWindow {
+        offset: search.offset,
+        limit: search.limit,
+    };
     let found = found(
         rt,
         alloc,
@@ -239,10 +246,9 @@ fn check_search(rt: &impl Abort, alloc: Global, search: &Search) {
         search.query,
         &filter,
         search.rules,
-        offset,
-        limit,
+        window,
     );
-    check(rt, found.matching.len() == search.total, search.query);
+    check(rt, found.total == search.total, search.query);
     check(rt, found.hits.len() == search.hits.len(), search.query);
     for (hit, id) in found.hits.iter().zip(search.hits) {
         check(rt, hit.0 == *id, search.query);

@@ -4,11 +4,12 @@ ghost use Rattle.doc_search.specs.Ranked.{RankedBelow};
 use crate::stored::{USES, first_store, index_of, stored_row, word};
 use bucket_sort::{BucketLog, SilentLog};
 use doc_rows::PathUse;
-use doc_search::{DocumentsFound, search_documents};
+use doc_search::{AskedCounts, DocumentsFound, IndexedDocuments, Search, search_documents};
 use doc_store::DocStore;
 use facet_counts::FacetPath;
 use filter_tree::{Filter, Test};
 use query_graph::{build_graph, items};
+use rule_buckets::HitWindow;
 use search_base::{PathId, Rule, Steps, Strategy};
 use std::alloc::Global;
 use std::process::Abort;
@@ -74,8 +75,7 @@ fn found(
     store: &DocStore,
     query: &str,
     least: &str,
-    offset: u64,
-    limit: u64,
+    window: HitWindow,
 ) -> DocumentsFound {
     let index = index_of(rt, alloc, store);
     let filter = filter(rt, alloc, least);
@@ -92,22 +92,18 @@ fn found(
         path: Some(PathId(0)),
     };
     asked.push(kind).expect(rt, "memory");
-    search_documents(
-        alloc,
-        store,
-        &index,
-        &uses,
-        &graph,
-        &filter,
-        &[Rule::Field],
-        offset,
-        limit,
-        asked,
-        10,
-        &mut log,
-        &mut openings,
-    )
-    .expect(rt, "memory")
+    let documents = IndexedDocuments::new(alloc, store, &index, &uses).expect(rt, "memory");
+    let search = Search {
+        query: &graph,
+        filter: &filter,
+        rules: &[Rule::Field],
+        window,
+        counts: AskedCounts {
+            attributes: asked,
+            most: 10,
+        },
+    };
+    search_documents(alloc, &documents, search, &mut log, &mut openings).expect(rt, "memory")
 }
 
 fn told(rt: &impl Abort, alloc: Global, found: &DocumentsFound) -> String {
@@ -135,7 +131,8 @@ fn check_search(rt: &impl Abort, alloc: Global, store: &DocStore, line: &str) {
     let (offset, limit) = window.split_once(' ').unwrap_or(("", ""));
     let offset = offset.parse::<u64>().ok().expect(rt, "a number");
     let limit = limit.parse::<u64>().ok().expect(rt, "a number");
-    let found = found(rt, alloc, store, query, least, offset, limit);
+    let window = HitWindow { offset, limit };
+    let found = found(rt, alloc, store, query, least, window);
     let told = told(rt, alloc, &found);
     assert!(rt; told.as_str() == wanted, "{line}: {told}");
 }

@@ -5,5 +5,5 @@ use Rattle.doc_search.proofs.facets.all_counts.Given as goal
 
 abbrev pub invariant-loop-facet : goal.invariant-loop-facet
 invariant-loop-facet l =
-    let count = counted l.most (map (rows_at l.searched) l.matching.ids) in
-    l.replies.items ++ map count l.facet-iterator.rest.items ≡ map count l.fn.asked.items
+    let count = counted l.most (map (rows_at l.documents.documents) l.matching.ids) in
+    l.replies.items ++ map count l.facet-iterator.rest.items ≡ map count l.fn.asked.attributes.items

@@ -8,7 +8,7 @@ use Rattle.row_index.specs.Standing.{faceted}
 use Rattle.doc_search.specs.Rows.{rows_at}
 use Rattle.doc_search.proofs.RowLemmas.{rows_are}
 use Rattle.doc_search.proofs.OrderLemmas.{all_ids, all_there, passing_by}
-use Rattle.doc_search.proofs.hits.documents_passing.Goals as goal
+use Rattle.doc_search.proofs.passing.documents_passing.Goals as goal
 
 pub returns : goal.returns
 returns g c =
