@@ -1,6 +1,6 @@
 -- The hits of a search stand each once and in order, as many as the window has room for and documents match behind its
 -- offset.
-use Rattle.std.proofs.Common.{◌≡◌, ℕ, suc, ◌-◌, ◌<◌, ◌==◌, min, Bool, true, cond, List, [], ◌∷◌, ◌++◌, length, map, filter, Option, None, Some, refl, sym, ap, ap₂, subst, ◌∙◌, arith}
+use Rattle.std.proofs.Common.{◌≡◌, ℕ, suc, ◌-◌, ◌*◌, ◌<◌, ◌≤◌, ◌==◌, min, Bool, true, cond, List, [], ◌∷◌, ◌++◌, length, map, filter, Option, None, Some, refl, sym, ap, ap₂, subst, ◌∙◌, arith}
 use Rattle.std.specs.Prelude.{nat_lt, option_and_then}
 use Rattle.std.specs.Option.{option_map}
 use Rattle.std.specs.List.{AllByRecursion, filter_map, flat_map, cons_option}
@@ -15,11 +15,11 @@ use Rattle.search_call.specs.SearchView.{SearchView}
 use Rattle.search_call.specs.Windows.{offset_of}
 use Rattle.bucket_sort.specs.Hits as bucket
 use Rattle.bucket_sort.specs.Hits.{AreOrdered, costs}
-use Rattle.bucket_sort.proofs.LawLemmas.{has-its-hits}
+use Rattle.bucket_sort.proofs.LawLemmas.{has-its-hits, opens-few}
 use Rattle.doc_sets.specs.Sets.{AreAbove, IsIncreasing}
 use Rattle.doc_store.specs.Sound.{Increase, IsSound}
 use Rattle.doc_store.specs.Store.{Row}
-use Rattle.index_core.specs.Found.{most_hits, window_size}
+use Rattle.index_core.specs.Found.{asked_of, most_hits, window_end, window_size}
 use Rattle.index_changes.specs.Index.{Index}
 use Rattle.index_core.specs.Laws.{HitsAreEachOnce}
 use Rattle.index_core.specs.Matching.{Matching, with_costs, match_of, matching, costs_in, rows_in, query_in, rules_in}
@@ -133,6 +133,12 @@ module _ (i : Index) (call : SearchView) (sound : IsSound i.store) where
   hits-full offset limit =
       sym (length-mapped id_in (hits offset limit)) ∙ ap length (seen offset limit) ∙ (has-its-hits key levels (map id_in (matching i call)) offset limit up).full
       ∙ ap (λ k. min limit (k - offset)) (length-mapped id_in (matching i call))
+
+  -- one bucket a level and match is opened at most, up to the end of the window
+  pub opened-few : length (index.opened_in i call) ≤ length (rules_in i call) * min (window_end (most_hits i) call) (length (matching i call))
+  opened-few =
+      subst (λ n. length (index.opened_in i call) ≤ length (rules_in i call) * min (window_end (most_hits i) call) n) (length-mapped id_in (matching i call))
+      (opens-few key levels (map id_in (matching i call)) (offset_of call.window) (window_end (most_hits i) call) up).few
 
   pub hits-ordered : (offset limit : ℕ) → AreOrdered (base.stands_before before (λ (m : Matching). m.costs) (λ (m : Matching). m.row.id)) (hits offset limit)
   hits-ordered offset limit =

@@ -1,14 +1,12 @@
 -- What is opened on the way to hits depends on the keys of the documents alone.
-use Rattle.std.proofs.Common.{◌≡◌, ℕ, zero, suc, ◌+◌, ◌&&◌, Bool, true, false, cond, List, [], ◌∷◌, ◌++◌, length, map, filter, Option, Some, None, refl, sym, ap, ap₂, ◌∙◌, append-nil, arith}
+use Rattle.std.proofs.Common.{◌≡◌, ℕ, zero, suc, ◌+◌, ◌&&◌, Bool, true, false, cond, List, [], ◌∷◌, ◌++◌, length, map, filter, refl, ap, ap₂, ◌∙◌}
 use Rattle.std.specs.Prelude.{flat_map, nat_lt, nat_le}
 use Rattle.std.specs.List.{list_all, AllByRecursion}
-use Rattle.bucket_sort.specs.declared.log.Opening.{Opening}
+pub use Rattle.rule_buckets.proofs.OpenLemmas.{opens-nothing, opens-none, opens-some, opens-either}
 use Rattle.bucket_sort.specs.Classes.{Class, same, with_key, keys_of, having, classes_of, classes_below}
 use Rattle.bucket_sort.specs.Hits.{costs, stands_before}
-use Rattle.bucket_sort.specs.Told.{and_then}
 use Rattle.bucket_sort.specs.Trace.{place_of, is_opened, opened_classes}
 use Rattle.search_base.specs.Hits.{costs_before}
-use Rattle.bucket_sort.specs.Opens.{LogState, Opens}
 
 -- ---- lists
 
@@ -129,33 +127,3 @@ module _ {K : Type 0} (before : K → K → Bool) (key other : ℕ → ℕ → K
       none (c ∷ cs) =
           ap (λ b. cond (b && nat_le 2 (length c.parent) && nat_lt offset (place_of before key n universe c.parent + length c.parent) && nat_lt (place_of before key n universe c.docs) end) (c ∷ filter (is_opened before key n universe offset end) cs) (filter (is_opened before key n universe offset end) cs)) empty
           ∙ none cs
-
--- ---- a log
-
-told-nothing : (told : Option (List Opening)) → and_then told [] ≡ told
-told-nothing None = refl
-told-nothing (Some all) = ap Some (append-nil all)
-
--- nothing was opened yet
-pub opens-nothing : (all : List Opening) (log : LogState) → Opens true all log log
-opens-nothing all log = (
-  record { gained = []; others = all; parts = refl; told = sym (told-nothing log.told) },
-  record { low = omega arith; high = omega arith },
-)
-
--- and there was nothing to open
-pub opens-none : (b : Bool) (log : LogState) → Opens b [] log log
-opens-none true log = opens-nothing [] log
-opens-none false log = (sym (told-nothing log.told), omega arith)
-
--- what opened all opened some
-pub opens-some : (b : Bool) (all : List Opening) (old new : LogState) → Opens b all old new → Opens true all old new
-opens-some true all old new h = h
-opens-some false all old new (told, opened) = (
-  record { gained = all; others = []; parts = sym (append-nil all); told = told },
-  record { low = omega (arith, opened); high = omega (arith, opened) },
-)
-
-pub opens-either : (b : Bool) (all : List Opening) (old new : LogState) → Opens false all old new → Opens b all old new
-opens-either true all old new h = opens-some false all old new h
-opens-either false all old new h = h

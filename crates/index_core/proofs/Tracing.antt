@@ -1,5 +1,5 @@
 -- What a search opens over the documents of a store is what the index says.
-use Rattle.std.proofs.Common.{◌≡◌, ℕ, zero, suc, ◌+◌, ◌-◌, ◌*◌, ◌<◌, ◌≤◌, ◌==◌, ◌⊎◌, inl, inr, min, Bool, true, false, cond, List, [], ◌∷◌, ◌++◌, length, map, Option, Some, None, refl, sym, ap, ap₂, subst, ◌∙◌, arith, append_assoc, length-append, unwrap_or}
+use Rattle.std.proofs.Common.{◌≡◌, ℕ, zero, suc, ◌+◌, ◌-◌, ◌<◌, ◌≤◌, ◌==◌, ◌⊎◌, inl, inr, min, Bool, true, false, cond, List, [], ◌∷◌, ◌++◌, length, map, Option, Some, None, refl, sym, ap, ap₂, subst, ◌∙◌, arith, append_assoc, length-append, unwrap_or}
 use Rattle.std.specs.Prelude.{get_or, slice_get, option_and_then}
 use Rattle.std.specs.Option.{option_map}
 use Rattle.std.specs.List.{AllByRecursion, filter_map, cons_option}
@@ -16,14 +16,13 @@ use Rattle.search_base.specs.Tuple.{tuple, cost_of, entry}
 use Rattle.search_call.specs.SearchView.{SearchView}
 use Rattle.search_call.specs.Windows.{offset_of}
 use Rattle.bucket_sort.specs.Hits.{costs}
-use Rattle.bucket_sort.specs.Told.{RisesAtMost}
 use Rattle.bucket_sort.specs.Trace.{trace, opened_classes, opening_of}
 use Rattle.doc_index.specs.Documents.{documents_of, document_of}
 use Rattle.doc_rows.specs.declared.path_use.PathUse.{PathUse}
 use Rattle.doc_search.proofs.FoundLemmas.{in-order}
 use Rattle.doc_store.specs.Sound.{IsSound}
 use Rattle.doc_store.specs.Store.{Row, row_at}
-use Rattle.doc_search.specs.Matches.{matches_among, passing, opened}
+use Rattle.doc_search.specs.Matches.{passing, opened}
 use Rattle.doc_search.specs.Rows.{rows_at, rows_of}
 use Rattle.doc_search.proofs.MatchLemmas.{matches_over}
 use Rattle.rule_buckets.specs.Matches.{ids_of}
@@ -40,7 +39,8 @@ use Rattle.index_core.specs.Opened.{costs_at, opened_in, unless_refused}
 use Rattle.index_core.specs.Opened as index
 use Rattle.index_changes.proofs.ByIds.{IsThere, rows-there}
 use Rattle.index_core.proofs.Finding.{IsAsked, matches-same, costs-same, as_match}
-use Rattle.index_core.proofs.Opening.{HasSame, opened-same, none-opened, opens-either}
+use Rattle.rule_buckets.proofs.OpenLemmas.{opens-either}
+use Rattle.index_core.proofs.Opening.{HasSame, opened-same, none-opened}
 
 -- ---- a list of costs by its places
 
@@ -170,30 +170,6 @@ module _ (i : Index) (call : SearchView) (passes : RowsView → Bool) (graph : G
       ∙ ap (λ n. opened_classes before (index.entry_at i call) n (map (λ m. m.row.id) (matching i call)) start (start + (end - start))) (ap length is.ruled)
       ∙ same-window (length (rules_in i call)) (map (λ m. m.row.id) (matching i call)) (offset_of call.window) start end bound starts le
       ∙ ap (opened_classes before (index.entry_at i call) (length (rules_in i call)) (map (λ m. m.row.id) (matching i call)) (offset_of call.window)) ends)
-
-  length-mapped : {A B : Type 0} (f : A → B) (xs : List A) → length (map f xs) ≡ length xs
-  length-mapped f [] = refl
-  length-mapped f (x ∷ xs) = ap suc (length-mapped f xs)
-
-  -- no more than one a level and match, up to the end of the window
-  pub opens-few : (start end before_it after_it : ℕ) → end ≡ window_end (most_hits i) call → (end - start ≡ 0 → after_it ≡ before_it)
-      → RisesAtMost before_it after_it (length rules * min (start + (end - start)) (length (matches_among passes graph rules documents)))
-      → after_it ≤ before_it + length (rules_in i call) * min (window_end (most_hits i) call) (length (matching i call))
-  opens-few start end before_it after_it ends none rises = by (near-or-far start end)
-    where
-      near-or-far : (a b : ℕ) → (a < b) ⊎ (b ≤ a)
-      near-or-far a b = grind arith
-
-      by : (start < end) ⊎ (end ≤ start) → after_it ≤ before_it + length (rules_in i call) * min (window_end (most_hits i) call) (length (matching i call))
-      by (inl near) =
-          let same : length rules * min (start + (end - start)) (length (matches_among passes graph rules documents)) ≡ length (rules_in i call) * min (window_end (most_hits i) call) (length (matching i call)) =
-          ap₂ (λ a b. a * min b (length (matches_among passes graph rules documents))) (ap length is.ruled) (let e : start + (end - start) ≡ end = omega arith in e ∙ ends)
-          ∙ ap (λ c. length (rules_in i call) * min (window_end (most_hits i) call) c) (ap length (matches-same i call passes graph rules is i.store.rows) ∙ length-mapped as_match (matching i call)) in
-          subst (λ n. after_it ≤ before_it + n) same rises.high
-      by (inr far) =
-          let same : after_it ≡ before_it = none (omega arith) in
-          let none_more : before_it ≤ before_it + length (rules_in i call) * min (window_end (most_hits i) call) (length (matching i call)) = omega arith in
-          subst (λ n. n ≤ before_it + length (rules_in i call) * min (window_end (most_hits i) call) (length (matching i call))) (sym same) none_more
 
 -- ---- a search that its settings may refuse
 

@@ -30,7 +30,7 @@ use crate::ranking::{Ranking, costs_of};
 use crate::read::read;
 use bucket_sort::BucketLog;
 use doc_index::clear_documents;
-use doc_search::search_documents;
+use doc_search::{AskedCounts, IndexedDocuments, Search, search_documents};
 use doc_store::DocStore;
 use doc_values::{ChangeKind, DocumentText};
 use index_changes::{
@@ -41,6 +41,7 @@ use index_changes::{
 use index_image::ImageIndex;
 use index_settings::Settings;
 use row_index::RowIndex;
+use rule_buckets::HitWindow;
 use search_base::{DocId, NoMemory, Steps, Word};
 use search_call::SearchCall;
 use search_settings::{
@@ -300,25 +301,22 @@ impl IndexCore {
         ensures few { openings.new ≤ openings.old + length (rules_in self.now call.now)
             * min (end_of_window (most_hits self.now) call.now) (length (matching self.now call.now)) }
     {
-        let asked = asked_paths(alloc, &self.settings, self.store.paths(), call)?;
+        let attributes = asked_paths(alloc, &self.settings, self.store.paths(), call)?;
         let most = self.settings.max_total_hits();
-        let start = window_start(call.window);
-        let limit = window_end(most, call.window).saturating_sub(start);
-        let found = search_documents(
-            alloc,
-            &self.store,
-            &self.kept.rows,
-            ranking.uses,
-            &ranking.query,
-            &call.filter,
-            ranking.rules.as_slice(),
-            start,
-            limit,
-            asked,
-            self.settings.max_values_per_facet(),
-            log,
-            openings,
-        )?;
+        let offset = window_start(call.window);
+        let limit = window_end(most, call.window).saturating_sub(offset);
+        let search = Search {
+            query: &ranking.query,
+            filter: &call.filter,
+            rules: ranking.rules.as_slice(),
+            window: HitWindow { offset, limit },
+            counts: AskedCounts {
+                attributes,
+                most: self.settings.max_values_per_facet(),
+            },
+        };
+        let documents = IndexedDocuments::new(alloc, &self.store, &self.kept.rows, ranking.uses)?;
+        let found = search_documents(alloc, &documents, search, log, openings)?;
         Ok(Findings {
             ids: found.hits,
             total: found.total.min(most),
