@@ -19,7 +19,7 @@ use Rattle.bucket_sort.proofs.LawLemmas.{has-its-hits, opens-few}
 use Rattle.doc_sets.specs.Sets.{AreAbove, IsIncreasing}
 use Rattle.doc_store.specs.Sound.{Increase, IsSound}
 use Rattle.doc_store.specs.Store.{Row}
-use Rattle.index_core.specs.Found.{asked_of, most_hits, window_end, window_size}
+use Rattle.index_core.specs.Found.{most_hits, window_end, window_size}
 use Rattle.index_changes.specs.Index.{Index}
 use Rattle.index_core.specs.Laws.{HitsAreEachOnce}
 use Rattle.index_core.specs.Matching.{Matching, with_costs, match_of, matching, costs_in, rows_in, query_in, rules_in}
