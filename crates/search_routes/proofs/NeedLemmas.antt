@@ -1,6 +1,7 @@
 -- How many documents a change reads at most.
 use Rattle.std.proofs.Common.{◌≡◌, ℕ, ◌+◌, ◌≤◌, List, [], ◌∷◌, length, Bool, true, false, cond, ◌&&◌, ◌||◌, Option, Some, None, is_some, Result, Ok, Err, codes, refl, ap₂, subst, arith}
 use Rattle.std.specs.Bool.{beq}
+use Rattle.std.proofs.lemmas.Bool.{lt-leb}
 use Rattle.std.proofs.lemmas.Cmp.{nat_eq_equiv}
 use Rattle.std.specs.Cmp.Lexicographic.{pointwise}
 use Rattle.serde_json.specs.Data.{Data}
@@ -21,8 +22,8 @@ use Rattle.index_settings.specs.Paths.{rank_of, is_faceted}
 use Rattle.search_base.specs.Trying.{or_refuse, refused_as}
 use Rattle.request_refusals.specs.declared.refusal.Refusal.TheVariants.{NoIndex}
 use Rattle.search_routes.specs.State.{Indexes}
-use Rattle.search_routes.specs.Machine.{core_refusal, index_at, index_named}
-use Rattle.search_routes.specs.Needs.{there_need, plan_need, need_in, documents_need, stored_in, needs_documents}
+use Rattle.search_routes.specs.Machine.{core_refusal, index_at, index_named, most_changes}
+use Rattle.search_routes.specs.Needs.{there_need, plan_need, need_in, documents_need, stored_in, needs_documents, unless_spent}
 
 itself : (rank : Option ℕ) (faceted : Bool) → (same_rank rank rank && beq faceted faceted) ≡ true
 itself None true = refl
@@ -86,18 +87,38 @@ patch_most i members = by (patch_fault members) refl (needs_documents members) r
         (rw (no_value sorted four.2) refl) (rw (no_value ranked four.3) refl) in
         rw is (rw none (omega arith))
 
-pub patch_needs : (there : Option Index) (members : Data) → need_in there (patch members) ≤ cond (needs_documents members) (stored_in there) 0
-patch_needs None members = patch_most empty_index members
-patch_needs (Some i) members = patch_most i members
+patch_of_there : (there : Option Index) (members : Data) → need_in there (patch members) ≤ cond (needs_documents members) (stored_in there) 0
+patch_of_there None members = patch_most empty_index members
+patch_of_there (Some i) members = patch_most i members
 
-pub reset_needs : (there : Option Index) → need_in there reset ≤ stored_in there
-reset_needs None = read_most defaults empty_index
-reset_needs (Some i) = read_most defaults i
+reset_of_there : (there : Option Index) → need_in there reset ≤ stored_in there
+reset_of_there None = read_most defaults empty_index
+reset_of_there (Some i) = read_most defaults i
 
--- ---- a plan reads no more than its change needs
+-- ---- the limit of changes
 
-pub planned_needs : (key : List ℕ) (i : Index) (change : KindData) (plan : PlanView) → refused_as (core_refusal key) (planned i change) ≡ Ok plan → needed plan.work i ≤ documents_need i change
-planned_needs key i change plan is = by (planned i change) is
+at_most : (before need most : ℕ) → need ≤ most → unless_spent before need ≤ unless_spent before most
+at_most before need most is = by (nat_le most_changes before)
+  where
+    by : (spent : Bool) → cond spent 0 need ≤ cond spent 0 most
+    by true = omega arith
+    by false = is
+
+pub patch_needs : (before : ℕ) (there : Option Index) (members : Data)
+    → unless_spent before (need_in there (patch members)) ≤ unless_spent before (cond (needs_documents members) (stored_in there) 0)
+patch_needs before there members = at_most before _ _ (patch_of_there there members)
+
+pub reset_needs : (before : ℕ) (there : Option Index) → unless_spent before (need_in there reset) ≤ unless_spent before (stored_in there)
+reset_needs before there = at_most before _ _ (reset_of_there there)
+
+with_room : (before need : ℕ) → before < most_changes → unless_spent before need ≡ need
+with_room before need room = rw (lt-leb most_changes before room) refl
+
+-- ---- a plan reads no more than its change needs, and none is made past the limit
+
+pub planned_needs : (key : List ℕ) (before : ℕ) (i : Index) (change : KindData) (plan : PlanView) → refused_as (core_refusal key) (planned i change) ≡ Ok plan
+    → before < most_changes → needed plan.work i ≤ unless_spent before (documents_need i change)
+planned_needs key before i change plan is room = rw (with_room before (documents_need i change) room) (by (planned i change) is)
   where
     by : (r : Result PlanView CoreRefusal) → refused_as (core_refusal key) r ≡ Ok plan → needed plan.work i ≤ plan_need r i
     by (Ok p) is = let same : p ≡ plan = cc in subst (λ v. needed v.work i ≤ needed p.work i) same (omega arith)

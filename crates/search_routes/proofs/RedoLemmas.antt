@@ -173,7 +173,7 @@ pub none_takes : (s : State) (bytes : List ℕ) (c : ChangeData) → change_at b
 unfolding redone
 none_takes s bytes c at bad = rw (at, bad) refl
 
-pub need_again : (s : State) (bytes : List ℕ) (c : ChangeData) → change_at bytes ≡ Ok c → redo_need s bytes ≡ change_need s.indexes c.uid c.kind
+pub need_again : (s : State) (bytes : List ℕ) (c : ChangeData) → change_at bytes ≡ Ok c → redo_need s bytes ≡ change_need s.changes s.indexes c.uid c.kind
 unfolding redo_need
 need_again s bytes c at = rw at refl
 

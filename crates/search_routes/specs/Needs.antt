@@ -1,5 +1,5 @@
 -- How many stored documents a call needs to read.
-use Rattle.std.specs.Prelude.{ℕ, List, length, Bool, ◌||◌, codes, Option, Some, None, is_some, unwrap_or, Result, Ok, Err, if◌then◌else◌}
+use Rattle.std.specs.Prelude.{ℕ, List, length, Bool, nat_le, ◌||◌, codes, Option, Some, None, is_some, unwrap_or, Result, Ok, Err, if◌then◌else◌}
 use Rattle.serde_json.specs.Data.{Data}
 use Rattle.serde_json.specs.Find.{get}
 use Rattle.doc_values.specs.Changes.{KindData, create, drop_index, replace, update, remove, clear, patch, reset}
@@ -15,7 +15,7 @@ use Rattle.request_refusals.specs.declared.refusal.Refusal.{Refusal}
 use Rattle.request_calls.specs.Asked.{ReadData, health, indexes, index, documents, document, settings, search, CallData, write, read}
 use Rattle.request_calls.specs.Calls.{call_of}
 use Rattle.search_routes.specs.State.{State, Indexes}
-use Rattle.search_routes.specs.Machine.{index_at, slice}
+use Rattle.search_routes.specs.Machine.{index_at, most_changes, slice}
 
 -- ---- changes
 
@@ -44,15 +44,23 @@ abbrev pub stored_in : Option Index → ℕ
 stored_in None = 0
 stored_in (Some i) = length i.store.rows
 
-abbrev pub change_need : Indexes → List ℕ → KindData → ℕ
-change_need es uid (create key) = 0
-change_need es uid drop_index = 0
-change_need es uid (replace given ds) = need_in (index_at uid es) (replace given ds)
-change_need es uid (update given ds) = need_in (index_at uid es) (update given ds)
-change_need es uid (remove ids) = need_in (index_at uid es) (remove ids)
-change_need es uid clear = need_in (index_at uid es) clear
-change_need es uid (patch members) = if needs_documents members then stored_in (index_at uid es) else 0
-change_need es uid reset = stored_in (index_at uid es)
+abbrev pub kind_need : Option Index → KindData → ℕ
+kind_need there (create key) = 0
+kind_need there drop_index = 0
+kind_need there (replace given ds) = need_in there (replace given ds)
+kind_need there (update given ds) = need_in there (update given ds)
+kind_need there (remove ids) = need_in there (remove ids)
+kind_need there clear = need_in there clear
+kind_need there (patch members) = if needs_documents members then stored_in there else 0
+kind_need there reset = stored_in there
+
+-- A change past the limit of changes is refused before anything is read.
+abbrev pub unless_spent : ℕ → ℕ → ℕ
+unless_spent before need = if nat_le most_changes before then 0 else need
+
+-- of a change of the index of this uid, where so many were accepted before
+abbrev pub change_need : ℕ → Indexes → List ℕ → KindData → ℕ
+change_need before es uid change = unless_spent before (kind_need (index_at uid es) change)
 
 -- ---- reads
 
@@ -79,7 +87,7 @@ read_need es (search uid call) = there_need (index_at uid es) (λ i. hits_needed
 -- ---- calls and requests
 
 abbrev pub call_need : State → CallData → ℕ
-call_need s (write change) = change_need s.indexes change.uid change.kind
+call_need s (write change) = change_need s.changes s.indexes change.uid change.kind
 call_need s (read call) = read_need s.indexes call
 
 -- a request that is refused by what it says alone needs none

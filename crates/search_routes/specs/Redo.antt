@@ -50,7 +50,7 @@ unfoldable pub redone : State → List ℕ → Result State Spot
 redone s bytes = made_again s bytes (change_at bytes)
 
 abbrev pub need_again : State → Result ChangeData Spot → ℕ
-need_again s (Ok c) = change_need s.indexes c.uid c.kind
+need_again s (Ok c) = change_need s.changes s.indexes c.uid c.kind
 need_again s (Err spot) = 0
 
 -- how many stored documents that needs to read

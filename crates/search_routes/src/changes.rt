@@ -13,7 +13,7 @@ ghost use Rattle.search_base.specs.Gives.{Gives, Checks, Turns};
 ghost use Rattle.search_base.specs.Trying.{refused_as};
 ghost use Rattle.search_routes.specs.Done.{Grows};
 ghost use Rattle.search_routes.specs.Machine.{id_member as id_member_of, id_member_for as id_member_of_change, core_refusal, limits, index_at, index_after, indexes_after, filled, emptied, type_of as type_in, most_changes};
-ghost use Rattle.search_routes.specs.Needs.{change_need, documents_need, need_in};
+ghost use Rattle.search_routes.specs.Needs.{change_need, documents_need, need_in, unless_spent};
 
 use crate::indexes::Indexes;
 use doc_values::{Change, ChangeKind, DocumentText, infer_key};
@@ -42,7 +42,8 @@ pub(crate) fn change_indexes<F>(
     ensures grows { Grows (indexes_after before indexes.old.entries change.uid (kind_view change.kind))
         (accepted change.uid (type_in (kind_view change.kind)) before) indexes.old.entries result indexes.new.entries }
     ensures room { OnOk result (before < most_changes) }
-    ensures fetched { fetches.new ≤ fetches.old + change_need indexes.old.entries change.uid (kind_view change.kind) }
+    ensures fetched { fetches.new
+        ≤ fetches.old + change_need before indexes.old.entries change.uid (kind_view change.kind) }
 {
     let Change { uid, kind } = change;
     match kind {
@@ -166,7 +167,8 @@ fn fill<F>(
     ensures grows { Grows (filled before indexes.old.entries uid (kind_view change))
         (accepted uid (type_in (kind_view change)) before) indexes.old.entries result indexes.new.entries }
     ensures room { OnOk result (before < most_changes) }
-    ensures fetched { fetches.new ≤ fetches.old + need_in (index_at uid indexes.old.entries) (kind_view change) }
+    ensures fetched { fetches.new
+        ≤ fetches.old + unless_spent before (need_in (index_at uid indexes.old.entries) (kind_view change)) }
 {
     match indexes.get_mut(&uid) {
         Some(index) => {
@@ -206,7 +208,8 @@ fn empty<F>(
     ensures grows { Grows (emptied before indexes.old.entries uid (kind_view change))
         (accepted uid (type_in (kind_view change)) before) indexes.old.entries result indexes.new.entries }
     ensures room { OnOk result (before < most_changes) }
-    ensures fetched { fetches.new ≤ fetches.old + need_in (index_at uid indexes.old.entries) (kind_view change) }
+    ensures fetched { fetches.new
+        ≤ fetches.old + unless_spent before (need_in (index_at uid indexes.old.entries) (kind_view change)) }
 {
     match indexes.get_mut(&uid) {
         Some(index) => change_index(alloc, index, before, false, uid.as_str(), change, fetches),
@@ -228,7 +231,7 @@ fn change_index<F>(
     ensures grows { Grows (index_after before is_full index.old (kind_view change))
         (accepted uid.now (type_in (kind_view change)) before) index.old result index.new }
     ensures room { OnOk result (before < most_changes) }
-    ensures fetched { fetches.new ≤ fetches.old + documents_need index.old (kind_view change) }
+    ensures fetched { fetches.new ≤ fetches.old + unless_spent before (documents_need index.old (kind_view change)) }
 {
     let called = type_of(&change);
     let key = id_member_for(alloc, index.key(), &change)?;

@@ -120,7 +120,8 @@ impl Machine {
         requires accepted { IsAccepted (change_view change) }
         ensures step { MakesStep self.old (changed self.old change.uid (kind_view change.kind)) result self.new }
         ensures room { OnOk result (self.old.changes < most_changes) }
-        ensures fetched { fetches.new ≤ fetches.old + change_need self.old.indexes change.uid (kind_view change.kind) }
+        ensures fetched { fetches.new
+            ≤ fetches.old + change_need self.old.changes self.old.indexes change.uid (kind_view change.kind) }
     {
         let before = self.changes;
         let reply = change_indexes(alloc, &mut self.indexes, before, change, fetches)?;

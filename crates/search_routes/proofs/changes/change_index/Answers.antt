@@ -19,12 +19,14 @@ returns-in_err-apply-clause-grows g c =
 
 pub returns-in_err-apply-clause-fetched : goal.returns-in_err-apply-clause-fetched
 returns-in_err-apply-clause-fetched g c =
-    let most = planned_needs c.in_ok-key.key c.args.index.now (kind_view c.args.change) c.in_ok-plan.plan c.in_ok-plan.ensures.plan in
+    let most = planned_needs c.in_ok-key.key c.args.before c.args.index.now (kind_view c.args.change) c.in_ok-plan.plan c.in_ok-plan.ensures.plan
+    c.in_ok-check_limits.ensures.room in
     omega (arith, most, c.apply.ensures.fetched)
 
 pub returns-clause-fetched : goal.returns-clause-fetched
 returns-clause-fetched g c =
-    let most = planned_needs c.in_ok-key.key c.args.index.now (kind_view c.args.change) c.in_ok-plan.plan c.in_ok-plan.ensures.plan in
+    let most = planned_needs c.in_ok-key.key c.args.before c.args.index.now (kind_view c.args.change) c.in_ok-plan.plan c.in_ok-plan.ensures.plan
+    c.in_ok-check_limits.ensures.room in
     omega (arith, most, c.apply.ensures.fetched)
 
 pub returns-in_err-check_limits-clause-grows : goal.returns-in_err-check_limits-clause-grows
