@@ -1,0 +1,5 @@
+-- Why nothing is spelled so far.
+pub mod Tells
+pub mod ChangeTells
+pub mod ImageTells
+pub mod Joined

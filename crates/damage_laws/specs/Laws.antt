@@ -1,0 +1,30 @@
+-- Where bytes are damaged, nothing is spelled so far: no spelling agrees with the bytes through the field that stands at
+-- the place of the damage.
+use Rattle.std.specs.Prelude.{◌≡◌, ℕ, List, Err}
+use Rattle.doc_values.specs.Changes.{ChangeData}
+use Rattle.change_payloads.specs.Change.{Spot, change_at}
+use Rattle.change_payloads.specs.Fits.{IsChange}
+use Rattle.change_payloads.specs.Spelling.{change}
+use Rattle.index_image.specs.Fits.{HasImage}
+use Rattle.index_image.specs.Image.{state_at}
+use Rattle.index_image.specs.Layout.{image_bytes}
+use Rattle.index_image.specs.Rows.{ImageData}
+use Rattle.index_image.specs.State.{IsState}
+use Rattle.damage_laws.specs.Agrees.{AgreesThrough, joined}
+use Rattle.damage_laws.specs.Fields.{change_fields, image_fields}
+
+abbrev pub NoChangeIsSpelledSoFar : Type 0
+NoChangeIsSpelledSoFar = (bytes : List ℕ) (damage : Spot) (c : ChangeData) → change_at bytes ≡ Err damage → IsChange c
+    → AgreesThrough damage.place (change_fields c) bytes → ⊥
+
+abbrev pub NoStateIsSpelledSoFar : Type 0
+NoStateIsSpelledSoFar = (bytes : List ℕ) (damage : Spot) (s : ImageData) → state_at bytes ≡ Err damage → IsState s
+    → HasImage s → AgreesThrough damage.place (image_fields s) bytes → ⊥
+
+-- ---- the fields, one after the other, are the spelling
+
+abbrev pub FieldsSpellChanges : Type 0
+FieldsSpellChanges = (c : ChangeData) → joined (change_fields c) ≡ change c
+
+abbrev pub FieldsSpellStates : Type 0
+FieldsSpellStates = (s : ImageData) → joined (image_fields s) ≡ image_bytes s

@@ -1,0 +1,4 @@
+-- Laws of damage.
+pub mod Agrees
+pub mod Fields
+pub mod Laws
