@@ -6,3 +6,4 @@ pub mod Serving
 pub mod Visits
 pub mod FewWords
 pub mod Replying
+pub mod Telling

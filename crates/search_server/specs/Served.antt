@@ -13,6 +13,7 @@ use Rattle.durable_machine.specs.Durable.{CrashHolds}
 use Rattle.search_server.specs.LinkState.{LinkState}
 use Rattle.search_server.specs.Run.{Event, requests_of, replies, after, needs, written, Logs, most_over}
 use Rattle.search_server.specs.Statuses.{IsCaused, IsGoing}
+use Rattle.search_server.specs.Telling.{LinkGoesOnTelling}
 use Rattle.search_server.specs.declared.status.LinkEnd.{LinkEnd}
 use Rattle.search_server.specs.declared.status.Status.{Status}
 use Rattle.search_server.specs.declared.status.Status.TheVariants.{Done, BadWords, ReadFault, WriteFault, DoorFault, DiskFault, Damaged, CutShort, BadHead, RequestsSpent, NoMemory}
@@ -107,9 +108,10 @@ Served bytes old new n ReadFault = GivenAnswers bytes old new n
 Served bytes old new n WriteFault = CutAnswers bytes old new n
 Served bytes old new n NoMemory = FirstAnswers bytes old new n
 
--- The wire promise. Whether the link tells its bytes or not, it ends with a cause; and where no disk failed, whatever a
+-- The wire promise. Whether the link tells its bytes or not, it goes on so, and ends with a cause; and where no disk failed, whatever a
 -- crash may now leave on the disks holds the state after all requests, each of which had its reply begun.
 pub record Serves (old new : LinkState) (end : LinkEnd) : Type 0 where
   pub promise : (bytes : List ℕ) → old.pending ≡ Some bytes → Served bytes old new end.requests end.status
+  pub telling : LinkGoesOnTelling old new
   pub cause : IsCaused old new end.status
   pub crash : IsGoing end.status → CrashHolds new.disk_a.contents new.disk_b.contents (λ t. t ≡ new.state)

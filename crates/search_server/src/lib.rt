@@ -9,13 +9,15 @@
 //! the pipe, save for one at which a disk failed (`specs/Links.antt`). Both clauses say how the machine was opened,
 //! or why it was not (`specs/Opening.antt`); the clause `demo`, that what is printed are the totals and ids that a
 //! machine answers to the demo's requests (`specs/Demo.antt`). A log is told, request by request, each bucket that a
-//! search opens (`Logs` in `specs/Run.antt`). Contracts see `LinkEnd`, `Status` and `Command` as they are. Stands on
-//! `durable_machine` for the machine on its disks, `change_journal` for why it was not opened, `search_routes` for the
-//! machine of the demo, `bucket_sort` and `index_core` for logs and what they are told, `http_wire` for the bytes,
-//! `outside_io` and `link_doors` for links, disks and doors, and `demo_input` for the demo.
+//! search opens (`Logs` in `specs/Run.antt`). What a link or a disk tells it goes on telling (`specs/Telling.antt`).
+//! Contracts see `LinkEnd`, `Status` and `Command` as they are. Stands on `durable_machine` for the machine on its disks,
+//! `change_journal` for why it was not opened, `search_routes` for the machine of the demo, `bucket_sort` and `index_core`
+//! for logs and what they are told, `http_wire` for the bytes, `outside_io` and `link_doors` for links, disks and doors,
+//! and `demo_input` for the demo.
 #![tactic(auto)]
 
 mod demo;
+mod laws;
 mod line;
 mod links;
 mod run;
@@ -24,6 +26,9 @@ mod status;
 mod turn;
 mod words;
 
+pub use laws::{
+    disks_go_on_telling, reads_go_on_telling, turns_go_on_telling, writes_go_on_telling,
+};
 pub use run::run_search_server;
 pub use serve::serve_link;
 pub use status::{LinkEnd, Status};

@@ -9,6 +9,7 @@ ghost use Rattle.search_server.specs.Served.{Serves};
 ghost use Rattle.search_server.specs.Links.{ServesDoor, door_state};
 ghost use Rattle.search_server.specs.Demo.{ShowsDemo};
 ghost use Rattle.search_server.specs.Opening.{Heard, NotOpened, Opened, OpensAndServes, unopened_state};
+ghost use Rattle.search_server.specs.Telling.{GoesOnTelling};
 ghost use Rattle.search_server.specs.Words.{command_of};
 
 use crate::demo::show_demo;
@@ -126,6 +127,8 @@ pub fn run_search_server<P: Link, D: Door, K: Disk, F, G>(
     ensures none_out { D.is_out door.new ≡ false }
     ensures read_later { P.read_faults pipe.old ≤ P.read_faults pipe.new }
     ensures write_later { P.write_faults pipe.old ≤ P.write_faults pipe.new }
+    ensures left_telling { GoesOnTelling (P.left pipe.old) (P.left pipe.new) }
+    ensures told_telling { GoesOnTelling (P.told pipe.old) (P.told pipe.new) }
     ensures told_a { is_told (K.contents disk_a.new) ≡ is_told (K.contents disk_a.old) }
     ensures told_b { is_told (K.contents disk_b.new) ≡ is_told (K.contents disk_b.old) }
     ensures later_a { K.disk_faults disk_a.old ≤ K.disk_faults disk_a.new }

@@ -1,4 +1,5 @@
-use Rattle.std.proofs.Common.{◌≡◌, Some, None, inl, inr, refl, subst, sym, ◌∙◌}
+use Rattle.std.proofs.Common.{◌≡◌, Some, None, inl, inr, refl, subst, sym, ap, ◌∙◌}
+use Rattle.std.specs.Prelude.{is_some}
 use Rattle.bucket_sort.specs.Opens.{log_state}
 use Rattle.search_server.specs.LinkState.{link_state, shared_state}
 use Rattle.search_server.specs.Links.{ServesDoor, door_state}
@@ -7,6 +8,7 @@ use Rattle.search_server.specs.declared.status.Status.{Status}
 use Rattle.search_server.specs.declared.status.Status.TheVariants.{BadWords}
 use Rattle.search_server.specs.declared.words.Command.TheVariants.{Serve}
 use Rattle.search_server.proofs.Visits.{shut, from_before}
+use Rattle.search_server.proofs.Telling.{door_tells, demo_tells}
 use Rattle.search_server.proofs.run.run_search_server.Goals as goal
 
 -- opening no machine never blames the words
@@ -38,7 +40,7 @@ returns-in-Some-Pipe-clause-pipe g c = λ is.
         (
           c.serve_link.result.requests,
           c.serve_link.result.passed,
-          record { promise = served.promise; cause = served.cause; crash = served.crash },
+          record { promise = served.promise; telling = served.telling; cause = served.cause; crash = served.crash },
         ),
       ),
     )
@@ -95,3 +97,21 @@ returns-in-Some-Serve-clause-serve g c = λ port connections is.
             (rw (c.open.ensures.coming, c.open.ensures.returned) at c.serve_links.ensures.promise)),
       ),
     )
+
+pub returns-in-Some-Pipe-clause-left_telling : goal.returns-in-Some-Pipe-clause-left_telling
+returns-in-Some-Pipe-clause-left_telling g c = c.serve_link.ensures.promise.telling.0
+
+pub returns-in-Some-Pipe-clause-told_telling : goal.returns-in-Some-Pipe-clause-told_telling
+returns-in-Some-Pipe-clause-told_telling g c = c.serve_link.ensures.promise.telling.1
+
+pub returns-in-Some-Serve-clause-left_telling : goal.returns-in-Some-Serve-clause-left_telling
+returns-in-Some-Serve-clause-left_telling g c = ap is_some c.serve_links.ensures.left
+
+pub returns-in-Some-Serve-clause-told_telling : goal.returns-in-Some-Serve-clause-told_telling
+returns-in-Some-Serve-clause-told_telling g c = door_tells _ _ _ _ _ c.serve_links.ensures.promise
+
+pub returns-in-Some-Demo-clause-left_telling : goal.returns-in-Some-Demo-clause-left_telling
+returns-in-Some-Demo-clause-left_telling g c = ap is_some c.show_demo.ensures.left
+
+pub returns-in-Some-Demo-clause-told_telling : goal.returns-in-Some-Demo-clause-told_telling
+returns-in-Some-Demo-clause-told_telling g c = demo_tells _ _ _ _ c.show_demo.ensures.promise.printed

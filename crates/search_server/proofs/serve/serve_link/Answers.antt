@@ -8,6 +8,7 @@ use Rattle.search_server.specs.Passed.{PassedIfDue}
 use Rattle.search_server.specs.Turns.{end_by}
 use Rattle.search_server.proofs.Progress.{LeftBy}
 use Rattle.search_server.proofs.Serving.{starts, goes_on, ends_spent, served_by, caused_by, replied_by, went_on, ended_well, due_later, nothing_yet}
+use Rattle.search_server.proofs.Telling.{turn_tells, without_kept}
 use Rattle.search_server.proofs.serve.serve_link.Goals as goal
 
 pub returns-in_default-clause-promise : goal.returns-in_default-clause-promise
@@ -16,6 +17,7 @@ returns-in_default-clause-promise g c =
     (shared_state g.K.Disk.contents g.K.Disk.disk_faults c.args.machine.now.machine c.args.fetches.now (log_state ((g.dyn-1.0.entry c.args.log.now.vtable).1.told c.args.log.now.value) c.args.openings.now) c.args.disk_a.now c.args.disk_b.now) in
     record {
       promise = λ bytes e. nothing_yet bytes start;
+      telling = (refl, refl);
       cause = tt;
       crash = λ going. crash_now c.args.machine.now start.disk_a.contents start.disk_b.contents c.requires.durable;
     }
@@ -28,6 +30,8 @@ loop-served-init g c = record {
   passed_few = omega arith;
   read_later = omega arith;
   write_later = omega arith;
+  left_telling = refl;
+  told_telling = refl;
   told_a = refl;
   told_b = refl;
   later_a = omega arith;
@@ -44,6 +48,7 @@ loop-served-preserved g c =
     (shared_state g.K.Disk.contents g.K.Disk.disk_faults c.serve_one-turn.new.machine.machine c.serve_one-turn.new.fetches (log_state ((g.dyn-1.0.entry c.serve_one-turn.new.log.vtable).1.told c.serve_one-turn.new.log.value) c.serve_one-turn.new.openings) c.serve_one-turn.new.disk_a c.serve_one-turn.new.disk_b) in
     let n = c.loop-served.served in
     let goes : end_by n c.serve_one-turn.new.passed c.serve_one-turn.result ≡ None = sym c.end.ensures.turn ∙ c.in_default-end.is in
+    let telling = turn_tells (1000000 - n) old new c.serve_one-turn.new.kept c.serve_one-turn.result c.serve_one-turn.ensures.turn in
     record {
       progress = λ bytes e. goes_on bytes start old new n false (c.loop-served.invariant.progress bytes e) c.loop-served-test.true
           (replied_by old new (1000000 - n) n c.serve_one-turn.new.passed c.serve_one-turn.new.kept c.serve_one-turn.result c.serve_one-turn.ensures.turn goes);
@@ -53,6 +58,8 @@ loop-served-preserved g c =
       passed_few = omega (arith, c.loop-served.invariant.passed_few, c.serve_one-turn.ensures.passed_few);
       read_later = omega (arith, c.serve_one-turn.ensures.read_later);
       write_later = omega (arith, c.serve_one-turn.ensures.write_later);
+      left_telling = without_kept c.loop-served.kept c.serve_one-turn.new.kept (g.P.Link.left c.loop-served.link) (g.P.Link.left c.serve_one-turn.new.link) telling.0 ∙ c.loop-served.invariant.left_telling;
+      told_telling = telling.1 ∙ c.loop-served.invariant.told_telling;
       told_a = c.serve_one-turn.ensures.told_a ∙ c.loop-served.invariant.told_a;
       told_b = c.serve_one-turn.ensures.told_b ∙ c.loop-served.invariant.told_b;
       later_a = omega (arith, c.serve_one-turn.ensures.later_a);
@@ -87,9 +94,14 @@ returns-in-Some-clause-promise g c =
     let left : LeftBy c.serve_one-turn.new.kept new final = record { pending = refl; told = refl; state = refl; fetches = refl; log = refl; read_faults = refl; write_faults = refl; disk_a = refl; disk_b = refl } in
     let n = c.loop-served.served in
     let ends : end_by n c.serve_one-turn.new.passed c.serve_one-turn.result ≡ Some c.in-Some.end = sym c.end.ensures.turn ∙ c.in-Some.is in
+    let telling = turn_tells (1000000 - n) old new c.serve_one-turn.new.kept c.serve_one-turn.result c.serve_one-turn.ensures.turn in
     record {
       promise = λ bytes e. served_by bytes start old new final n c.serve_one-turn.new.passed c.serve_one-turn.new.kept c.serve_one-turn.result c.in-Some.end
           (c.loop-served.invariant.progress bytes e) c.loop-served-test.true c.serve_one-turn.ensures.turn ends left;
+      telling = (
+        without_kept c.loop-served.kept c.serve_one-turn.new.kept (g.P.Link.left c.loop-served.link) (g.P.Link.left c.serve_one-turn.new.link) telling.0 ∙ c.loop-served.invariant.left_telling,
+        telling.1 ∙ c.loop-served.invariant.told_telling,
+      );
       cause = caused_by start old new final (1000000 - n) n c.serve_one-turn.new.passed c.serve_one-turn.new.kept c.serve_one-turn.result c.in-Some.end
           (record {
             reads = c.loop-served.invariant.read_later;
@@ -114,6 +126,7 @@ returns-clause-promise g c =
     record {
       promise = λ bytes e. ends_spent bytes start old final c.loop-served.served c.loop-served.kept (c.loop-served.invariant.progress bytes e)
           (omega (arith, c.loop-served-test.false, c.loop-served.auto.served-end)) left;
+      telling = (c.loop-served.invariant.left_telling, c.loop-served.invariant.told_telling);
       cause = tt;
       crash = λ going. crash_now c.loop-served.machine final.disk_a.contents final.disk_b.contents c.loop-served.invariant.durable;
     }

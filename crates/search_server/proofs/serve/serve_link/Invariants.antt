@@ -5,6 +5,7 @@ use Rattle.durable_machine.specs.Durable.{IsDurable}
 use Rattle.bucket_sort.specs.Opens.{log_state}
 use Rattle.search_server.specs.LinkState.{link_state, shared_state}
 use Rattle.search_server.specs.Passed.{PassedIfDue}
+use Rattle.search_server.specs.Telling.{GoesOnTelling}
 use Rattle.search_server.proofs.Progress.{Progress}
 use Rattle.search_server.proofs.serve.serve_link.Given as goal
 
@@ -22,6 +23,8 @@ invariant-loop-served g l = record {
   passed_few : l.passed + l.fn.machine.machine.changes ≤ l.machine.machine.changes;
   read_later : g.P.Link.read_faults l.fn.link ≤ g.P.Link.read_faults l.link;
   write_later : g.P.Link.write_faults l.fn.link ≤ g.P.Link.write_faults l.link;
+  left_telling : GoesOnTelling (g.P.Link.left l.fn.link) (g.P.Link.left l.link);
+  told_telling : GoesOnTelling (g.P.Link.told l.fn.link) (g.P.Link.told l.link);
   told_a : is_told (g.K.Disk.contents l.disk_a) ≡ is_told (g.K.Disk.contents l.fn.disk_a);
   told_b : is_told (g.K.Disk.contents l.disk_b) ≡ is_told (g.K.Disk.contents l.fn.disk_b);
   later_a : g.K.Disk.disk_faults l.fn.disk_a ≤ g.K.Disk.disk_faults l.disk_a;
