@@ -3,3 +3,4 @@ pub mod Tells
 pub mod ChangeTells
 pub mod ImageTells
 pub mod Joined
+pub mod JournalTells

@@ -1,4 +1,5 @@
 -- Laws of damage.
 pub mod Agrees
 pub mod Fields
+pub mod Journal
 pub mod Laws
