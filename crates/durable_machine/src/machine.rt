@@ -132,7 +132,7 @@ impl DurableMachine {
         ensures fetched { fetches.new ≤ fetches.old + needed_fetches self.old.machine (request_of wire) }
         ensures few { openings.new ≤ openings.old + most_opened_by self.old.machine (request_of wire) }
     {
-        let asked = match ask(alloc, wire) {
+        let asked = match ask(alloc, self.machine.table(), wire) {
             Ok(asked) => asked,
             Err(_) => return Ok(answered_with(Reply::Memory)),
         };

@@ -16,8 +16,8 @@ use doc_values::{Change, ChangeKind};
 use http_wire::{Reply, Wire};
 use request_refusals::Refusal;
 use request_routes::{
-    Found, Pair, Route, check_uid, count_in, fields_in, find_route, read_query, split_target,
-    text_in,
+    Found, Pair, Route, RouteTable, check_uid, count_in, fields_in, find_route, read_query,
+    split_target, text_in,
 };
 use search_base::{Fault, NoMemory, Word};
 use search_call::SearchCall;
@@ -85,11 +85,11 @@ pub(crate) enum Request {
 /// (RFC 8259) and the body's shape, and the first fault is the one that is told. A change has a valid uid, a key that
 /// is not empty, and a patch of settings without fault, with no float, nested no deeper than a JSON text may. Its error
 /// is want of memory.
-pub fn read_call(alloc: Global, wire: &Wire) -> Result<Call, NoMemory>
+pub fn read_call(alloc: Global, table: &RouteTable, wire: &Wire) -> Result<Call, NoMemory>
     ensures call { IfOk result (λ call. IsCall call (call_of (request_of wire.now))) }
     ensures accepted { IfOk result (OnChange IsAccepted) }
 {
-    match ask(alloc, wire) {
+    match ask(alloc, table, wire) {
         Ok(Request::Write(change)) => Ok(Call::Write(change)),
         Ok(Request::Read(call)) => Ok(Call::Read(call)),
         Err(Fault::Refused(refusal)) => Ok(Call::Refused(refusal_reply(alloc, &refusal)?)),
@@ -97,11 +97,11 @@ pub fn read_call(alloc: Global, wire: &Wire) -> Result<Call, NoMemory>
     }
 }
 
-fn ask(alloc: Global, wire: &Wire) -> Result<Request, Fault<Refusal>>
+fn ask(alloc: Global, table: &RouteTable, wire: &Wire) -> Result<Request, Fault<Refusal>>
     ensures { Gives call_data result (call_of (request_of wire.now)) }
 {
     let (path, query) = split_target(wire.target.as_str());
-    let found = find_route(alloc, wire.method.as_str(), path)?;
+    let found = find_route(alloc, table, wire.method.as_str(), path)?;
     check_uid(found.uid)?;
     let pairs = read_query(alloc, found.route, query)?;
     ask_at(alloc, found, &pairs, &wire.body)

@@ -1,12 +1,14 @@
-ghost use Rattle.std.specs.Prelude.{◌≡◌, ◌<◌, List, [], ◌∷◌, codes, length, map};
+ghost use Rattle.std.specs.Prelude.{◌≡◌, [], map, get_or, IfOk, string_bytes};
 ghost use Rattle.search_base.specs.Gives.{Gives, Tells, Checks};
 ghost use Rattle.request_routes.specs.Held.{given_by};
-ghost use Rattle.request_routes.specs.Routes.{path_of, query_of, parts_of as parts_in, agrees, index, route_of, uid_fault};
+ghost use Rattle.request_routes.specs.Patterns.{Names, joined, mark as mark_of, marked_parts, parts_with};
+ghost use Rattle.request_routes.specs.Routes.{path_of, query_of, parts_of as parts_in, route_of, uid_fault};
 
 use crate::parts::parts_of;
+use crate::table::{Path, RouteTable};
 use doc_values::is_uid;
 use request_refusals::Refusal;
-use search_base::Fault;
+use search_base::{Fault, NoMemory};
 use std::alloc::Global;
 
 /// The routes.
@@ -74,13 +76,18 @@ pub fn split_target(target: &str) -> (&str, &str)
 /// (`MethodNotAllowed`). Its one other error is want of memory.
 pub fn find_route<'a>(
     alloc: Global,
+    table: &RouteTable,
     method: &str,
     path: &'a str,
 ) -> Result<Found<'a>, Fault<Refusal>>
     ensures { Gives given_by result (route_of method.now (parts_in path.now)) }
 {
     let parts = parts_of(alloc, path, '/')?;
-    match route_at(method, &parts) {
+    let pattern = pattern_of(alloc, &parts)?;
+    let Some(path) = table.path_with(&pattern) else {
+        return Err(Fault::Refused(Refusal::NoRoute));
+    };
+    match route_at(path, method, part_at(&parts, 2), part_at(&parts, 4)) {
         Ok(found) => Ok(found),
         Err(refusal) => Err(Fault::Refused(refusal)),
     }
@@ -98,98 +105,68 @@ pub fn check_uid(uid: &str) -> Result<(), Fault<Refusal>>
     }
 }
 
-// The route of a path by its parts. A path begins with `/`, so its first part is empty.
-fn route_at<'a>(method: &str, parts: &[&'a str]) -> Result<Found<'a>, Refusal>
-    ensures { Tells given_by result (route_of method.now (map (λ part. part.now) parts.now)) }
+// The part at a place, or the empty text where there is none.
+fn part_at<'a>(parts: &[&'a str], place: usize) -> &'a str
+    ensures { result.now ≡ get_or (map (λ part. part.now) parts.now) place [] }
+{
+    match parts.get(place) {
+        Some(part) => *part,
+        None => "",
+    }
+}
+
+// The pattern of a request's path, whose third part is a uid and whose fifth is an id.
+fn pattern_of(alloc: Global, parts: &[&str]) -> Result<String, NoMemory>
+    ensures { IfOk result (λ pattern. string_bytes pattern ≡ joined (marked_parts (map (λ part. part.now) parts.now))) }
 {
     match *parts {
-        [root, page] if root.is_empty() => top_route(method, page),
-        [root, first, uid] if is_index(root, first, uid) => index_route(method, uid),
-        [root, first, uid, page] if is_index(root, first, uid) => page_route(method, uid, page),
-        [root, first, uid, page, id] if is_index(root, first, uid) => {
-            document_route(method, uid, page, id)
+        [root, first] => Ok(format!(in alloc; "{root}/{first}")?),
+        [root, first, uid] => Ok(format!(in alloc; "{root}/{first}/{}", mark(uid))?),
+        [root, first, uid, page] => Ok(format!(in alloc; "{root}/{first}/{}/{page}", mark(uid))?),
+        [root, first, uid, page, id] => {
+            let (uid, id) = (mark(uid), mark(id));
+            Ok(format!(in alloc; "{root}/{first}/{uid}/{page}/{id}")?)
         }
-        _ => Err(Refusal::NoRoute),
+        _ => Ok(String::new(alloc)),
     }
 }
 
-// `/indexes/{uid}`, or the head of a path below it
-fn is_index(root: &str, first: &str, uid: &str) -> bool
-    ensures { result ≡ agrees index (root.now ∷ first.now ∷ uid.now ∷ []) }
+// What stands in a pattern for a named part. An empty part is no name.
+fn mark(part: &str) -> &str
+    ensures { result.now ≡ mark_of part.now }
 {
-    root.is_empty() && first == "indexes" && !uid.is_empty()
+    if part.is_empty() { "" } else { "_" }
 }
 
-// `/health` and `/indexes`
-fn top_route<'a>(method: &str, page: &str) -> Result<Found<'a>, Refusal>
-    ensures { Tells given_by result (route_of method.now ([] ∷ page.now ∷ [])) }
+// The route of a path with the method; `delete-batch` is no id for `POST`, and one for each other method.
+fn route_at<'a>(path: Path, method: &str, uid: &'a str, id: &'a str) -> Result<Found<'a>, Refusal>
+    requires { Names path uid.now id.now }
+    ensures { Tells given_by result (route_of method.now (parts_with uid.now id.now path)) }
 {
-    let route = match (page, method) {
-        ("health", "GET") => Route::Health,
-        ("indexes", "POST") => Route::CreateIndex,
-        ("indexes", "GET") => Route::ListIndexes,
-        ("health" | "indexes", _) => return Err(Refusal::MethodNotAllowed),
-        _ => return Err(Refusal::NoRoute),
-    };
-    Ok(Found {
-        route,
-        uid: "",
-        id: "",
-    })
-}
-
-// `/indexes/{uid}`
-fn index_route<'a>(method: &str, uid: &'a str) -> Result<Found<'a>, Refusal>
-    requires { 0 < length uid.now }
-    ensures { Tells given_by result (route_of method.now ([] ∷ codes "indexes" ∷ uid.now ∷ [])) }
-{
-    let route = match method {
-        "GET" => Route::ShowIndex,
-        "DELETE" => Route::DropIndex,
-        _ => return Err(Refusal::MethodNotAllowed),
-    };
-    Ok(Found { route, uid, id: "" })
-}
-
-// `/indexes/{uid}/documents`, `/indexes/{uid}/settings` and `/indexes/{uid}/search`
-fn page_route<'a>(method: &str, uid: &'a str, page: &str) -> Result<Found<'a>, Refusal>
-    requires { 0 < length uid.now }
-    ensures { Tells given_by result (route_of method.now ([] ∷ codes "indexes" ∷ uid.now ∷ page.now ∷ [])) }
-{
-    let route = match (page, method) {
-        ("documents", "POST") => Route::AddDocuments,
-        ("documents", "PUT") => Route::UpdateDocuments,
-        ("documents", "GET") => Route::ListDocuments,
-        ("documents", "DELETE") => Route::ClearDocuments,
-        ("settings", "GET") => Route::ShowSettings,
-        ("settings", "PATCH") => Route::PatchSettings,
-        ("settings", "DELETE") => Route::ResetSettings,
-        ("search", "POST") => Route::Search,
-        ("search", "GET") => Route::SearchByQuery,
-        ("documents" | "settings" | "search", _) => return Err(Refusal::MethodNotAllowed),
-        _ => return Err(Refusal::NoRoute),
-    };
-    Ok(Found { route, uid, id: "" })
-}
-
-// `/indexes/{uid}/documents/{id}`; `delete-batch` is no id for `POST`, and one for each other method.
-fn document_route<'a>(
-    method: &str,
-    uid: &'a str,
-    page: &str,
-    id: &'a str,
-) -> Result<Found<'a>, Refusal>
-    requires { 0 < length uid.now }
-    ensures { Tells given_by result
-        (route_of method.now ([] ∷ codes "indexes" ∷ uid.now ∷ page.now ∷ id.now ∷ [])) }
-{
-    if page != "documents" || id.is_empty() {
-        return Err(Refusal::NoRoute);
-    }
-    let (route, id) = match method {
-        "GET" => (Route::ShowDocument, id),
-        "DELETE" => (Route::RemoveDocument, id),
-        "POST" if id == "delete-batch" => (Route::RemoveDocuments, ""),
+    let route = match (path, method) {
+        (Path::Health, "GET") => Route::Health,
+        (Path::Indexes, "POST") => Route::CreateIndex,
+        (Path::Indexes, "GET") => Route::ListIndexes,
+        (Path::Index, "GET") => Route::ShowIndex,
+        (Path::Index, "DELETE") => Route::DropIndex,
+        (Path::Documents, "POST") => Route::AddDocuments,
+        (Path::Documents, "PUT") => Route::UpdateDocuments,
+        (Path::Documents, "GET") => Route::ListDocuments,
+        (Path::Documents, "DELETE") => Route::ClearDocuments,
+        (Path::Document, "GET") => Route::ShowDocument,
+        (Path::Document, "DELETE") => Route::RemoveDocument,
+        (Path::Document, "POST") if id == "delete-batch" => {
+            return Ok(Found {
+                route: Route::RemoveDocuments,
+                uid,
+                id: "",
+            });
+        }
+        (Path::Settings, "GET") => Route::ShowSettings,
+        (Path::Settings, "PATCH") => Route::PatchSettings,
+        (Path::Settings, "DELETE") => Route::ResetSettings,
+        (Path::Search, "POST") => Route::Search,
+        (Path::Search, "GET") => Route::SearchByQuery,
         _ => return Err(Refusal::MethodNotAllowed),
     };
     Ok(Found { route, uid, id })

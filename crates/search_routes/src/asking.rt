@@ -8,6 +8,7 @@ use change_payloads::encode_change;
 use doc_values::Change;
 use http_wire::Wire;
 use request_calls::{Call, read_call};
+use request_routes::RouteTable;
 use search_base::NoMemory;
 use std::alloc::Global;
 
@@ -21,12 +22,12 @@ pub struct Asked {
 /// Reads the call of a request, and the payload of a change. The request is let go, with its body.
 ///
 /// The call is that of `read_call`. A payload of 2^32 bytes or more counts as one for which there is no memory.
-pub fn ask(alloc: Global, wire: Wire) -> Result<Asked, NoMemory>
+pub fn ask(alloc: Global, table: &RouteTable, wire: Wire) -> Result<Asked, NoMemory>
     ensures call { IfOk result (λ asked. IsCall asked.call (call_of (request_of wire))) }
     ensures accepted { IfOk result (λ asked. OnChange IsAccepted asked.call) }
     ensures payload { IfOk result (λ asked. IsPayloadOf asked.call asked.payload) }
 {
-    let call = read_call(alloc, &wire)?;
+    let call = read_call(alloc, table, &wire)?;
     let payload = payload_of(alloc, &call)?;
     Ok(Asked { call, payload })
 }

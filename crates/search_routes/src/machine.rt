@@ -25,17 +25,20 @@ use http_wire::Reply;
 use index_image::{ImageRows, decode, encode};
 use request_calls::ReadCall;
 use request_refusals::Refusal;
+use request_routes::RouteTable;
 use search_base::{Fault, NoMemory, Steps};
 use std::alloc::Global;
 use std::collections::BTreeMap;
 use std::marker::Model;
 
 /// The indexes of a server, each by its uid, and the count of accepted changes: at most 1,000 indexes and
-/// 1,000,000,000 changes.
+/// 1,000,000,000 changes. A machine also has the table in which the paths of its requests are looked up, which is made
+/// once, with the machine.
 #[derive(Drop)]
 pub struct Machine {
     changes: u64,
     indexes: Indexes,
+    table: RouteTable,
 }
 
 impl Model for Machine {
@@ -59,6 +62,7 @@ impl Machine {
         Ok(Machine {
             changes: 0,
             indexes: BTreeMap::new(alloc),
+            table: RouteTable::new(alloc)?,
         })
     }
 
@@ -72,9 +76,14 @@ impl Machine {
         ensures state { IfOk result (λ machine. machine ≡ state_of (image_view rows)) }
         ensures fetched { fetches.new ≤ fetches.old + image_need (image_view rows) }
     {
+        let table = RouteTable::new(alloc)?;
         let ImageRows { changes, indexes } = rows;
         let indexes = indexes_of(alloc, indexes, fetches)?;
-        Ok(Machine { changes, indexes })
+        Ok(Machine {
+            changes,
+            indexes,
+            table,
+        })
     }
 
     /// The machine of an image, or the first byte of the image that is damaged. Reads each document once.
@@ -101,6 +110,11 @@ impl Machine {
         };
         let bytes = encode(alloc, &rows)?;
         Ok(bytes)
+    }
+
+    /// The table in which the paths of requests are looked up. Takes no memory.
+    pub fn table(&self) -> &RouteTable {
+        &self.table
     }
 
     /// How many changes were accepted, from 0 to 1,000,000,000. Takes no memory.

@@ -17,6 +17,7 @@ use bucket_sort::BucketLog;
 use http_wire::{Reply, Wire};
 use request_calls::{Call, read_call, refusal_reply};
 use request_refusals::Refusal;
+use request_routes::RouteTable;
 use search_base::{Fault, NoMemory, Steps};
 use std::alloc::Global;
 
@@ -43,18 +44,18 @@ pub fn answer<F, G>(
     ensures fetched { fetches.new ≤ fetches.old + needed_fetches machine.old (request_of wire) }
     ensures few { openings.new ≤ openings.old + most_opened_by machine.old (request_of wire) }
 {
-    match take_call(alloc, wire) {
+    match take_call(alloc, machine.table(), wire) {
         Ok(call) => perform(alloc, machine, call, log, fetches, openings),
         Err(_) => Reply::Memory,
     }
 }
 
 // The call that a request is. The request is let go.
-fn take_call(alloc: Global, wire: Wire) -> Result<Call, NoMemory>
+fn take_call(alloc: Global, table: &RouteTable, wire: Wire) -> Result<Call, NoMemory>
     ensures call { IfOk result (λ call. IsCall call (call_of (request_of wire))) }
     ensures accepted { IfOk result (λ call. OnChange IsAccepted call) }
 {
-    read_call(alloc, &wire)
+    read_call(alloc, table, &wire)
 }
 
 /// Performs a call, of which a change is one that `read_call` accepts.

@@ -35,7 +35,7 @@ fn reply_body<F, G>(
     ensures fetched { fetches.new ≤ fetches.old + needed_fetches machine.old (request_of wire) }
     ensures few { openings.new ≤ openings.old + most_opened_by machine.old (request_of wire) }
 {
-    let call = read_call(alloc, &wire)?;
+    let call = read_call(alloc, machine.table(), &wire)?;
     drop(wire);
     match perform(alloc, machine, call, log, fetches, openings) {
         Reply::Made { status, body, .. } if status != NO_MEMORY => Ok(body),

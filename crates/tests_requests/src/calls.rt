@@ -2,6 +2,7 @@ use crate::checks::{check, check_text, string, word};
 use http_wire::{Reply, Wire};
 use request_calls::{Call, ReadCall, read_call, refusal_reply};
 use request_refusals::Refusal;
+use request_routes::RouteTable;
 use search_base::Word;
 use std::alloc::Global;
 use std::process::Abort;
@@ -42,7 +43,8 @@ pub(crate) fn call_of(
     body: &str,
 ) -> Call {
     let wire = wire(rt, alloc, method, target, body);
-    read_call(alloc, &wire).expect(rt, "memory")
+    let table = RouteTable::new(alloc).expect(rt, "memory");
+    read_call(alloc, &table, &wire).expect(rt, "memory")
 }
 
 fn reply_text(rt: &impl Abort, alloc: Global, reply: &Reply) -> String {

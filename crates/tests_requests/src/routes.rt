@@ -1,7 +1,7 @@
 use crate::checks::{check, check_text, times};
 use request_routes::{
-    Found, Pair, Route, check_uid, count_in, fields_in, find_route, read_query, split_target,
-    text_in,
+    Found, Pair, Route, RouteTable, check_uid, count_in, fields_in, find_route, read_query,
+    split_target, text_in,
 };
 use search_base::Word;
 use std::alloc::Global;
@@ -26,6 +26,8 @@ POST~/indexes/m/documents/delete-batch~RemoveDocuments `m` `` 0
 GET~/indexes/m/settings~ShowSettings `m` `` 0
 PATCH~/indexes/m/settings~PatchSettings `m` `` 0
 DELETE~/indexes/m/settings~ResetSettings `m` `` 0
+GET~/indexes/_~ShowIndex `_` `` 0
+DELETE~/indexes/_/documents/_~RemoveDocument `_` `_` 0
 POST~/indexes/m/search~Search `m` `` 0
 GET~/indexes/m/search~SearchByQuery `m` `` 0
 GET~/indexes/m/search?limit=x&q&zz=1&q=b~SearchByQuery `m` `` 3"#;
@@ -33,7 +35,8 @@ GET~/indexes/m/search?limit=x&q&zz=1&q=b~SearchByQuery `m` `` 3"#;
 // The route, the uid, the id and the number of pairs that a method and a target come to.
 fn asked(rt: &impl Abort, alloc: Global, method: &str, target: &str) -> String {
     let (path, query) = split_target(target);
-    let Found { route, uid, id } = find_route(alloc, method, path).expect(rt, "a route");
+    let table = RouteTable::new(alloc).expect(rt, "memory");
+    let Found { route, uid, id } = find_route(alloc, &table, method, path).expect(rt, "a route");
     let count = pairs(rt, alloc, route, query).len();
     let text = format!(in alloc; "{route:?} `{uid}` `{id}` {count}");
     text.expect(rt, "memory")
