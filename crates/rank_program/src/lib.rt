@@ -7,6 +7,7 @@
 ghost use Rattle.std.specs.Prelude.{◌≡◌};
 ghost use Rattle.std.specs.Process.{exit_status};
 ghost use Rattle.search_server.specs.Statuses.{number_of};
+ghost use Rattle.search_server.specs.declared.status.Status.{Status};
 
 use bucket_sort::{BucketLog, SilentLog};
 use link_doors::TcpDoor;
@@ -29,7 +30,9 @@ struct OpenedBucket;
 /// input is at its end then, and a write to standard output fails. The status is `DiskFault` where the null device cannot
 /// be opened for that, `BadWords` where a word is no UTF-8 and `NoMemory` where the server itself found no memory to
 /// begin with; nothing was read or written in these cases.
-pub fn run(rt: &HostRuntime) -> ExitCode {
+pub fn run(rt: &HostRuntime) -> ExitCode
+    ensures { (status : Status) × (exit_status result ≡ number_of status) }
+{
     let status = match null_handles(rt) {
         Ok(_handles) => served(rt),
         Err(_) => Status::DiskFault,
