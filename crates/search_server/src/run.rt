@@ -1,6 +1,5 @@
 // What the program does for the words of the command line.
 ghost use Rattle.std.specs.Prelude.{◌≡◌, ◌↔◌, ◌≤◌, ℕ, Some, None, false, IfErr, IfOk};
-ghost use Rattle.change_journal.specs.Fits.{IsSettled};
 ghost use Rattle.change_journal.specs.Shut.{is_told};
 ghost use Rattle.durable_machine.specs.Durable.{IsDurable};
 ghost use Rattle.bucket_sort.specs.Opens.{log_state};
@@ -82,8 +81,6 @@ pub fn run_search_server<P: Link, D: Door, K: Disk, F, G>(
     openings: &mut Steps<G>,
 ) -> Status
     requires none_out { D.is_out door.old ≡ false }
-    requires settled_a { IsSettled (K.contents disk_a.old) }
-    requires settled_b { IsSettled (K.contents disk_b.old) }
     ensures bad_words { (result ≡ Status.BadWords) ↔ (command_of words.now ≡ None) }
     ensures untouched { command_of words.now ≡ None → (pipe.new ≡ pipe.old) × (door.new ≡ door.old)
         × (disk_a.new ≡ disk_a.old) × (disk_b.new ≡ disk_b.old) × (fetches.new ≡ fetches.old)

@@ -1,7 +1,3 @@
-ghost use Rattle.std.specs.Prelude.{◌≡◌, Some, []};
-ghost use Rattle.change_journal.specs.Fits.{IsSettled};
-ghost use Rattle.outside_io.specs.MemoryDisk.{contents_of, new_disk};
-
 use crate::checks::silent;
 use bucket_sort::BucketLog;
 use durable_machine::DurableMachine;
@@ -12,16 +8,12 @@ use std::alloc::Global;
 use std::process::Abort;
 
 /// A disk in memory that holds nothing and never fails.
-pub(crate) fn empty_disk(rt: &impl Abort, alloc: Global) -> MemoryDisk
-    ensures { result ≡ new_disk [] [] }
-{
+pub(crate) fn empty_disk(rt: &impl Abort, alloc: Global) -> MemoryDisk {
     MemoryDisk::new(alloc, Vec::new(alloc), Vec::new(alloc)).expect(rt, "memory")
 }
 
 /// What a crash leaves of a disk that lets so many later writes through.
-pub(crate) fn crashed(rt: &impl Abort, disk: &MemoryDisk, kept: u64) -> MemoryDisk
-    ensures { IsSettled (Some (contents_of result)) }
-{
+pub(crate) fn crashed(rt: &impl Abort, disk: &MemoryDisk, kept: u64) -> MemoryDisk {
     disk.after_crash(kept).expect(rt, "memory")
 }
 
@@ -32,10 +24,7 @@ pub(crate) fn serve_on<P: Link>(
     link: &mut P,
     disk_a: &mut MemoryDisk,
     disk_b: &mut MemoryDisk,
-) -> LinkEnd
-    requires settled_a { IsSettled (Some (contents_of disk_a.old)) }
-    requires settled_b { IsSettled (Some (contents_of disk_b.old)) }
-{
+) -> LinkEnd {
     let mut log: Box<dyn BucketLog> = silent(rt, alloc);
     let mut fetches: Steps<()> = Steps::new();
     let mut openings: Steps<()> = Steps::new();

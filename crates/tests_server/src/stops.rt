@@ -1,7 +1,3 @@
-ghost use Rattle.std.specs.Prelude.{Some};
-ghost use Rattle.change_journal.specs.Fits.{IsSettled};
-ghost use Rattle.outside_io.specs.MemoryDisk.{contents_of};
-
 use crate::checks::{add, bytes, check, check_text, silent, text_of};
 use crate::disks::{crashed, serve_on};
 use bucket_sort::BucketLog;
@@ -69,9 +65,7 @@ fn calls_from(rt: &impl Abort, alloc: Global, from: u64) -> Vec<u64> {
 }
 
 // A disk with these bytes that fails at all calls from one on.
-fn disk(rt: &impl Abort, alloc: Global, content: &str, from: u64) -> MemoryDisk
-    ensures { IsSettled (Some (contents_of result)) }
-{
+fn disk(rt: &impl Abort, alloc: Global, content: &str, from: u64) -> MemoryDisk {
     let content = bytes_of(rt, alloc, content);
     let failing = calls_from(rt, alloc, from);
     MemoryDisk::new(alloc, content, failing).expect(rt, "memory")
@@ -100,10 +94,7 @@ fn run_on(
     pipe: &mut MemoryLink,
     disk_a: &mut MemoryDisk,
     disk_b: &mut MemoryDisk,
-) -> Status
-    requires settled_a { IsSettled (Some (contents_of disk_a.old)) }
-    requires settled_b { IsSettled (Some (contents_of disk_b.old)) }
-{
+) -> Status {
     let word = "pipe".to_string(alloc).expect(rt, "memory");
     let words = Vec::from_array(alloc, [word]).expect(rt, "memory");
     let door = MemoryDoor::new(alloc, Vec::new(alloc), Vec::new(alloc));
@@ -130,10 +121,7 @@ fn run(
     input: &str,
     disk_a: MemoryDisk,
     disk_b: MemoryDisk,
-) -> Outcome
-    requires settled_a { IsSettled (Some (contents_of disk_a)) }
-    requires settled_b { IsSettled (Some (contents_of disk_b)) }
-{
+) -> Outcome {
     let input = bytes(rt, alloc, input.as_bytes());
     let mut pipe = MemoryLink::new(alloc, input, Vec::new(alloc)).expect(rt, "memory");
     let (mut disk_a, mut disk_b) = (disk_a, disk_b);
