@@ -1,4 +1,4 @@
-ghost use Rattle.std.specs.Prelude.{◌≡◌, Some, IfOk};
+ghost use Rattle.std.specs.Prelude.{◌≡◌, ◌<◌, ◌^◌, length, Some};
 ghost use Rattle.outside_io.specs.MemoryDisk.{contents_of};
 ghost use Rattle.change_journal.specs.Fits.{Fits, HasCount};
 
@@ -9,7 +9,6 @@ use index_image::decode;
 use outside_io::{Disk, Failed, MemoryDisk};
 use std::alloc::{AllocError, Global};
 use std::process::Abort;
-use std::test::Fail;
 
 // The image of the empty state, and of one that counts two changes.
 const EMPTY: &[u8] = b"\x01\0\0\0\0\0\0\0\0\0\0\0\0";
@@ -46,7 +45,7 @@ const DAMAGED: &str =
 0052414e4b49445801000000000000000d0000000000000001000000000000000000000000010000000000000000070000000101000000650000,,empty
 0152414e4b49445801000000000000000d000000000000,,empty";
 
-fn bytes_of(alloc: Global, hex: &str) -> Result<Vec<u8>, AllocError> {
+fn bytes_of(rt: &impl Abort, alloc: Global, hex: &str) -> Vec<u8> {
     let mut bytes = Vec::new(alloc);
     let mut high = None;
     for digit in hex.as_bytes() {
@@ -58,16 +57,18 @@ fn bytes_of(alloc: Global, hex: &str) -> Result<Vec<u8>, AllocError> {
             None => high = Some(value),
             Some(sixteens) => {
                 let sixteens: u8 = sixteens;
-                bytes.push(sixteens.wrapping_mul(16).wrapping_add(value))?;
+                bytes
+                    .push(sixteens.wrapping_mul(16).wrapping_add(value))
+                    .expect(rt, "memory");
                 high = None;
             }
         }
     }
-    Ok(bytes)
+    bytes
 }
 
-fn disk_of(alloc: Global, hex: &str) -> Result<MemoryDisk, Fail> {
-    Ok(MemoryDisk::new(alloc, bytes_of(alloc, hex)?, Vec::new(alloc))?)
+fn disk_of(rt: &impl Abort, alloc: Global, hex: &str) -> MemoryDisk {
+    MemoryDisk::new(alloc, bytes_of(rt, alloc, hex), Vec::new(alloc)).expect(rt, "memory")
 }
 
 // The active disk, how many indexes its image has, the count, and the size of each payload with its place.
@@ -105,83 +106,100 @@ fn answer(alloc: Global, a: &mut MemoryDisk, b: &mut MemoryDisk) -> Result<Strin
     }
 }
 
+fn check(rt: &impl Abort, holds: bool, row: &str) {
+    assert!(rt; holds, "{row}");
+}
+
+fn check_answer(
+    rt: &impl Abort,
+    alloc: Global,
+    a: &mut MemoryDisk,
+    b: &mut MemoryDisk,
+    wanted: &str,
+) {
+    let found = answer(alloc, a, b).expect(rt, "memory");
+    assert!(rt; found.as_str() == wanted, "{wanted}: {found}");
+}
+
+fn check_content(rt: &impl Abort, alloc: Global, disk: &MemoryDisk, hex: &str) {
+    check(
+        rt,
+        disk.content() == bytes_of(rt, alloc, hex).as_slice(),
+        hex,
+    );
+}
+
 // Each line of a table has what disk 0 and disk 1 hold, in hexadecimal, and what opening them gives.
-fn check_table(rt: &impl Abort, alloc: Global, table: &str, lines: usize) -> Result<(), Fail> {
+fn check_table(rt: &impl Abort, alloc: Global, table: &str, lines: usize) {
     let mut count = 0usize;
     for line in table.lines() {
         let mut parts = line.split(',');
         let first = parts.next().unwrap_or("");
         let second = parts.next().unwrap_or("");
-        let expected = parts.next().unwrap_or("");
-        let mut a = disk_of(alloc, first)?;
-        let mut b = disk_of(alloc, second)?;
-        let found = answer(alloc, &mut a, &mut b)?;
-        assert_eq!(rt; found.as_str(), expected, "{line}");
+        let mut a = disk_of(rt, alloc, first);
+        let mut b = disk_of(rt, alloc, second);
+        check_answer(rt, alloc, &mut a, &mut b, parts.next().unwrap_or(""));
         count = count.wrapping_add(1);
     }
-    assert_eq!(rt; count, lines);
-    Ok(())
+    check(rt, count == lines, "lines");
 }
 
 // How many changes an image counts.
-fn count_of(alloc: Global, image: &[u8]) -> Result<u64, Fail>
-    ensures { IfOk result (λ count. HasCount image.now count) }
+fn count_of(rt: &impl Abort, alloc: Global, image: &[u8]) -> u64
+    ensures { HasCount image.now result }
 {
-    Ok(decode(alloc, image)?.changes)
+    decode(alloc, image).expect(rt, "an image").changes
 }
 
 // The journal of two disks that are whole.
-fn opened_journal(alloc: Global, a: &mut MemoryDisk, b: &mut MemoryDisk) -> Result<Journal, Fail>
-    ensures { IfOk result (λ journal. Fits journal (Some (contents_of a.new)) (Some (contents_of b.new))) }
+fn opened_journal(rt: &impl Abort, alloc: Global, a: &mut MemoryDisk, b: &mut MemoryDisk) -> Journal
+    ensures { Fits result (Some (contents_of a.new)) (Some (contents_of b.new)) }
 {
-    Ok(open(alloc, a, b)?.journal)
+    open(alloc, a, b).expect(rt, "two disks").journal
 }
 
 #[test]
-fn contents_open_as_the_other_machine_says(rt: HostRuntime) -> Result<(), Fail> {
-    check_table(&rt, rt.alloc(), contents::TABLE, 30)
+fn contents_open_as_the_other_machine_says(rt: HostRuntime) {
+    check_table(&rt, rt.alloc(), contents::TABLE, 30);
 }
 
 #[test]
-fn damage_at_each_field_in_turn(rt: HostRuntime) -> Result<(), Fail> {
-    check_table(&rt, rt.alloc(), DAMAGED, 18)
+fn damage_at_each_field_in_turn(rt: HostRuntime) {
+    check_table(&rt, rt.alloc(), DAMAGED, 18);
 }
 
 // The worked example of the format, byte for byte.
 #[test]
-fn two_empty_disks_and_one_change(rt: HostRuntime) -> Result<(), Fail> {
+fn two_empty_disks_and_one_change(rt: HostRuntime) {
     let alloc = rt.alloc();
-    let mut a = disk_of(alloc, "")?;
-    let mut b = disk_of(alloc, "")?;
-    let mut journal = opened_journal(alloc, &mut a, &mut b)?;
-    assert_eq!(rt; count_of(alloc, EMPTY)?, 0);
-    assert_eq!(rt; journal.count, 0);
-    assert_eq!(rt; journal.generation, 0);
-    assert_eq!(rt; journal.checkpoint(&mut a, &mut b, EMPTY), Ok(()));
-    assert_eq!(rt; a.content(), bytes_of(alloc, FIRST)?.as_slice());
-    assert_eq!(rt; b.content(), b"".as_slice());
-    let entry = record(alloc, 0, b"\x01\x01\0\0\0e\0")?;
-    assert_eq!(rt; journal.append(&mut a, &mut b, entry), Ok(()));
-    assert_eq!(rt; a.content(), bytes_of(alloc, SECOND)?.as_slice());
-    assert_eq!(rt; journal.due(), false);
-    assert_eq!(rt;
-        answer(alloc, &mut a, &mut b)?.as_str(),
-        "disk 0 indexes 0 count 1 50+7"
-    );
-    Ok(())
+    let mut a = disk_of(&rt, alloc, "");
+    let mut b = disk_of(&rt, alloc, "");
+    let mut journal = opened_journal(&rt, alloc, &mut a, &mut b);
+    assert!(rt; count_of(&rt, alloc, EMPTY) == 0);
+    assert!(rt; journal.count == 0);
+    assert!(rt; journal.generation == 0);
+    assert!(rt; journal.checkpoint(&mut a, &mut b, EMPTY).is_ok());
+    check_content(&rt, alloc, &a, FIRST);
+    check_content(&rt, alloc, &b, "");
+    let entry = record(alloc, 0, b"\x01\x01\0\0\0e\0").expect(&rt, "memory");
+    assert!(rt; journal.append(&mut a, &mut b, entry).is_ok());
+    check_content(&rt, alloc, &a, SECOND);
+    check(&rt, !journal.due(), "due");
+    check_answer(&rt, alloc, &mut a, &mut b, "disk 0 indexes 0 count 1 50+7");
 }
 
 #[test]
-fn a_first_read_that_fails(rt: HostRuntime) -> Result<(), Fail> {
+fn a_first_read_that_fails(rt: HostRuntime) {
     let alloc = rt.alloc();
     for call in 0..4 {
-        let content = bytes_of(alloc, FIRST)?;
-        let failing = [call].to_vec(alloc)?;
-        let mut a = MemoryDisk::new(alloc, content, failing)?;
-        let mut b = disk_of(alloc, "")?;
-        assert_eq!(rt; answer(alloc, &mut a, &mut b)?.as_str(), "disk fault");
+        let mut failing = Vec::new(alloc);
+        failing.push(call).expect(&rt, "memory");
+        let mut a = MemoryDisk::new(alloc, bytes_of(&rt, alloc, FIRST), failing).expect(
+            &rt, "memory",
+        );
+        let mut b = disk_of(&rt, alloc, "");
+        check_answer(&rt, alloc, &mut a, &mut b, "disk fault");
     }
-    Ok(())
 }
 
 // What the two disks stand for before and after each step of `three_changes`.
@@ -225,51 +243,54 @@ fn three_changes(
 }
 
 // A disk whose calls fail from this one on.
-fn failing_disk(alloc: Global, hex: &str, from: u64) -> Result<MemoryDisk, Fail> {
+fn failing_disk(rt: &impl Abort, alloc: Global, hex: &str, from: u64) -> MemoryDisk {
     let mut failing = Vec::new(alloc);
     for call in 0..40 {
         if call >= from {
-            failing.push(call)?;
+            failing.push(call).expect(rt, "memory");
         }
     }
-    Ok(MemoryDisk::new(alloc, bytes_of(alloc, hex)?, failing)?)
+    MemoryDisk::new(alloc, bytes_of(rt, alloc, hex), failing).expect(rt, "memory")
 }
 
 // Every crash after `done` steps leaves what they leave, or what the next one leaves too.
-fn check_crashes(
-    rt: &impl Abort,
-    alloc: Global,
-    a: &MemoryDisk,
-    b: &MemoryDisk,
-    done: usize,
-) -> Result<(), Fail> {
+fn check_crashes(rt: &impl Abort, alloc: Global, a: &MemoryDisk, b: &MemoryDisk, done: usize) {
+    let now = STATES.get(done).copied().unwrap_or("");
+    let next = STATES.get(done.saturating_add(1)).copied().unwrap_or("");
     for kept_a in 0..6 {
         for kept_b in 0..6 {
-            let mut c = a.after_crash(kept_a)?;
-            let mut d = b.after_crash(kept_b)?;
-            let found = answer(alloc, &mut c, &mut d)?;
-            let now = STATES.get(done).copied().unwrap_or("");
-            let next = STATES.get(done.saturating_add(1)).copied().unwrap_or("");
-            let stands = found.as_str() == now || found.as_str() == next;
-            assert!(rt; stands, "{done} done, {kept_a} and {kept_b} kept: {found}");
+            let mut c = a.after_crash(kept_a).expect(rt, "memory");
+            let mut d = b.after_crash(kept_b).expect(rt, "memory");
+            let found = answer(alloc, &mut c, &mut d).expect(rt, "memory");
+            check(
+                rt,
+                found.as_str() == now || found.as_str() == next,
+                found.as_str(),
+            );
         }
     }
-    Ok(())
+}
+
+fn entry_of(rt: &impl Abort, alloc: Global, number: u64, payload: &[u8]) -> Record
+    requires { length payload.now < 2 ^ 32 }
+    ensures { result.number ≡ number }
+{
+    record(alloc, number, payload).expect(rt, "memory")
 }
 
 // The three changes on two disks of which one fails from a call on; says how many steps were done.
-fn stopped_run(rt: &impl Abort, alloc: Global, from_a: u64, from_b: u64) -> Result<usize, Fail> {
-    let mut a = failing_disk(alloc, FIRST, from_a)?;
-    let mut b = failing_disk(alloc, "", from_b)?;
-    let entries = (
-        record(alloc, 0, b"one")?,
-        record(alloc, 1, b"")?,
-        record(alloc, 2, b"three")?,
-    );
-    assert_eq!(rt; count_of(alloc, AFTER_TWO)?, 2);
+fn stopped_run(rt: &impl Abort, alloc: Global, from_a: u64, from_b: u64) -> usize {
+    let mut a = failing_disk(rt, alloc, FIRST, from_a);
+    let mut b = failing_disk(rt, alloc, "", from_b);
+    assert!(rt; count_of(rt, alloc, AFTER_TWO) == 2);
     let mut done = 0;
     if let Ok(opened) = open(alloc, &mut a, &mut b) {
         let mut journal = opened.journal;
+        let entries = (
+            entry_of(rt, alloc, 0, b"one"),
+            entry_of(rt, alloc, 1, b""),
+            entry_of(rt, alloc, 2, b"three"),
+        );
         let _stopped = three_changes(
             rt,
             &mut a,
@@ -280,30 +301,51 @@ fn stopped_run(rt: &impl Abort, alloc: Global, from_a: u64, from_b: u64) -> Resu
             &mut done,
         );
     }
-    check_crashes(rt, alloc, &a, &b, done)?;
-    Ok(done)
+    check_crashes(rt, alloc, &a, &b, done);
+    done
 }
 
 // A stop at each call: what was done stands, and a step that was begun is done whole or not at all.
 // Opening makes two calls on each disk and two more on the active one, an addition four, and the
 // checkpoint ten.
 #[test]
-fn every_stop_of_three_changes(rt: HostRuntime) -> Result<(), Fail> {
+fn every_stop_of_three_changes(rt: HostRuntime) {
     let first = [0, 0, 0, 0, 0, 0, 0, 0, 1, 1, 1, 1, 4];
     for (from, done) in first.iter().enumerate() {
-        assert_eq!(rt; stopped_run(&rt, rt.alloc(), from as u64, 40)?, *done);
+        check(
+            &rt,
+            stopped_run(&rt, rt.alloc(), from as u64, 40) == *done,
+            "disk 0",
+        );
     }
     let second = [0, 0, 2, 2, 2, 2, 2, 2, 2, 2, 2, 2, 3, 3, 3, 3, 4];
     for (from, done) in second.iter().enumerate() {
-        assert_eq!(rt; stopped_run(&rt, rt.alloc(), 40, from as u64)?, *done);
+        check(
+            &rt,
+            stopped_run(&rt, rt.alloc(), 40, from as u64) == *done,
+            "disk 1",
+        );
     }
-    Ok(())
+}
+
+// One addition on a first disk that fails from a call on, and what a crash leaves that keeps so many calls.
+fn check_append(rt: &impl Abort, alloc: Global, from: u64, kept: u64, expected: &str) {
+    let mut a = failing_disk(rt, alloc, FIRST, from);
+    let mut b = disk_of(rt, alloc, "");
+    let mut journal = opened_journal(rt, alloc, &mut a, &mut b);
+    assert!(rt; journal.active.is_some());
+    assert!(rt; journal.count == 0);
+    let entry = entry_of(rt, alloc, 0, b"one");
+    let is_ok = journal.append(&mut a, &mut b, entry).is_ok();
+    check(rt, is_ok == (from == 8), expected);
+    let mut c = a.after_crash(kept).expect(rt, "memory");
+    let mut d = b.after_crash(0).expect(rt, "memory");
+    check_answer(rt, alloc, &mut c, &mut d, expected);
 }
 
 // The first sync makes the record last behind a gate that is shut, the second one opens the gate.
 #[test]
-fn a_stop_after_each_sync_of_an_append(rt: HostRuntime) -> Result<(), Fail> {
-    let alloc = rt.alloc();
+fn a_stop_after_each_sync_of_an_append(rt: HostRuntime) {
     let rows = [
         (6, 0, STATES[0]),
         (6, 1, STATES[1]),
@@ -311,17 +353,6 @@ fn a_stop_after_each_sync_of_an_append(rt: HostRuntime) -> Result<(), Fail> {
         (8, 1, STATES[1]),
     ];
     for (from, kept, expected) in &rows {
-        let mut a = failing_disk(alloc, FIRST, *from)?;
-        let mut b = disk_of(alloc, "")?;
-        let mut journal = opened_journal(alloc, &mut a, &mut b)?;
-        assert!(rt; journal.active.is_some());
-        assert_eq!(rt; journal.count, 0);
-        let entry = record(alloc, 0, b"one")?;
-        let outcome = journal.append(&mut a, &mut b, entry);
-        assert_eq!(rt; outcome.is_ok(), *from == 8);
-        let mut c = a.after_crash(*kept)?;
-        let mut d = b.after_crash(0)?;
-        assert_eq!(rt; answer(alloc, &mut c, &mut d)?.as_str(), *expected);
+        check_append(&rt, rt.alloc(), *from, *kept, expected);
     }
-    Ok(())
 }
