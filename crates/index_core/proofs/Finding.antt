@@ -27,6 +27,7 @@ use Rattle.search_call.specs.Windows.{offset_of}
 use Rattle.doc_store.specs.Store.{Row, row_at}
 use Rattle.doc_store.specs.Sound.{IsSound}
 use Rattle.index_changes.specs.Index.{Index}
+use Rattle.index_changes.proofs.ByIds.{IsThere, rows-there}
 use Rattle.index_core.specs.Matching.{Matching, with_costs, match_of, matching, passes, query_in, rows_in, rules_in, uses_in, costs_in, rows_matching as rows_of_matches}
 use Rattle.index_core.specs.Found.{Found, FoundHit, hit_of, asked_of, most_hits, window_end, window_size, counts_of}
 use Rattle.search_settings.specs.Asked.{paths_asked}

@@ -1,5 +1,5 @@
 -- What holds of each search, and what a patch leaves of it.
-use Rattle.std.proofs.Common.{◌≡◌, map, take, drop, Option, None, Some, sym, ap, subst, ◌∙◌}
+use Rattle.std.proofs.Common.{◌≡◌, map, take, drop, Option, None, Some, Ok, sym, ap, subst, ◌∙◌}
 use Rattle.std.specs.List.{flat_map, filter_map}
 use Rattle.std.proofs.lemmas.Bool.{cond-true}
 use Rattle.std.proofs.lemmas.List.{drop-map, take-map}

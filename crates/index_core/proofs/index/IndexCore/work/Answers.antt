@@ -1,5 +1,5 @@
 use Rattle.std.proofs.Common.{◌∙◌, subst, sym}
-use Rattle.std.specs.Prelude.{OnOk}
+use Rattle.std.specs.Prelude.{◌≡◌, OnOk}
 use Rattle.doc_index.specs.Left.{without_named}
 use Rattle.index_changes.specs.Index.{Index}
 use Rattle.index_changes.specs.Keyed.{IsKeyedWork}
@@ -10,8 +10,8 @@ use Rattle.index_core.proofs.index.IndexCore.work.Goals as goal
 pub patch_settings-requires-clause-good : goal.patch_settings-requires-clause-good
 patch_settings-requires-clause-good g c = subst (λ w. IsGood (work_view w)) c.in-Patch.is c.requires.good
 
-pub invariant_of-self-in-Replace : goal.invariant_of-self-in-Replace
-invariant_of-self-in-Replace g c =
+pub invariant_of-self : goal.invariant_of-self
+invariant_of-self g c =
     let comes = subst (λ w. IsKeyedWork c.self.inside.key (work_view w)) c.in-Replace.is (subst (λ (i : Index). IsKeyedWork i.key (work_view c.args.work)) (sym c.self.view_is) c.requires.keyed) in
     let put = c.replace_documents in
     record {
