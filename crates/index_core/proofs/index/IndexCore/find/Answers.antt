@@ -1,4 +1,4 @@
-use Rattle.std.proofs.Common.{Bool, ◌≡◌, ◌+◌, ◌-◌, ◌*◌, ◌≤◌, ◌^◌, ap, ap₂, sym, subst, ◌∙◌, length, map, arith}
+use Rattle.std.proofs.Common.{Bool, ◌≡◌, ◌+◌, ◌-◌, ◌*◌, ◌≤◌, ◌^◌, ap, ap₂, sym, subst, ◌∙◌, length, map, arith, true, false}
 use Rattle.std.specs.Prelude.{min}
 use Rattle.std.specs.Option.{option_map}
 use Rattle.search_base.specs.declared.document.DocId.{DocId}
@@ -34,14 +34,14 @@ asked_paths-requires g c =
     let most = c.self.invariant.rows.sound.paths_within in
     omega (arith, ap length c.paths.ensures)
 
-pub new-documents-requires-clause-sound : goal.new-documents-requires-clause-sound
-new-documents-requires-clause-sound g c = c.self.invariant.rows.sound
+pub new-requires-clause-sound : goal.new-requires-clause-sound
+new-requires-clause-sound g c = c.self.invariant.rows.sound
 
-pub new-documents-requires-clause-ranks : goal.new-documents-requires-clause-ranks
-new-documents-requires-clause-ranks g c = c.requires.below
+pub new-requires-clause-ranks : goal.new-requires-clause-ranks
+new-requires-clause-ranks g c = c.requires.below
 
-pub new-documents-requires-clause-stands : goal.new-documents-requires-clause-stands
-new-documents-requires-clause-stands g c =
+pub new-requires-clause-stands : goal.new-requires-clause-stands
+new-requires-clause-stands g c =
     let index : Index = record { key = c.self.inside.key; store = c.self.inside.store.content; settings = c.self.inside.settings } in
     let is : IsRankingOf c.args.ranking.now index c.args.call.now = subst (λ (i : Index). IsRankingOf c.args.ranking.now i c.args.call.now) (sym c.self.view_is) c.requires in
     subst (λ uses. StandsFor c.self.inside.kept.rows (documents_of index.store.paths uses index.store.rows)) (sym is.uses) c.self.invariant.rows.stands
