@@ -1,7 +1,8 @@
 -- How many documents a change reads at most.
-use Rattle.std.proofs.Common.{◌≡◌, ℕ, ◌+◌, ◌≤◌, List, [], ◌∷◌, length, Bool, true, false, cond, ◌&&◌, ◌||◌, Option, Some, None, is_some, Result, Ok, Err, codes, refl, ap₂, subst, arith}
+use Rattle.std.proofs.Common.{◌≡◌, ℕ, ◌+◌, ◌<◌, ◌≤◌, List, [], ◌∷◌, length, Bool, true, false, cond, ◌&&◌, ◌||◌, Option, Some, None, is_some, Result, Ok, Err, codes, refl, sym, ap₂, subst, arith}
+use Rattle.std.specs.Prelude.{nat_le}
 use Rattle.std.specs.Bool.{beq}
-use Rattle.std.proofs.lemmas.Bool.{lt-leb}
+use Rattle.std.proofs.lemmas.Bool.{cond-false, lt-leb}
 use Rattle.std.proofs.lemmas.Cmp.{nat_eq_equiv}
 use Rattle.std.specs.Cmp.Lexicographic.{pointwise}
 use Rattle.serde_json.specs.Data.{Data}
@@ -112,13 +113,14 @@ pub reset_needs : (before : ℕ) (there : Option Index) → unless_spent before 
 reset_needs before there = at_most before _ _ (reset_of_there there)
 
 with_room : (before need : ℕ) → before < most_changes → unless_spent before need ≡ need
-with_room before need room = rw (lt-leb most_changes before room) refl
+with_room before need room = cond-false (nat_le most_changes before) 0 need (lt-leb most_changes before room)
 
 -- ---- a plan reads no more than its change needs, and none is made past the limit
 
 pub planned_needs : (key : List ℕ) (before : ℕ) (i : Index) (change : KindData) (plan : PlanView) → refused_as (core_refusal key) (planned i change) ≡ Ok plan
     → before < most_changes → needed plan.work i ≤ unless_spent before (documents_need i change)
-planned_needs key before i change plan is room = rw (with_room before (documents_need i change) room) (by (planned i change) is)
+planned_needs key before i change plan is room =
+    subst (λ n. needed plan.work i ≤ n) (sym (with_room before (documents_need i change) room)) (by (planned i change) is)
   where
     by : (r : Result PlanView CoreRefusal) → refused_as (core_refusal key) r ≡ Ok plan → needed plan.work i ≤ plan_need r i
     by (Ok p) is = let same : p ≡ plan = cc in subst (λ v. needed v.work i ≤ needed p.work i) same (omega arith)
