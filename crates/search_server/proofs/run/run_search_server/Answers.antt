@@ -1,8 +1,10 @@
-use Rattle.std.proofs.Common.{◌≡◌, Some, None, inl, inr, refl, subst, sym, ap, ◌∙◌}
+use Rattle.std.proofs.Common.{◌≡◌, ℕ, Some, None, inl, inr, refl, subst, sym, ap, ◌∙◌}
 use Rattle.std.specs.Prelude.{is_some}
 use Rattle.bucket_sort.specs.Opens.{log_state}
 use Rattle.search_server.specs.LinkState.{link_state, shared_state}
 use Rattle.search_server.specs.Links.{ServesDoor, door_state}
+use Rattle.search_server.specs.Demo.{PipeState, ShowsDemo, demo_text}
+use Rattle.search_server.specs.Telling.{GoesOnTelling}
 use Rattle.search_server.specs.Opening.{Unopened, IsUnopened, NotOpened}
 use Rattle.search_server.specs.declared.status.Status.{Status}
 use Rattle.search_server.specs.declared.status.Status.TheVariants.{BadWords}
@@ -14,6 +16,10 @@ use Rattle.search_server.proofs.run.run_search_server.Goals as goal
 -- opening no machine never blames the words
 not_bad : (old new : Unopened) (status : Status) → NotOpened old new status → status ≡ BadWords → ⊥
 not_bad old new status not bad = subst (IsUnopened old new) bad not.why
+
+-- the demo goes on telling what was written
+shown_tells : (count seed : ℕ) (old new : PipeState) (status : Status) → ShowsDemo count seed old new status → GoesOnTelling old.told new.told
+shown_tells count seed old new status is = demo_tells (demo_text count seed) old new status is.printed
 
 pub returns-in-Err-clause-bad_words : goal.returns-in-Err-clause-bad_words
 returns-in-Err-clause-bad_words g c = (
@@ -110,8 +116,8 @@ returns-in-Some-Serve-clause-left_telling g c = ap is_some c.serve_links.ensures
 pub returns-in-Some-Serve-clause-told_telling : goal.returns-in-Some-Serve-clause-told_telling
 returns-in-Some-Serve-clause-told_telling g c = door_tells _ _ _ _ _ c.serve_links.ensures.promise
 
-pub returns-in-Some-Demo-clause-left_telling : goal.returns-in-Some-Demo-clause-left_telling
-returns-in-Some-Demo-clause-left_telling g c = ap is_some c.show_demo.ensures.left
+pub returns-clause-left_telling : goal.returns-clause-left_telling
+returns-clause-left_telling g c = ap is_some c.show_demo.ensures.left
 
-pub returns-in-Some-Demo-clause-told_telling : goal.returns-in-Some-Demo-clause-told_telling
-returns-in-Some-Demo-clause-told_telling g c = demo_tells _ _ _ _ c.show_demo.ensures.promise.printed
+pub returns-clause-told_telling : goal.returns-clause-told_telling
+returns-clause-told_telling g c = shown_tells _ _ _ _ _ c.show_demo.ensures.promise
