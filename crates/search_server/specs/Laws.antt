@@ -1,5 +1,5 @@
--- Which calls go on telling: each call of a link or a disk, by the clauses of its trait, whether it fails or not; and each
--- turn of a link.
+-- Which calls go on telling: each call of a link or a disk, by the clauses of its trait, whether it fails or not; and
+-- each turn of a link.
 use Rattle.std.specs.Prelude.{◌≡◌, ℕ, List, Option, Result, OnOk, OnErr}
 use Rattle.std.specs.Option.{option_map}
 use Rattle.outside_io.specs.Bytes.{Reads, Writes}

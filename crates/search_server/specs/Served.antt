@@ -108,8 +108,9 @@ Served bytes old new n ReadFault = GivenAnswers bytes old new n
 Served bytes old new n WriteFault = CutAnswers bytes old new n
 Served bytes old new n NoMemory = FirstAnswers bytes old new n
 
--- The wire promise. Whether the link tells its bytes or not, it goes on so, and ends with a cause; and where no disk failed, whatever a
--- crash may now leave on the disks holds the state after all requests, each of which had its reply begun.
+-- The wire promise. Whether the link tells its bytes or not, it goes on so, and ends with a cause; and where no disk
+-- failed, whatever a crash may now leave on the disks holds the state after all requests, each of which had its reply
+-- begun.
 pub record Serves (old new : LinkState) (end : LinkEnd) : Type 0 where
   pub promise : (bytes : List ℕ) → old.pending ≡ Some bytes → Served bytes old new end.requests end.status
   pub telling : LinkGoesOnTelling old new
