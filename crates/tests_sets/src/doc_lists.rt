@@ -1,7 +1,5 @@
 use crate::checks::{check, check_ids, set_of};
-use doc_sets::{
-    Bits, DocSet, DocSetBuilder, operations_are_on_members, sets_are_their_members,
-};
+use doc_sets::{Bits, DocSet, DocSetBuilder, operations_are_on_members, sets_are_their_members};
 use search_base::DocId;
 use std::alloc::Global;
 use std::process::Abort;
