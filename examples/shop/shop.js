@@ -1,9 +1,10 @@
 "use strict";
 
 // The page of the example shop. What is wanted stands in one object and in the address of the page; each change of it
-// asks the server anew and shows the reply. A round of requests that a newer one has overtaken is dropped.
+// asks the server anew and shows the reply. A reply to a request that a newer one has overtaken is dropped.
 
-const SEARCH = "/indexes/products/search";
+const INDEX = "products";
+const SEARCHES = "/multi-search";
 const FACETS = [
   { attribute: "categories", title: "Category" },
   { attribute: "brand", title: "Brand" },
@@ -82,8 +83,8 @@ function conditions(except) {
   return joined;
 }
 
-async function ask(members, signal) {
-  const reply = await fetch(SEARCH, { method: "POST", body: JSON.stringify(members), signal }).catch(() => null);
+async function ask(path, members, signal) {
+  const reply = await fetch(path, { method: "POST", body: JSON.stringify(members), signal }).catch(() => null);
   if (!reply) throw new Error("The server cannot be reached.");
   const found = await reply.json().catch(() => null);
   if (!reply.ok || !found) throw new Error(found?.message ?? `The server answered with status ${reply.status}.`);
@@ -91,11 +92,11 @@ async function ask(members, signal) {
 }
 
 /**
- * A page of hits with all counts. The counts of an attribute are those without its own condition, so that a second
- * value can be chosen beside the first; they need a request of their own.
+ * A page of hits with all counts, in one request. The counts of an attribute are those without its own condition, so
+ * that a second value can be chosen beside the first; they need a search of their own.
  */
 async function answers(matchingStrategy, signal) {
-  const common = { q: wanted.words, matchingStrategy };
+  const common = { indexUid: INDEX, q: wanted.words, matchingStrategy };
   const names = FACETS.map(({ attribute }) => attribute);
   const narrowed = names.filter((name) => wanted.values[name].size);
   if (wanted.least || wanted.most) narrowed.push("price");
@@ -104,7 +105,7 @@ async function answers(matchingStrategy, signal) {
     page: wanted.page, hitsPerPage: ON_A_PAGE,
   };
   const counts = narrowed.map((name) => ({ ...common, filter: conditions(name), facets: [name], limit: 0 }));
-  const [found, ...others] = await Promise.all([page, ...counts].map((members) => ask(members, signal)));
+  const { results: [found, ...others] } = await ask(SEARCHES, { queries: [page, ...counts] }, signal);
   for (const other of others) {
     Object.assign(found.facetDistribution, other.facetDistribution);
     Object.assign(found.facetStats, other.facetStats);
