@@ -136,6 +136,11 @@ def first_session():
             "filter": [["price < 100", "colours = oak"], "NOT brand IS NULL"], "sort": ["price:desc"],
             "facets": ["brand", "price"], "page": 1, "hitsPerPage": 2}),
         ask(b"POST", search, {"q": "\"garden chair\" the seat", "matchingStrategy": "all"}),
+        ask(b"POST", b"/multi-search", {"queries": [
+            {"indexUid": "shop", "q": "garden", "facets": ["brand"], "limit": 1},
+            {"indexUid": "shop", "filter": "price < 100", "hitsPerPage": 1}]}),
+        ask(b"POST", b"/multi-search", {"queries": [{"indexUid": "shop", "q": "lamp"}, {"indexUid": "films"}]}),
+        ask(b"POST", shop + b"/facet-search", {"facetName": "brand", "facetQuery": "n", "q": "garden"}),
         ask(b"GET", search + b"?q=gar+den+seat&filter=price+26+TO+49&attributesToRetrieve=id&showCosts=true"),
         ask(b"POST", search, {"filter": "name = lamp"}),
         ask(b"POST", search, {"filter": "price >> 4"}),

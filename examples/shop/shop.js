@@ -1,15 +1,17 @@
 "use strict";
 
 // The page of the example shop. What is wanted stands in one object and in the address of the page; each change of it
-// asks the server anew and shows the reply. A round of requests that a newer one has overtaken is dropped.
+// asks the server anew and shows the reply. A reply to a request that a newer one has overtaken is dropped.
 
-const SEARCH = "/indexes/products/search";
+const INDEX = "products";
+const SEARCHES = "/multi-search";
+const VALUES = `/indexes/${INDEX}/facet-search`;
 const FACETS = [
   { attribute: "categories", title: "Category" },
   { attribute: "brand", title: "Brand" },
   { attribute: "colour", title: "Colour" },
 ];
-const LONG = 12; // values of a facet above which a box over them finds some
+const LONG = 12; // values of a facet above which a box over them asks for those that begin with its text
 const ON_A_PAGE = 24;
 const PAUSE_FOR_WORDS = 120; // milliseconds without a key before a search is sent
 const PAUSE_FOR_PRICES = 400;
@@ -18,6 +20,8 @@ const EUROS = new Intl.NumberFormat("en-IE", { style: "currency", currency: "EUR
 
 const wanted = nothingWanted();
 const shown = Object.fromEntries(FACETS.map(({ attribute }) => [attribute, new Map()]));
+const boxes = Object.fromEntries(FACETS.map(({ attribute }) => [attribute, { round: 0, pause: 0 }]));
+let matching = "all"; // the strategy of the search that is shown
 let round = 0;
 let running = new AbortController();
 let pause;
@@ -82,8 +86,8 @@ function conditions(except) {
   return joined;
 }
 
-async function ask(members, signal) {
-  const reply = await fetch(SEARCH, { method: "POST", body: JSON.stringify(members), signal }).catch(() => null);
+async function ask(path, members, signal) {
+  const reply = await fetch(path, { method: "POST", body: JSON.stringify(members), signal }).catch(() => null);
   if (!reply) throw new Error("The server cannot be reached.");
   const found = await reply.json().catch(() => null);
   if (!reply.ok || !found) throw new Error(found?.message ?? `The server answered with status ${reply.status}.`);
@@ -91,11 +95,11 @@ async function ask(members, signal) {
 }
 
 /**
- * A page of hits with all counts. The counts of an attribute are those without its own condition, so that a second
- * value can be chosen beside the first; they need a request of their own.
+ * A page of hits with all counts, in one request. The counts of an attribute are those without its own condition, so
+ * that a second value can be chosen beside the first; they need a search of their own.
  */
 async function answers(matchingStrategy, signal) {
-  const common = { q: wanted.words, matchingStrategy };
+  const common = { indexUid: INDEX, q: wanted.words, matchingStrategy };
   const names = FACETS.map(({ attribute }) => attribute);
   const narrowed = names.filter((name) => wanted.values[name].size);
   if (wanted.least || wanted.most) narrowed.push("price");
@@ -104,7 +108,7 @@ async function answers(matchingStrategy, signal) {
     page: wanted.page, hitsPerPage: ON_A_PAGE,
   };
   const counts = narrowed.map((name) => ({ ...common, filter: conditions(name), facets: [name], limit: 0 }));
-  const [found, ...others] = await Promise.all([page, ...counts].map((members) => ask(members, signal)));
+  const { results: [found, ...others] } = await ask(SEARCHES, { queries: [page, ...counts] }, signal);
   for (const other of others) {
     Object.assign(found.facetDistribution, other.facetDistribution);
     Object.assign(found.facetStats, other.facetStats);
@@ -119,6 +123,29 @@ async function bestAnswers(signal) {
   return { ...await answers("last", signal), dropped: true };
 }
 
+/** The values of a facet that begin with the text of its box, with their counts; null where the box is empty. */
+async function valuesWithin(attribute) {
+  const facetQuery = part(`within-${attribute}`).value.trimStart();
+  if (!facetQuery) return null;
+  const members = { q: wanted.words, matchingStrategy: matching, filter: conditions(attribute) };
+  return (await ask(VALUES, { facetName: attribute, facetQuery, ...members })).facetHits;
+}
+
+async function searchWithin(attribute) {
+  const box = boxes[attribute];
+  clearTimeout(box.pause);
+  const mine = ++box.round;
+  const list = part(`facet-${attribute}`);
+  list.setAttribute("aria-busy", "true");
+  try {
+    const hits = await valuesWithin(attribute);
+    if (mine === box.round) showWithin(attribute, hits);
+  } catch (error) {
+    if (mine === box.round) showFailure(error);
+  }
+  if (mine === box.round) list.setAttribute("aria-busy", "false");
+}
+
 async function search() {
   clearTimeout(pause);
   const mine = ++round;
@@ -128,7 +155,10 @@ async function search() {
   writeAddress();
   try {
     const found = await bestAnswers(running.signal);
-    if (mine === round) show(found);
+    if (mine === round) {
+      show(found);
+      await Promise.all(FACETS.map(({ attribute }) => searchWithin(attribute)));
+    }
   } catch (error) {
     if (mine === round) showFailure(error);
   }
@@ -203,22 +233,25 @@ function card(hit, asked) {
 
 function showFacets() {
   for (const { attribute, title } of FACETS) {
-    const label = `Find in ${title.toLowerCase()}`;
+    const label = `Find a ${title.toLowerCase()}`;
     const box = make("input", { type: "search", class: "within", id: `within-${attribute}`, "aria-label": label,
       placeholder: label, autocomplete: "off" });
-    box.addEventListener("input", () => showWithin(attribute));
+    box.addEventListener("input", () => {
+      clearTimeout(boxes[attribute].pause);
+      boxes[attribute].pause = setTimeout(searchWithin, PAUSE_FOR_WORDS, attribute);
+    });
     const list = make("div", { class: "choices", id: `facet-${attribute}` });
     part("facets").append(make("fieldset", {}, make("legend", {}, title), box, list));
   }
 }
 
-/** Of a long facet only the values with the text of its box, and those that are chosen. */
-function showWithin(attribute) {
-  const box = part(`within-${attribute}`);
-  box.hidden = shown[attribute].size <= LONG;
-  const asked = plain(box.value.trim());
+/** Of a long facet only the values that its box found, where it has a text, and those that are chosen. */
+function showWithin(attribute, hits) {
+  for (const { value, count } of hits ?? []) showCount(attribute, value, count);
+  const found = hits && new Set(hits.map(({ value }) => value));
+  part(`within-${attribute}`).hidden = shown[attribute].size <= LONG;
   for (const [value, { label }] of shown[attribute]) {
-    label.hidden = !plain(value).includes(asked) && !wanted.values[attribute].has(value);
+    label.hidden = found !== null && !found.has(value) && !wanted.values[attribute].has(value);
   }
 }
 
@@ -236,16 +269,18 @@ function choice(attribute, value) {
   return lines.get(value);
 }
 
+function showCount(attribute, value, number) {
+  const { label, box, count } = choice(attribute, value);
+  box.checked = wanted.values[attribute].has(value);
+  count.textContent = number;
+  label.classList.toggle("none", !number);
+}
+
 function showCounts(distribution) {
   for (const { attribute } of FACETS) {
     const counts = distribution[attribute] ?? {};
-    for (const value of [...Object.keys(counts), ...wanted.values[attribute]]) choice(attribute, value);
-    for (const [value, { label, box, count }] of shown[attribute]) {
-      box.checked = wanted.values[attribute].has(value);
-      count.textContent = counts[value] ?? 0;
-      label.classList.toggle("none", !counts[value]);
-    }
-    showWithin(attribute);
+    const values = [...Object.keys(counts), ...wanted.values[attribute], ...shown[attribute].keys()];
+    for (const value of new Set(values)) showCount(attribute, value, counts[value] ?? 0);
   }
 }
 
@@ -305,6 +340,7 @@ function showPages(page, pages) {
 
 function show(found) {
   const asked = askedWords();
+  matching = found.dropped ? "last" : "all";
   const total = found.totalHits;
   part("failed").hidden = true;
   part("empty").hidden = total > 0;
