@@ -19,6 +19,7 @@ mod index;
 mod laws;
 mod ranking;
 mod read;
+mod values;
 
 pub use call::{Hit, Listing, SearchResult};
 pub use index::IndexCore;
