@@ -386,14 +386,14 @@ impl IndexCore {
         Ok(Some(Hit { document, costs }))
     }
 
-    /// The values of an attribute that documents have which match a search, each with the spelling of its first leaf and
-    /// the number of these documents that have it, in the order of their bytes. Where the call has a query, they are
+    /// The values of an attribute that documents have which match a search, in the order of their bytes: of each the
+    /// spelling of its first leaf and the number of these documents that have it. Where the call has a query, they are
     /// those whose normal form begins as the normal form of the query. Of them the first are given, as many as the
-    /// settings let a search tell of an attribute; an attribute without a path in the registry has none.
+    /// settings let a search tell of an attribute. An attribute that is no path of the registry has none.
     ///
-    /// Refused is a call that filters by an attribute that may not be filtered by (`NotFilterable`, which names the first
-    /// such), and then one whose own attribute may not be filtered by (`NotFacet`). Reads no document, and opens no
-    /// bucket.
+    /// Refused is a call that filters by an attribute that may not be filtered by (`NotFilterable`, which names the
+    /// first such), and then one whose own attribute may not be filtered by (`NotFacet`). Reads no document, and opens
+    /// no bucket.
     pub fn facet_search(
         &self,
         alloc: Global,

@@ -1,5 +1,3 @@
-ghost use Rattle.std.specs.Prelude.{◌≡◌};
-
 use crate::checks::{check_text, word};
 use crate::index::{FILMS, change, filled};
 use doc_values::ChangeKind;
@@ -15,8 +13,8 @@ use std::process::Abort;
 const SETTINGS: &str =
     r#"{"filterableAttributes":["genres","year","studio"],"faceting":{"maxValuesPerFacet":3}}"#;
 
-// The attribute, the text as which values begin, the text that is searched for, the year after which films came out, and
-// the values that are found, each as its spelling and the number of films.
+// The attribute, the text as which values begin, the text that is searched for, the year after which films came out,
+// and the values that are found, each as its spelling and the number of films.
 const VALUES: [(&str, Option<&str>, &str, i128, &str); 10] = [
     ("genres", None, "", 0, "Action 2, Drama 2, "),
     ("genres", Some("DR"), "", 0, "Drama 2, "),
