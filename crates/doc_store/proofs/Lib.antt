@@ -1,4 +1,5 @@
 pub mod NameLemmas
+pub mod ShelfLemmas
 pub mod RowLemmas
 pub mod SlotLemmas
 pub mod SpentLemmas

@@ -20,6 +20,7 @@ mod places;
 mod registry;
 mod restore;
 mod rows;
+mod shelf;
 mod slots;
 mod store;
 mod walked;
