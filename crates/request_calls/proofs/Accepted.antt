@@ -21,7 +21,7 @@ use Rattle.http_wire.specs.Stream.{Request}
 use Rattle.request_refusals.specs.declared.refusal.Refusal.{Refusal}
 use Rattle.request_refusals.specs.declared.refusal.Refusal.TheVariants.{NotJson, MissingUid}
 use Rattle.request_routes.specs.declared.routes.Route.{Route}
-use Rattle.request_routes.specs.declared.routes.Route.TheVariants.{Health, CreateIndex, ListIndexes, ShowIndex, DropIndex, AddDocuments, UpdateDocuments, ListDocuments, ClearDocuments, ShowDocument, RemoveDocument, RemoveDocuments, ShowSettings, PatchSettings, ResetSettings, Search, SearchByQuery}
+use Rattle.request_routes.specs.declared.routes.Route.TheVariants.{Health, CreateIndex, ListIndexes, ShowIndex, DropIndex, AddDocuments, UpdateDocuments, ListDocuments, ClearDocuments, ShowDocument, RemoveDocument, RemoveDocuments, ShowSettings, PatchSettings, ResetSettings, Search, SearchByQuery, MultiSearch, FacetSearch}
 use Rattle.request_routes.specs.Query.{Pair, first_unknown, last_pairs, pairs_of, query_for}
 use Rattle.request_routes.specs.Routes.{Found, path_of, query_of, parts_of, route_of, uid_fault}
 use Rattle.request_routes.proofs.Keys.{given_key}
@@ -29,6 +29,8 @@ use Rattle.request_routes.proofs.Named.{names_index, IsNamed, found_named}
 use Rattle.request_calls.specs.Asked.{CallData, write, read as reads}
 use Rattle.request_calls.specs.Bodies.{json_in, as_text, text_or_none, text_at, is_key_or_null, is_uid_text, index_member_fault, index_members_fault, index_from_members, index_in, members_of, settings_refusal, patch_from, patch_in, documents_in, ids_in}
 use Rattle.request_calls.specs.Searches.{search_of, search_by}
+use Rattle.request_calls.specs.Multi.{multi_of}
+use Rattle.request_calls.specs.FacetSearches.{facets_of}
 use Rattle.request_calls.specs.Calls.{call_at, call_of, IsKey, IsPatch, IsAccepted}
 
 -- ---- steps that may be refused
@@ -161,6 +163,8 @@ accepted_at PatchSettings uid id query body u q = bound IsPatch IsAcceptedCall (
 accepted_at ResetSettings uid id query body u q = record { uid = u refl; kind = tt }
 accepted_at Search uid id query body u q = bound (λ _. Unit {0}) IsAcceptedCall (search_of body) _ (whatever (search_of body)) (λ call is. tt)
 accepted_at SearchByQuery uid id query body u q = bound (λ _. Unit {0}) IsAcceptedCall (search_by query) _ (whatever (search_by query)) (λ call is. tt)
+accepted_at MultiSearch uid id query body u q = bound (λ _. Unit {0}) IsAcceptedCall (multi_of body) _ (whatever (multi_of body)) (λ calls is. tt)
+accepted_at FacetSearch uid id query body u q = bound (λ _. Unit {0}) IsAcceptedCall (facets_of body) _ (whatever (facets_of body)) (λ call is. tt)
 
 known : (route : Route) (query : List ℕ) → IfOk (query_for route query) (λ pairs. first_unknown route pairs ≡ None)
 known route query = checked (λ pairs. first_unknown route pairs ≡ None) (first_unknown route (last_pairs (pairs_of query))) _ (λ right. right)

@@ -1,12 +1,18 @@
 -- What a request asks for, as contracts see it: each vector is a list.
 use Rattle.std.specs.Prelude.{ℕ, List}
-use Rattle.search_call.specs.SearchView.{SearchView}
+use Rattle.search_call.specs.SearchView.{SearchView, FacetCallView}
 use Rattle.doc_values.specs.Changes.{ChangeData}
 use Rattle.request_calls.specs.declared.call.ReadCall.{ReadCall}
 use Rattle.request_calls.specs.declared.call.ReadCall.TheVariants as called
 
+-- a search, and the uid of the index that is searched
+pub record MultiData : Type 0 where
+  pub uid : List ℕ
+  pub call : SearchView
+
 -- what is read: the health, the indexes from a place on, an index, its documents from a place on, one of its documents
--- (each with the names of the members that are shown), its settings, and the hits of a search
+-- (each with the names of the members that are shown), its settings, the hits of a search, those of several
+-- searches, and the values of a facet
 pub data ReadData : Type 0 where
   health : ReadData
   indexes : ℕ → ℕ → ReadData
@@ -15,6 +21,8 @@ pub data ReadData : Type 0 where
   document : List ℕ → List ℕ → List (List ℕ) → ReadData
   settings : List ℕ → ReadData
   search : List ℕ → SearchView → ReadData
+  multi : List MultiData → ReadData
+  facets : List ℕ → FacetCallView → ReadData
 
 abbrev pub read_view : ReadCall → ReadData
 read_view called.Health = health
@@ -24,6 +32,8 @@ read_view (called.Documents uid offset limit fields) = documents uid offset limi
 read_view (called.Document uid id fields) = document uid id fields.items
 read_view (called.Settings uid) = settings uid
 read_view (called.Search uid call) = search uid call
+read_view (called.Multi calls) = multi calls.items
+read_view (called.Facets uid call) = facets uid call
 
 -- a change, or a read
 pub data CallData : Type 0 where

@@ -12,13 +12,15 @@ use Rattle.request_refusals.specs.declared.refusal.Refusal.{Refusal}
 use Rattle.search_base.specs.Trying.{◌>>=◌, ◌>>◌}
 use Rattle.request_calls.specs.Refusals.{refused}
 use Rattle.request_routes.specs.declared.routes.Route.{Route}
-use Rattle.request_routes.specs.declared.routes.Route.TheVariants.{Health, CreateIndex, ListIndexes, ShowIndex, DropIndex, AddDocuments, UpdateDocuments, ListDocuments, ClearDocuments, ShowDocument, RemoveDocument, RemoveDocuments, ShowSettings, PatchSettings, ResetSettings, Search, SearchByQuery}
+use Rattle.request_routes.specs.declared.routes.Route.TheVariants.{Health, CreateIndex, ListIndexes, ShowIndex, DropIndex, AddDocuments, UpdateDocuments, ListDocuments, ClearDocuments, ShowDocument, RemoveDocument, RemoveDocuments, ShowSettings, PatchSettings, ResetSettings, Search, SearchByQuery, MultiSearch, FacetSearch}
 use Rattle.request_routes.specs.Routes.{path_of, query_of, parts_of, route_of, uid_fault}
 use Rattle.request_routes.specs.Query.{Pair, query_for, value_of, count_in, fields_in}
 use Rattle.request_calls.specs.declared.call.Call.{Call}
 use Rattle.request_calls.specs.declared.call.Call.TheVariants as call
 use Rattle.request_calls.specs.Bodies.{index_in, documents_in, ids_in, patch_in}
 use Rattle.request_calls.specs.Searches.{search_of, search_by}
+use Rattle.request_calls.specs.Multi.{multi_of}
+use Rattle.request_calls.specs.FacetSearches.{facets_of}
 use Rattle.request_calls.specs.Asked.{CallData, write, read, read_view}
 use Rattle.request_calls.specs.Asked as asked
 
@@ -58,6 +60,12 @@ call_at Search uid id query body = do
 call_at SearchByQuery uid id query body = do
   search ← search_by query
   Ok (read (asked.search uid search))
+call_at MultiSearch uid id query body = do
+  calls ← multi_of body
+  Ok (read (asked.multi calls))
+call_at FacetSearch uid id query body = do
+  call ← facets_of body
+  Ok (read (asked.facets uid call))
 
 -- the path and the method, the uid, the query string, and the body
 abbrev pub call_of : Request → Result CallData Refusal

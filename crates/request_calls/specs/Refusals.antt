@@ -4,7 +4,7 @@ use Rattle.serde_json.specs.Data.{Data, string, object, member, no_members}
 use Rattle.serde_json.specs.Written.{compact_text}
 use Rattle.http_wire.specs.Reply.{Answer}
 use Rattle.request_refusals.specs.declared.refusal.Refusal.{Refusal}
-use Rattle.request_refusals.specs.declared.refusal.Refusal.TheVariants.{NoRoute, MethodNotAllowed, InvalidUid, Unknown, NotBuilt, InvalidSearch, NotJson, NotList, NotObject, NumberNotWhole, BadListedId, MissingUid, BadSettings, BadRankingRule, NoIndex, IndexExists, NoDocument, KeyDiffers, NoCandidate, SeveralCandidates, MissingId, BadId, ChangesSpent, IndexesSpent, IdsSpent, PathsSpent, FilterSyntax, FilterTooDeep, FilterNotANumber, NoSortRule, NotSortable, NotFilterable, NotFacet}
+use Rattle.request_refusals.specs.declared.refusal.Refusal.TheVariants.{NoRoute, MethodNotAllowed, InvalidUid, Unknown, NotBuilt, InvalidSearch, NotJson, NotList, NotObject, NumberNotWhole, BadListedId, MissingUid, BadSettings, BadRankingRule, BadQueries, MissingQueryUid, MissingFacetName, InvalidFacetName, InvalidFacetQuery, NoIndex, IndexExists, NoDocument, KeyDiffers, NoCandidate, SeveralCandidates, MissingId, BadId, ChangesSpent, IndexesSpent, IdsSpent, PathsSpent, FilterSyntax, FilterTooDeep, FilterNotANumber, NoSortRule, NotSortable, NotFilterable, NotFacet}
 use Rattle.request_refusals.specs.Members.{row_of}
 
 pub record Told : Type 0 where
@@ -42,6 +42,13 @@ told_of MissingUid = told 400 (codes "missing_index_uid") (codes "The uid is mis
 told_of (BadSettings name) = told 400 (codes "invalid_settings") (codes "Invalid `" ++ name ++ codes "`.")
 told_of (BadRankingRule text) =
     told 400 (codes "invalid_settings_ranking_rules") (codes "Invalid ranking rule `" ++ text ++ codes "`.")
+told_of BadQueries = told 400 (codes "bad_request") (codes "Malformed `queries`.")
+told_of (MissingQueryUid k) =
+    told 400 (codes "missing_index_uid") (codes "Query " ++ decimal k ++ codes " has no index uid.")
+told_of MissingFacetName =
+    told 400 (codes "missing_facet_search_facet_name") (codes "The facet name is missing.")
+told_of InvalidFacetName = told 400 (codes "invalid_facet_search_facet_name") (codes "Invalid `facetName`.")
+told_of InvalidFacetQuery = told 400 (codes "invalid_facet_search_facet_query") (codes "Invalid `facetQuery`.")
 told_of (NoIndex uid) = told 404 (codes "index_not_found") (codes "No index `" ++ uid ++ codes "`.")
 told_of (IndexExists uid) = told 409 (codes "index_already_exists") (codes "Index `" ++ uid ++ codes "` exists.")
 told_of (NoDocument id) = told 404 (codes "document_not_found") (codes "No document `" ++ id ++ codes "`.")

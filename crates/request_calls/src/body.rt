@@ -118,8 +118,8 @@ fn index_call(alloc: Global, value: &Value) -> Result<NewIndex, Fault<Refusal>>
     }
 }
 
-// The text that a member is, where it is there and is one.
-fn text_at(alloc: Global, value: &Value, name: &str) -> Result<Option<Word>, NoMemory>
+/// The text that a member is, where it is there and is one.
+pub(crate) fn text_at(alloc: Global, value: &Value, name: &str) -> Result<Option<Word>, NoMemory>
     ensures { IfOk result (λ word. word ≡ text_or_none (get name.now (view value.now))) }
 {
     match value.get(name).and_then(Value::as_str) {

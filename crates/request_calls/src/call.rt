@@ -3,12 +3,14 @@ ghost use Rattle.doc_values.specs.Changes.{kind_view};
 ghost use Rattle.http_wire.specs.Wire.{request_of};
 ghost use Rattle.search_base.specs.Gives.{Gives};
 ghost use Rattle.request_routes.specs.Held.{pair_of};
-ghost use Rattle.request_routes.specs.declared.routes.Route.TheVariants.{CreateIndex, ListIndexes, AddDocuments, UpdateDocuments, ListDocuments, ShowDocument, RemoveDocument, RemoveDocuments, PatchSettings, Search, SearchByQuery};
+ghost use Rattle.request_routes.specs.declared.routes.Route.TheVariants.{CreateIndex, ListIndexes, AddDocuments, UpdateDocuments, ListDocuments, ShowDocument, RemoveDocument, RemoveDocuments, PatchSettings, Search, SearchByQuery, MultiSearch, FacetSearch};
 ghost use Rattle.request_calls.specs.Asked.{write};
 ghost use Rattle.request_calls.specs.Calls.{call_of, call_at, IsCall, IsAccepted, OnChange};
 ghost use Rattle.request_calls.specs.Held.{call_data};
 
 use crate::body::{NewIndex, read_documents, read_ids, read_index};
+use crate::facets::read_facets;
+use crate::multi::{MultiCall, read_multi};
 use crate::reply::refusal_reply;
 use crate::search::{read_search, search_by_pairs};
 use crate::settings::read_patch;
@@ -20,7 +22,7 @@ use request_routes::{
     split_target, text_in,
 };
 use search_base::{Fault, NoMemory, Word};
-use search_call::SearchCall;
+use search_call::{FacetCall, SearchCall};
 use std::alloc::Global;
 
 /// A request that changes nothing. Contracts see it through `read_view`.
@@ -59,6 +61,15 @@ pub enum ReadCall {
     Search {
         uid: Word,
         call: SearchCall,
+    },
+    /// Several searches, at most 100, one after the other.
+    Multi {
+        calls: Vec<MultiCall>,
+    },
+    /// A search of the values of a facet of the index named `uid`.
+    Facets {
+        uid: Word,
+        call: FacetCall,
     },
 }
 
@@ -140,6 +151,8 @@ fn ask_at(
         Route::ResetSettings => changed(alloc, uid, ChangeKind::Reset),
         Route::Search => search(alloc, uid, body),
         Route::SearchByQuery => search_by_query(alloc, uid, pairs),
+        Route::MultiSearch => multi_search(alloc, body),
+        Route::FacetSearch => facet_search(alloc, uid, body),
     }
 }
 
@@ -260,6 +273,23 @@ fn search_by_query(alloc: Global, uid: &str, pairs: &[Pair]) -> Result<Request, 
 {
     let call = search_by_pairs(alloc, pairs)?;
     Ok(Request::Read(ReadCall::Search {
+        uid: Word::new(alloc, uid)?,
+        call,
+    }))
+}
+
+fn multi_search(alloc: Global, body: &[u8]) -> Result<Request, Fault<Refusal>>
+    ensures { Gives call_data result (call_at MultiSearch [] [] [] body.now) }
+{
+    let calls = read_multi(alloc, body)?;
+    Ok(Request::Read(ReadCall::Multi { calls }))
+}
+
+fn facet_search(alloc: Global, uid: &str, body: &[u8]) -> Result<Request, Fault<Refusal>>
+    ensures { Gives call_data result (call_at FacetSearch uid.now [] [] body.now) }
+{
+    let call = read_facets(alloc, body)?;
+    Ok(Request::Read(ReadCall::Facets {
         uid: Word::new(alloc, uid)?,
         call,
     }))

@@ -11,12 +11,15 @@
 
 mod body;
 mod call;
+mod facets;
 mod members;
+mod multi;
 mod reply;
 mod search;
 mod settings;
 mod values;
 
 pub use call::{Call, ReadCall, read_call};
+pub use multi::MultiCall;
 pub use reply::refusal_reply;
 pub use settings::settings_fault;

@@ -32,7 +32,7 @@ fn code_of(refusal: &Refusal) -> &'static str
         Refusal::NoRoute => "not_found",
         Refusal::MethodNotAllowed => "method_not_allowed",
         Refusal::InvalidUid => "invalid_index_uid",
-        Refusal::Unknown { .. } => "bad_request",
+        Refusal::Unknown { .. } | Refusal::BadQueries => "bad_request",
         Refusal::NotBuilt { .. } => "not_built",
         Refusal::InvalidSearch { member } => member.row().code,
         Refusal::FilterSyntax { .. }
@@ -44,9 +44,12 @@ fn code_of(refusal: &Refusal) -> &'static str
         Refusal::NotJson | Refusal::NotList | Refusal::NotObject { .. } => "malformed_payload",
         Refusal::NumberNotWhole { .. } => "number_not_whole",
         Refusal::BadListedId { .. } | Refusal::BadId { .. } => "invalid_document_id",
-        Refusal::MissingUid => "missing_index_uid",
+        Refusal::MissingUid | Refusal::MissingQueryUid { .. } => "missing_index_uid",
         Refusal::BadSettings { .. } => "invalid_settings",
         Refusal::BadRankingRule { .. } => "invalid_settings_ranking_rules",
+        Refusal::MissingFacetName => "missing_facet_search_facet_name",
+        Refusal::InvalidFacetName => "invalid_facet_search_facet_name",
+        Refusal::InvalidFacetQuery => "invalid_facet_search_facet_query",
         Refusal::NoIndex { .. } => "index_not_found",
         Refusal::IndexExists { .. } => "index_already_exists",
         Refusal::NoDocument { .. } => "document_not_found",
@@ -135,6 +138,11 @@ fn message_of(alloc: Global, refusal: &Refusal) -> Result<String, AllocError>
             "Invalid ranking rule `{text}`.",
             text = text.as_str()
         ),
+        Refusal::BadQueries => String::from_str(alloc, "Malformed `queries`."),
+        Refusal::MissingQueryUid { query } => format!(in alloc; "Query {query} has no index uid."),
+        Refusal::MissingFacetName => String::from_str(alloc, "The facet name is missing."),
+        Refusal::InvalidFacetName => String::from_str(alloc, "Invalid `facetName`."),
+        Refusal::InvalidFacetQuery => String::from_str(alloc, "Invalid `facetQuery`."),
         Refusal::IndexExists { uid } => format!(in alloc;
             "Index `{uid}` exists.",
             uid = uid.as_str()

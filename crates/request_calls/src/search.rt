@@ -80,8 +80,12 @@ fn put(
     Ok(())
 }
 
-// The search that the members of an object ask for, with its filter. Each has its default until it is given.
-fn search_in(alloc: Global, filter: Filter, object: &Value) -> Result<SearchCall, NoMemory>
+/// The search that the members of an object ask for, with its filter. Each has its default until it is given.
+pub(crate) fn search_in(
+    alloc: Global,
+    filter: Filter,
+    object: &Value,
+) -> Result<SearchCall, NoMemory>
     ensures { IfOk result (λ call. call ≡ search_with (tree_of filter) (view object.now)) }
 {
     Ok(SearchCall {

@@ -40,6 +40,16 @@ pub enum Refusal {
     BadSettings { name: Word },
     /// This text of a patch's ranking rules names no rule.
     BadRankingRule { text: Word },
+    /// The body of several searches has no list `queries`, or the list has more than 100 members, or one is no object.
+    BadQueries,
+    /// This query of several searches, from 1, has no `indexUid`.
+    MissingQueryUid { query: u64 },
+    /// The body of a search of a facet's values has no `facetName`.
+    MissingFacetName,
+    /// The facet's name is no text, or the settings do not let a search filter by it.
+    InvalidFacetName,
+    /// The text that the facet's values are to begin with is neither a text nor null.
+    InvalidFacetQuery,
     /// The machine has no index of this uid.
     NoIndex { uid: Word },
     /// The machine has an index of this uid, and one is to be made.

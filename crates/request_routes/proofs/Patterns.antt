@@ -1,21 +1,21 @@
--- What the pattern of a request's path says of its parts: the path of the table that has this pattern, or that no route has such a path.
-use Rattle.std.proofs.Common.{◌≡◌, ◌≢◌, ℕ, ◌<◌, inl, inr, Bool, true, false, ◌&&◌, cond, List, [], ◌∷◌, ◌++◌, length, map, get_or, Option, Some, None, option_map, Err, codes, refl, sym, ap, ◌∙◌, subst, arith}
-use Rattle.std.specs.Prelude.{find, nat_lt}
+-- What the pattern of a request's path says of its parts: the path of the table that has this pattern.
+use Rattle.std.proofs.Common.{◌≡◌, ◌≢◌, ℕ, ◌<◌, inl, inr, Bool, true, false, cond, List, [], ◌∷◌, ◌++◌, length, map, get_or, Option, Some, None, option_map, Err, codes, refl, sym, ap, ◌∙◌, subst, arith}
+use Rattle.std.specs.Prelude.{find}
 use Rattle.std.specs.Str.{bytes_eq}
 use Rattle.std.proofs.lemmas.Slice.Eq.{bytes_eq-Decides}
-use Rattle.std.proofs.lemmas.Bool.{true≢false, cases_eq, lt-ltb}
+use Rattle.std.proofs.lemmas.Bool.{true≢false, cases_eq}
 use Rattle.form_urlencoded.specs.Form.{split, onto_first}
 use Rattle.matchit.specs.Rows.{RowsOf}
 use Rattle.matchit.specs.Order.{lookup}
 use Rattle.matchit.specs.Router.{RouteOf}
 use Rattle.request_routes.specs.declared.table.Path.{Path}
-use Rattle.request_routes.specs.declared.table.Path.TheVariants.{Health, Indexes, Index, Documents, Document, Settings, Search}
+use Rattle.request_routes.specs.declared.table.Path.TheVariants.{Health, Indexes, Index, Documents, Document, Settings, Search, MultiSearch, FacetSearch}
 use Rattle.request_refusals.specs.declared.refusal.Refusal.TheVariants as refusal
 use Rattle.request_routes.specs.Patterns.{Names, joined, mark, marked_parts, parts_with, path_with, paths, pattern, pattern_parts, FindsPaths}
 use Rattle.request_routes.specs.Routes.{parts_of, route_of}
 use Rattle.request_routes.proofs.Splits.{split_same, split_other}
-use Rattle.request_routes.proofs.Literals.{AreLiteral, both, first_is_lookup}
-use Rattle.request_routes.proofs.Paths.{HasNoRow, at_none, no_other, none_of}
+use Rattle.request_routes.proofs.Literals.{AreLiteral, first_is_lookup}
+use Rattle.request_routes.proofs.Paths.{of_no_pattern}
 
 -- ---- a router that has the patterns
 
@@ -113,6 +113,8 @@ pattern_again Documents = refl
 pattern_again Document = refl
 pattern_again Settings = refl
 pattern_again Search = refl
+pattern_again MultiSearch = refl
+pattern_again FacetSearch = refl
 
 -- parts with this uid and this id
 abbrev renamed : List ℕ → List ℕ → List (List ℕ) → List (List ℕ)
@@ -153,6 +155,8 @@ some_parts Documents = omega arith
 some_parts Document = omega arith
 some_parts Settings = omega arith
 some_parts Search = omega arith
+some_parts MultiSearch = omega arith
+some_parts FacetSearch = omega arith
 
 -- a path of the table has these parts
 abbrev IsPath : List (List ℕ) → Path → Type 0
@@ -166,6 +170,8 @@ is_path parts Documents says = (says.0, (named _ says.1, unnamed _ says.2))
 is_path parts Document says = (says.0, (named _ says.1, named _ says.2))
 is_path parts Settings says = (says.0, (named _ says.1, unnamed _ says.2))
 is_path parts Search says = (says.0, (named _ says.1, unnamed _ says.2))
+is_path parts MultiSearch says = (says.0, (unnamed _ says.1, unnamed _ says.2))
+is_path parts FacetSearch says = (says.0, (named _ says.1, unnamed _ says.2))
 
 abbrev either : Path → Option Path → Path
 either path None = path
@@ -184,98 +190,6 @@ of_pattern parts path none found =
     let text : joined (marked_parts parts) ≡ pattern path = (bytes_eq-Decides _ _).0 (found_holds (λ path. bytes_eq (joined (marked_parts parts)) (pattern path)) paths path found) in
     let marked : marked_parts parts ≡ pattern_parts path = sym (again parts none) ∙ ap (split 47) text ∙ pattern_again path in
     is_path parts path (subst (SaysParts parts) marked (says_parts parts (subst (λ v. 1 < length v) (sym marked) (some_parts path))))
-
--- ---- no path has the pattern
-
--- the parts of two paths are the same
-abbrev same_parts : List (List ℕ) → List (List ℕ) → Bool
-same_parts [] [] = true
-same_parts [] (q ∷ qs) = false
-same_parts (p ∷ ps) [] = false
-same_parts (p ∷ ps) (q ∷ qs) = bytes_eq p q && same_parts ps qs
-
-are_same : (ps qs : List (List ℕ)) → same_parts ps qs ≡ true → ps ≡ qs
-are_same [] [] is = refl
-are_same [] (q ∷ qs) is = absurd (true≢false (sym is))
-are_same (p ∷ ps) [] is = absurd (true≢false (sym is))
-are_same (p ∷ ps) (q ∷ qs) is =
-    let h = both (bytes_eq p q) (same_parts ps qs) is in
-    ap (λ v. v ∷ ps) ((bytes_eq-Decides p q).0 h.0) ∙ ap (λ v. q ∷ v) (are_same ps qs h.1)
-
-other_parts : (ps qs : List (List ℕ)) → bytes_eq (joined ps) (joined qs) ≡ false → same_parts ps qs ≡ false
-other_parts ps qs other = go (same_parts ps qs) refl
-  where
-    go : (w : Bool) → same_parts ps qs ≡ w → w ≡ false
-    go true is = absurd (true≢false (sym ((bytes_eq-Decides (joined ps) (joined qs)).1 (ap joined (are_same ps qs is))) ∙ other))
-    go false is = refl
-
--- the parts are those of no path of the table
-abbrev AreOther : List (List ℕ) → Type 0
-AreOther marked = (path : Path) → same_parts marked (pattern_parts path) ≡ false
-
-some_text : (b : ℕ) (bytes : List ℕ) → nat_lt 0 (length (b ∷ bytes)) ≡ true
-some_text b bytes = lt-ltb 0 (length (b ∷ bytes)) (omega arith)
-
-narrowed : (p q r x : Bool) → (p && (q && (r && true))) ≡ false → (p && (q && (r && x))) ≡ false
-narrowed true true true x h = absurd (true≢false h)
-narrowed true true false x h = refl
-narrowed true false r x h = refl
-narrowed false q r x h = refl
-
-without : (parts : List (List ℕ)) → AreOther (marked_parts parts) → HasNoRow parts
-without [] other = no_other [] (inl (omega arith))
-without (a ∷ []) other = no_other (a ∷ []) (inl (omega arith))
-without (a ∷ b ∷ []) other =
-    none_of (a ∷ b ∷ []) (other Health) (other Indexes) (other Index) (other Documents) (other Document) (other Document) (other Settings) (other Search)
-without (a ∷ b ∷ [] ∷ []) other =
-    none_of (a ∷ b ∷ [] ∷ []) (other Health) (other Indexes) (other Index) (other Documents) (other Document) (other Document) (other Settings) (other Search)
-without (a ∷ b ∷ (x ∷ u) ∷ []) other =
-    let t = some_text x u in
-    none_of (a ∷ b ∷ (x ∷ u) ∷ []) (other Health) (other Indexes) (rw t (other Index)) (rw t (other Documents)) (rw t (other Document)) (rw t (other Document))
-    (rw t (other Settings)) (rw t (other Search))
-without (a ∷ b ∷ [] ∷ n ∷ []) other =
-    none_of (a ∷ b ∷ [] ∷ n ∷ []) (other Health) (other Indexes) (other Index) (other Documents) (other Document) (other Document) (other Settings) (other Search)
-without (a ∷ b ∷ (x ∷ u) ∷ n ∷ []) other =
-    let t = some_text x u in
-    none_of (a ∷ b ∷ (x ∷ u) ∷ n ∷ []) (other Health) (other Indexes) (rw t (other Index)) (rw t (other Documents)) (rw t (other Document)) (rw t (other Document))
-    (rw t (other Settings)) (rw t (other Search))
-without (a ∷ b ∷ [] ∷ n ∷ i ∷ []) other =
-    none_of (a ∷ b ∷ [] ∷ n ∷ i ∷ []) (other Health) (other Indexes) (other Index) (other Documents) (other Document) (other Document) (other Settings) (other Search)
-without (a ∷ b ∷ (x ∷ u) ∷ n ∷ [] ∷ []) other =
-    let t = some_text x u in
-    none_of (a ∷ b ∷ (x ∷ u) ∷ n ∷ [] ∷ []) (other Health) (other Indexes) (rw t (other Index)) (rw t (other Documents)) (rw t (other Document)) (rw t (other Document))
-    (rw t (other Settings)) (rw t (other Search))
-without (a ∷ b ∷ (x ∷ u) ∷ n ∷ (y ∷ i) ∷ []) other =
-    let t = some_text x u in
-    none_of (a ∷ b ∷ (x ∷ u) ∷ n ∷ (y ∷ i) ∷ []) (other Health) (other Indexes) (rw t (other Index)) (rw t (other Documents)) (rw (t, some_text y i) (other Document)) (rw t (narrowed (bytes_eq a []) (bytes_eq b (codes "indexes")) (bytes_eq n (codes "documents")) (bytes_eq (y ∷ i) (codes "delete-batch") && true) (other Document)))
-    (rw t (other Settings)) (rw t (other Search))
-without (a ∷ b ∷ u ∷ n ∷ i ∷ j ∷ more) other = no_other (a ∷ b ∷ u ∷ n ∷ i ∷ j ∷ more) (inr (omega arith))
-
-abbrev AllFail : (Path → Bool) → List Path → Type 0
-AllFail test [] = Unit {0}
-AllFail test (path ∷ more) = (test path ≡ false) × AllFail test more
-
-all_fail : (test : Path → Bool) (all : List Path) → find test all ≡ None → AllFail test all
-all_fail test [] is = tt
-all_fail test (path ∷ more) is = go (test path) refl is (all_fail test more)
-  where
-    go : (w : Bool) → test path ≡ w → cond w (Some path) (find test more) ≡ None → (find test more ≡ None → AllFail test more) → AllFail test (path ∷ more)
-    go true holds is later = absurd (cc (is))
-    go false holds is later = (holds, later is)
-
-each_fails : (test : Path → Bool) → AllFail test paths → (path : Path) → test path ≡ false
-each_fails test all Health = all.0
-each_fails test all Document = all.1.0
-each_fails test all Documents = all.1.1.0
-each_fails test all Search = all.1.1.1.0
-each_fails test all Settings = all.1.1.1.1.0
-each_fails test all Index = all.1.1.1.1.1.0
-each_fails test all Indexes = all.1.1.1.1.1.1.0
-
-pub of_no_pattern : (method : List ℕ) (parts : List (List ℕ)) → path_with (joined (marked_parts parts)) ≡ None → route_of method parts ≡ Err refusal.NoRoute
-of_no_pattern method parts none =
-    at_none method parts (without parts (λ path. other_parts (marked_parts parts) (pattern_parts path)
-    (each_fails (λ path. bytes_eq (joined (marked_parts parts)) (pattern path)) (all_fail (λ path. bytes_eq (joined (marked_parts parts)) (pattern path)) paths none) path)))
 
 -- ---- what the code finds
 

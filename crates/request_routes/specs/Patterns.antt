@@ -5,7 +5,7 @@ use Rattle.matchit.specs.Rows.{RowsOf}
 use Rattle.matchit.specs.Seek.{first}
 use Rattle.matchit.specs.Router.{RouteOf}
 use Rattle.request_routes.specs.declared.table.Path.{Path}
-use Rattle.request_routes.specs.declared.table.Path.TheVariants.{Health, Indexes, Index, Documents, Document, Settings, Search}
+use Rattle.request_routes.specs.declared.table.Path.TheVariants.{Health, Indexes, Index, Documents, Document, Settings, Search, MultiSearch, FacetSearch}
 
 -- a path's text, of its parts
 abbrev pub joined : List (List ℕ) → List ℕ
@@ -22,6 +22,8 @@ parts_with uid id Documents = [] ∷ codes "indexes" ∷ uid ∷ codes "document
 parts_with uid id Document = [] ∷ codes "indexes" ∷ uid ∷ codes "documents" ∷ id ∷ []
 parts_with uid id Settings = [] ∷ codes "indexes" ∷ uid ∷ codes "settings" ∷ []
 parts_with uid id Search = [] ∷ codes "indexes" ∷ uid ∷ codes "search" ∷ []
+parts_with uid id MultiSearch = [] ∷ codes "multi-search" ∷ []
+parts_with uid id FacetSearch = [] ∷ codes "indexes" ∷ uid ∷ codes "facet-search" ∷ []
 
 -- a path names a uid and an id, which are not empty, or else they are
 abbrev pub Names : Path → List ℕ → List ℕ → Type 0
@@ -32,6 +34,8 @@ Names Documents uid id = (0 < length uid) × (id ≡ [])
 Names Document uid id = (0 < length uid) × (0 < length id)
 Names Settings uid id = (0 < length uid) × (id ≡ [])
 Names Search uid id = (0 < length uid) × (id ≡ [])
+Names MultiSearch uid id = (uid ≡ []) × (id ≡ [])
+Names FacetSearch uid id = (0 < length uid) × (id ≡ [])
 
 -- ---- the patterns
 
@@ -42,7 +46,7 @@ abbrev pub pattern : Path → List ℕ
 pattern path = joined (pattern_parts path)
 
 abbrev pub paths : List Path
-paths = Health ∷ Document ∷ Documents ∷ Search ∷ Settings ∷ Index ∷ Indexes ∷ []
+paths = Health ∷ Document ∷ Documents ∷ FacetSearch ∷ Search ∷ Settings ∷ Index ∷ Indexes ∷ MultiSearch ∷ []
 
 -- the path that has a pattern
 abbrev pub path_with : List ℕ → Option Path

@@ -8,7 +8,7 @@ use Rattle.request_refusals.specs.declared.refusal.Refusal.{Refusal}
 use Rattle.request_refusals.specs.declared.refusal.Refusal.TheVariants.{NoRoute, MethodNotAllowed, InvalidUid}
 use Rattle.search_base.specs.Trying.{or_refuse, ◌>>=◌}
 use Rattle.request_routes.specs.declared.routes.Route.{Route}
-use Rattle.request_routes.specs.declared.routes.Route.TheVariants.{Health, CreateIndex, ListIndexes, ShowIndex, DropIndex, AddDocuments, UpdateDocuments, ListDocuments, ClearDocuments, ShowDocument, RemoveDocument, RemoveDocuments, ShowSettings, PatchSettings, ResetSettings, Search, SearchByQuery}
+use Rattle.request_routes.specs.declared.routes.Route.TheVariants.{Health, CreateIndex, ListIndexes, ShowIndex, DropIndex, AddDocuments, UpdateDocuments, ListDocuments, ClearDocuments, ShowDocument, RemoveDocument, RemoveDocuments, ShowSettings, PatchSettings, ResetSettings, Search, SearchByQuery, MultiSearch, FacetSearch}
 
 -- ---- the table
 
@@ -35,6 +35,9 @@ indexes = text [] ∷ text (codes "indexes") ∷ []
 
 abbrev pub index : List Part
 index = text [] ∷ text (codes "indexes") ∷ any_uid ∷ []
+
+abbrev pub multi_search : List Part
+multi_search = text [] ∷ text (codes "multi-search") ∷ []
 
 -- `/indexes/{uid}/` and one part more
 abbrev pub of_index : List ℕ → List Part
@@ -63,6 +66,8 @@ routes =
     ∷ row (codes "DELETE") (of_index (codes "settings")) ResetSettings
     ∷ row (codes "POST") (of_index (codes "search")) Search
     ∷ row (codes "GET") (of_index (codes "search")) SearchByQuery
+    ∷ row (codes "POST") multi_search MultiSearch
+    ∷ row (codes "POST") (of_index (codes "facet-search")) FacetSearch
     ∷ []
 
 -- ---- a request's path

@@ -48,6 +48,10 @@ pub enum Route {
     Search,
     /// `GET /indexes/{uid}/search`
     SearchByQuery,
+    /// `POST /multi-search`
+    MultiSearch,
+    /// `POST /indexes/{uid}/facet-search`
+    FacetSearch,
 }
 
 /// A route, with the uid and the id that the request's path names; each is empty where the path names none.
@@ -167,6 +171,8 @@ fn route_at<'a>(path: Path, method: &str, uid: &'a str, id: &'a str) -> Result<F
         (Path::Settings, "DELETE") => Route::ResetSettings,
         (Path::Search, "POST") => Route::Search,
         (Path::Search, "GET") => Route::SearchByQuery,
+        (Path::MultiSearch, "POST") => Route::MultiSearch,
+        (Path::FacetSearch, "POST") => Route::FacetSearch,
         _ => return Err(Refusal::MethodNotAllowed),
     };
     Ok(Found { route, uid, id })

@@ -23,6 +23,10 @@ pub(crate) enum Path {
     Settings,
     /// `/indexes/{uid}/search`
     Search,
+    /// `/multi-search`
+    MultiSearch,
+    /// `/indexes/{uid}/facet-search`
+    FacetSearch,
 }
 
 /// The table of paths, in which a request's path is looked up. It is made once, before the first request.
@@ -76,5 +80,7 @@ fn router_of_paths(alloc: Global) -> Result<Router<Path>, InsertError>
     router.insert("/indexes/_/documents/_", Path::Document)?;
     router.insert("/indexes/_/settings", Path::Settings)?;
     router.insert("/indexes/_/search", Path::Search)?;
+    router.insert("/multi-search", Path::MultiSearch)?;
+    router.insert("/indexes/_/facet-search", Path::FacetSearch)?;
     Ok(router)
 }

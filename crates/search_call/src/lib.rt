@@ -1,8 +1,8 @@
 //! What a search asks for, as requests and indexes see it.
 //!
-//! A `SearchCall` holds data and promises nothing. Contracts see it as a `SearchView`, whose vectors are lists and
-//! whose filter is a tree. The crate stands on `search_base` and `filter_tree`, and on nothing that reads requests or
-//! keeps documents.
+//! A `SearchCall` and a `FacetCall` hold data and promise nothing. Contracts see them as a `SearchView` and a
+//! `FacetCallView`, whose vectors are lists and whose filter is a tree. The crate stands on `search_base` and
+//! `filter_tree`, and on nothing that reads requests or keeps documents.
 #![tactic(auto)]
 
 use filter_tree::Filter;
@@ -65,5 +65,39 @@ impl Model for SearchCall {
       strategy = call.strategy;
       costs = call.costs;
       retrieve = call.retrieve.items;
+    } };
+}
+
+/// Which values of an attribute are asked for, and of which documents.
+#[derive(Debug, Drop)]
+pub struct FacetCall {
+    /// The attribute whose values are asked for.
+    pub name: Word,
+    /// With what their texts begin, where the request says; else each value is asked for.
+    pub query: Option<Word>,
+    /// The text that a search for the documents is given, empty where the request names none.
+    pub q: Word,
+    /// What a document must pass; `All` where the request sets no condition.
+    pub filter: Filter,
+    /// Which words of the text a document must hold: as many as there are, where the request does not say.
+    pub strategy: Strategy,
+}
+
+impl Model for FacetCall {
+    ghost use Rattle.search_call.specs.SearchView.{FacetCallView};
+    ghost use Rattle.filter_tree.specs.View.{view as tree_of};
+    ghost use Rattle.std.specs.Coded.{codes};
+    ghost use Rattle.search_call.specs.TreeCode.{tree_code};
+
+    ghost Value = { FacetCallView };
+
+    ghost coded = { Prim.hlevel (codes, tree_code) };
+
+    ghost view = { λ call. record {
+      name = call.name;
+      query = call.query;
+      q = call.q;
+      filter = tree_of call.filter;
+      strategy = call.strategy;
     } };
 }

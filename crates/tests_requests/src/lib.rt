@@ -14,3 +14,5 @@ mod demo;
 mod routes;
 #[cfg(test)]
 mod searches;
+#[cfg(test)]
+mod several;

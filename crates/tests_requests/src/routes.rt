@@ -30,7 +30,9 @@ GET~/indexes/_~ShowIndex `_` `` 0
 DELETE~/indexes/_/documents/_~RemoveDocument `_` `_` 0
 POST~/indexes/m/search~Search `m` `` 0
 GET~/indexes/m/search~SearchByQuery `m` `` 0
-GET~/indexes/m/search?limit=x&q&zz=1&q=b~SearchByQuery `m` `` 3"#;
+GET~/indexes/m/search?limit=x&q&zz=1&q=b~SearchByQuery `m` `` 3
+POST~/multi-search~MultiSearch `` `` 0
+POST~/indexes/m/facet-search~FacetSearch `m` `` 0"#;
 
 // The route, the uid, the id and the number of pairs that a method and a target come to.
 fn asked(rt: &impl Abort, alloc: Global, method: &str, target: &str) -> String {

@@ -1,4 +1,4 @@
-use Rattle.request_routes.proofs.Paths.{one_route}
+use Rattle.request_routes.proofs.Rows.{one_route}
 use Rattle.request_routes.proofs.laws.one_route_at_most.Goals as goal
 
 pub returns : goal.returns

@@ -13,5 +13,8 @@ returns c =
     let document = c.in_ok-insert-5.ensures in
     let settings = c.in_ok-insert-6.ensures in
     let search_page = c.in_ok-insert-7.ensures in
-    rw (search_page.1, settings.1, document.1, documents.1, index.1, indexes.1, health.1, c.new-router.ensures)
-    (finds_paths _ (refl, (refl, (refl, (refl, (refl, (refl, (refl, tt))))))) (refl, (refl, (refl, (refl, (refl, (refl, (refl, tt))))))) refl)
+    let multi_search = c.in_ok-insert-8.ensures in
+    let facet_search = c.in_ok-insert-9.ensures in
+    rw (facet_search.1, multi_search.1, search_page.1, settings.1, document.1, documents.1, index.1, indexes.1, health.1, c.new-router.ensures)
+    (finds_paths _ (refl, (refl, (refl, (refl, (refl, (refl, (refl, (refl, (refl, tt)))))))))
+    (refl, (refl, (refl, (refl, (refl, (refl, (refl, (refl, (refl, tt))))))))) refl)
