@@ -16,19 +16,19 @@ use Rattle.facet_index.specs.Batches as facets
 use Rattle.facet_index.specs.LeavesView.{leaves_of}
 use Rattle.list_facets.specs.Rows.{AreRowsOf}
 use Rattle.rule_buckets.specs.Matches.{match_at, ids_of}
-use Rattle.doc_search.specs.Matches.{AreInOrder, matches_among, passing}
+use Rattle.filter_tree.specs.Tree.{Tree}
+use Rattle.doc_search.specs.Matches.{AreInOrder, matches_among, opened, passing}
 use Rattle.doc_search.specs.Rows.{rows_of, rows_at}
 use Rattle.doc_index.specs.Documents.{documents_of}
 use Rattle.doc_index.proofs.SameLemmas.{all-from, at-among}
 use Rattle.doc_search.specs.Matched.{rows_matching}
 use Rattle.std.proofs.lemmas.List.{length-map}
-use Rattle.facet_counts.specs.Counts.{counted}
 use Rattle.search_base.specs.Hits.{Match}
 use Rattle.rule_buckets.specs.Matches as lists
 use Rattle.rule_buckets.specs.Rules.{RulesView}
 use Rattle.rule_buckets.proofs.Slices.{AreMade, made-matches, made-matching, made-opened}
-use Rattle.doc_search.specs.declared.found.Search.{Search}
-use Rattle.doc_search.specs.Found.{passes_in, matches_in, opened_in, counts_in}
+use Rattle.rule_buckets.specs.declared.hits.HitWindow.{HitWindow}
+use Rattle.doc_search.specs.Found.{AreRulesOver, passes}
 use Rattle.doc_search.specs.Searched.{DocumentsView}
 use Rattle.doc_search.proofs.MatchLemmas.{matches_over}
 use Rattle.doc_search.proofs.OrderLemmas.{apart_in_order}
@@ -83,33 +83,36 @@ are-rows (d ∷ ds) id = by (d.id == id) (are-rows ds id)
     by true rest = refl
     by false rest = rest
 
--- ---- what rules over the documents that pass give
+-- ---- what rules over the documents that pass and match give
 
 abbrev pub rows_among : DocumentsView → ℕ → RowsView
 rows_among among = rows_at among.documents
 
-module _ (among : DocumentsView) (search : Search) (made : RulesView DocumentsView) (universe : List ℕ)
-    (order : AreInOrder among.documents) (is : universe ≡ passing (passes_in among search) among.documents)
-    (are : AreMade rows_among made among search.query.now search.rules.now universe) where
-  over : lists.matches_among (rows_at among.documents) search.query.now search.rules.now universe ≡ matches_in among search
-  over = matches_over (passes_in among search) search.query.now search.rules.now among.documents universe order is
+module _ (among : DocumentsView) (query : GraphView) (tree : Tree) (rules : List Rule) (made : RulesView DocumentsView)
+    (over : AreRulesOver among query tree rules made) where
+  abbrev universe : List ℕ
+  universe = passing (passes among tree) among.documents
 
-  pub same-matches : lists.matches_in rows_among made ≡ matches_in among search
-  same-matches = made-matches rows_among made among search.query.now search.rules.now universe are ∙ over
+  abbrev matches : List Match
+  matches = matches_among (passes among tree) query rules among.documents
 
-  same-matching : made.matching ≡ ids_of (matches_in among search)
-  same-matching = made-matching rows_among made among search.query.now search.rules.now universe are ∙ ap ids_of over
+  are : AreMade rows_among made among query rules universe
+  are = record { source_is = over.source_is; graph_is = over.query_is; rules_are = over.rules_are; matching_is = over.matching_is }
 
-  pub same-total : length made.matching ≡ length (matches_in among search)
-  same-total = ap length same-matching ∙ length-map (matches_in among search) (λ (m : Match). m.id)
+  among-all : lists.matches_among (rows_at among.documents) query rules universe ≡ matches
+  among-all = matches_over (passes among tree) query rules among.documents universe over.order refl
 
-  pub same-opened : lists.opened_in rows_among made search.window ≡ opened_in among search
-  same-opened =
-      made-opened rows_among made among search.query.now search.rules.now universe are search.window
-      ∙ ap (λ ids. lists.opened (rows_at among.documents) search.query.now search.rules.now ids search.window.offset search.window.limit) is
+  pub same-matches : lists.matches_in rows_among made ≡ matches
+  same-matches = made-matches rows_among made among query rules universe are ∙ among-all
 
-  pub same-counts : map (counted search.counts.most (map (rows_at among.documents) made.matching)) search.counts.attributes.items ≡ counts_in among search
-  same-counts =
-      ap (λ rows. map (counted search.counts.most rows) search.counts.attributes.items)
-      (ap (map (rows_at among.documents)) same-matching
-      ∙ rows-matched (passes_in among search) search.query.now search.rules.now among.documents (apart_in_order among.documents order))
+  same-matching : made.matching ≡ ids_of matches
+  same-matching = made-matching rows_among made among query rules universe are ∙ ap ids_of among-all
+
+  pub same-total : length made.matching ≡ length matches
+  same-total = ap length same-matching ∙ length-map matches (λ (m : Match). m.id)
+
+  pub same-opened : (window : HitWindow) → lists.opened_in rows_among made window ≡ opened (passes among tree) query rules among.documents window.offset window.limit
+  same-opened window = made-opened rows_among made among query rules universe are window
+
+  pub same-rows : map (rows_at among.documents) made.matching ≡ rows_matching (passes among tree) query among.documents
+  same-rows = ap (map (rows_at among.documents)) same-matching ∙ rows-matched (passes among tree) query rules among.documents (apart_in_order among.documents over.order)

@@ -1,21 +1,45 @@
--- What a search finds among documents.
-use Rattle.std.specs.Prelude.{Bool, List, map}
+-- What a search finds among documents, and a search of the values that they have.
+use Rattle.std.specs.Prelude.{◌≡◌, Bool, List, map, filter}
+use Rattle.search_base.specs.declared.rule.Rule.{Rule}
+use Rattle.search_base.specs.GraphView.{GraphView}
 use Rattle.search_base.specs.Hits.{Match}
 use Rattle.search_base.specs.RowsView.{RowsView}
+use Rattle.filter_tree.specs.Tree.{Tree}
 use Rattle.filter_tree.specs.View.{view}
 use Rattle.row_filter.specs.Holds.{holds}
 use Rattle.facet_counts.specs.FacetView.{FacetView}
 use Rattle.facet_counts.specs.Counts.{counted}
+use Rattle.facet_counts.specs.declared.rows.CountRow.{CountRow}
+use Rattle.list_facets.specs.declared.query.FacetQuery.{FacetQuery}
+use Rattle.list_facets.specs.Rows.{rows_asked}
 use Rattle.bucket_sort.specs.declared.log.Opening.{Opening}
+use Rattle.rule_buckets.specs.Entries.{is_match}
 use Rattle.rule_buckets.specs.Matches.{hits_of}
+use Rattle.rule_buckets.specs.Rules.{RulesView}
 use Rattle.doc_search.specs.declared.found.Search.{Search}
 use Rattle.doc_search.specs.Matched.{rows_matching}
-use Rattle.doc_search.specs.Matches.{matches_among, opened}
+use Rattle.doc_search.specs.Matches.{AreInOrder, matches_among, opened, passing}
+use Rattle.doc_search.specs.Rows.{rows_at}
 use Rattle.doc_search.specs.Searched.{DocumentsView}
 
--- whether a document passes the filter, by its rows
+-- whether a document passes a filter, by its rows
+abbrev pub passes : DocumentsView → Tree → RowsView → Bool
+passes among tree rows = holds among.paths rows tree
+
+-- the rules are over the documents that pass a filter and that a query matches
+pub record AreRulesOver (among : DocumentsView) (query : GraphView) (tree : Tree) (rules : List Rule)
+    (made : RulesView DocumentsView) : Type 0 where
+  pub order : AreInOrder among.documents
+  pub source_is : made.source ≡ among
+  pub query_is : made.graph ≡ query
+  pub rules_are : made.rules ≡ rules
+  pub matching_is : made.matching
+      ≡ filter (λ d. is_match (rows_at among.documents d) query) (passing (passes among tree) among.documents)
+
+-- ---- a search
+
 abbrev pub passes_in : DocumentsView → Search → RowsView → Bool
-passes_in among search rows = holds among.paths rows (view search.filter.now)
+passes_in among search = passes among (view search.filter.now)
 
 -- the documents that match, each with its costs
 abbrev pub matches_in : DocumentsView → Search → List Match
@@ -36,3 +60,9 @@ abbrev pub opened_in : DocumentsView → Search → List Opening
 opened_in among search =
     opened (passes_in among search) search.query.now search.rules.now among.documents
     search.window.offset search.window.limit
+
+-- ---- a search of values
+
+-- the values that are asked for, of those that documents have which pass a filter and match a query
+abbrev pub values_in : DocumentsView → GraphView → Tree → FacetQuery → List CountRow
+values_in among query tree asked = rows_asked asked (rows_matching (passes among tree) query among.documents)

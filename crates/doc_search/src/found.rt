@@ -6,12 +6,12 @@ ghost use Rattle.doc_search.specs.Found.{matches_in, hits_in, counts_in, opened_
 
 use crate::documents::IndexedDocuments;
 use crate::facets::{AskedCounts, all_counts};
-use crate::passing::documents_passing;
+use crate::over::rules_over;
 use crate::source::Snapshot;
 use bucket_sort::BucketLog;
 use facet_counts::FacetReply;
 use filter_tree::Filter;
-use rule_buckets::{HitWindow, Rules, page};
+use rule_buckets::{HitWindow, page};
 use search_base::{DocId, Graph, NoMemory, Rule, Steps};
 use std::alloc::Global;
 
@@ -60,9 +60,8 @@ pub fn search_documents<G>(
         window,
         counts,
     } = search;
-    let universe = documents_passing(alloc, documents, filter, documents.paths())?;
     let snapshot = Snapshot::new(documents);
-    let rules = Rules::new(alloc, &snapshot, query, rules, &universe)?;
+    let rules = rules_over(alloc, &snapshot, query, filter, rules)?;
     let hits = page(alloc, &rules, window, log, openings)?;
     let matching = rules.matching();
     let facets = all_counts(alloc, documents, matching, counts)?;

@@ -5,6 +5,7 @@ use Rattle.std.specs.Cmp.Lexicographic.{pointwise}
 use Rattle.std.specs.List.{filter_map, list_any}
 use Rattle.std.specs.Str.{bytes_eq}
 use Rattle.search_base.specs.declared.token.Token.{Token}
+use Rattle.search_base.specs.declared.query.Strategy.{Strategy}
 use Rattle.search_base.specs.Query.{Query}
 use Rattle.search_call.specs.SearchView.{SearchView}
 use Rattle.query_graph.specs.Items.{items_of}
@@ -66,6 +67,11 @@ pub record AreWordsOf (words : QueryWordsView) (settings : SettingsView) : Type 
   pub stop_words : words.stop_words ≡ stop_words_of settings
   pub synonyms : words.synonyms ≡ synonym_rows settings
 
--- what a search asks for, under settings that say which words are left out and which stand for others
+-- what a text asks for that is searched with a strategy, under settings that say which words are left out and which
+-- stand for others
+abbrev pub query_of : SettingsView → Strategy → List ℕ → Query
+query_of settings strategy text = query_for strategy (synonym_rows settings) (items_of text (stop_words_of settings))
+
+-- what a search asks for
 abbrev pub query_with : SettingsView → SearchView → Query
-query_with settings call = query_for call.strategy (synonym_rows settings) (items_of call.q (stop_words_of settings))
+query_with settings call = query_of settings call.strategy call.q

@@ -1,10 +1,11 @@
--- Why an index refuses a search, by its settings: the first fault of its criteria, its filter and its counts.
+-- Why an index refuses a search, by its settings: the first fault of its criteria, its filter and its counts. Why it
+-- refuses a search of the values of an attribute: the first fault of its filter and its attribute.
 use Rattle.std.specs.Prelude.{ℕ, ◌&&◌, List, [], ◌∷◌, find, Bool, not, codes, bytes_eq, Option, Some, None, if◌then◌else◌}
 use Rattle.std.specs.Option.{option_map}
 use Rattle.std.specs.List.{list_any}
-use Rattle.search_base.specs.Trying.{first_of}
+use Rattle.search_base.specs.Trying.{first_of, refuse_if}
 use Rattle.search_call.specs.declared.Criterion.{Criterion}
-use Rattle.search_call.specs.SearchView.{SearchView}
+use Rattle.search_call.specs.SearchView.{SearchView, FacetCallView}
 use Rattle.filter_tree.specs.Tree.{Tree}
 use Rattle.row_filter.specs.Attributes.{attributes}
 use Rattle.index_settings.specs.Paths.{is_covered}
@@ -51,3 +52,10 @@ abbrev pub search_fault : SettingsView → SearchView → Option SearchRefusal
 search_fault settings call =
     first_of (sort_fault settings call.sort)
     (first_of (filter_fault settings call.filter) (facet_fault settings call.facets))
+
+-- the attribute whose values are searched must be one to filter by
+abbrev pub name_fault : SettingsView → List ℕ → Option SearchRefusal
+name_fault settings name = refuse_if (is_uncovered settings.filterable_attributes name) (NotFacet name)
+
+abbrev pub facet_search_fault : SettingsView → FacetCallView → Option SearchRefusal
+facet_search_fault settings call = first_of (filter_fault settings call.filter) (name_fault settings call.name)

@@ -1,17 +1,17 @@
-// Whether the settings let a search sort, filter and count as it does.
+// Whether the settings let a search sort, filter and count as it does, and a search of values filter and count so.
 ghost use Rattle.std.specs.Prelude.{◌≡◌};
 ghost use Rattle.std.specs.Option.{option_copied, option_map};
 ghost use Rattle.search_base.specs.Gives.{Checks};
 ghost use Rattle.filter_tree.specs.View.{view as tree_of};
 ghost use Rattle.search_settings.specs.declared.refusal.SearchRefusal.TheVariants.{NotFacet};
-ghost use Rattle.search_settings.specs.SearchFaults.{search_fault, sort_fault as fault_of_sort, filter_fault, facet_fault, first_uncovered as first_uncovered_of, first_unsortable as first_unsortable_of, first_uncountable as first_uncountable_of, have_sort as has_rule_sort};
+ghost use Rattle.search_settings.specs.SearchFaults.{search_fault, facet_search_fault, name_fault, sort_fault as fault_of_sort, filter_fault, facet_fault, first_uncovered as first_uncovered_of, first_unsortable as first_unsortable_of, first_uncountable as first_uncountable_of, have_sort as has_rule_sort};
 
 use crate::refusal::{SearchFault, SearchRefusal};
 use filter_tree::Filter;
 use index_settings::{Settings, is_covered};
 use row_filter::attributes;
 use search_base::{Fault, Word};
-use search_call::{Criterion, SearchCall};
+use search_call::{Criterion, FacetCall, SearchCall};
 use std::alloc::Global;
 
 /// Tries the criteria of a search, then the attributes of its filter, and then those that it counts.
@@ -25,6 +25,18 @@ pub fn check_search(
     check_sort(settings, &call.sort)?;
     check_filter(alloc, settings, &call.filter)?;
     check_facets(settings, call)
+}
+
+/// Tries the attributes of the filter of a search of values, and then the attribute whose values are searched.
+pub fn check_facet_search(
+    alloc: Global,
+    settings: &Settings,
+    call: &FacetCall,
+) -> Result<(), SearchFault>
+    ensures { Checks result (facet_search_fault settings.now call.now) }
+{
+    check_filter(alloc, settings, &call.filter)?;
+    check_name(settings, &call.name)
 }
 
 fn check_sort(settings: &Settings, sort: &[Criterion]) -> Result<(), SearchFault>
@@ -100,6 +112,17 @@ fn check_names(entries: &[Word], names: &[Word]) -> Result<(), SearchFault>
         })),
         None => Ok(()),
     }
+}
+
+fn check_name(settings: &Settings, name: &Word) -> Result<(), SearchFault>
+    ensures { Checks result (name_fault settings.now name.now) }
+{
+    if is_covered(settings.filterable_attributes(), name.as_str()) {
+        return Ok(());
+    }
+    Err(Fault::Refused(SearchRefusal::NotFacet {
+        attribute: name.clone()?,
+    }))
 }
 
 // The first of the names that is not `*` and that no entry covers.

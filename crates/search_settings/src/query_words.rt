@@ -4,7 +4,7 @@ ghost use Rattle.search_base.specs.Query.{tuple_under};
 ghost use Rattle.search_base.specs.Terms.{terms_of, terms_under, HaveSame};
 ghost use Rattle.search_base.specs.Tuple.{tuple};
 ghost use Rattle.token_words.specs.Tokens.{tokens as tokens_of};
-ghost use Rattle.search_settings.specs.QueryWords.{only_word as only_word_of, stop_words_of, AreWordsOf, query_with};
+ghost use Rattle.search_settings.specs.QueryWords.{only_word as only_word_of, stop_words_of, AreWordsOf, query_of};
 ghost use Rattle.search_base.specs.RowsView.{RowsView};
 ghost use Rattle.search_base.specs.declared.rule.Rule.{Rule};
 ghost use Rattle.index_settings.specs.View.{SettingsView};
@@ -12,8 +12,7 @@ ghost use Rattle.index_settings.specs.View.{SettingsView};
 use crate::synonyms::synonym_rows;
 use index_settings::Settings;
 use query_graph::{build_graph, items};
-use search_base::{Graph, NoMemory, Token, Word};
-use search_call::SearchCall;
+use search_base::{Graph, NoMemory, Strategy, Token, Word};
 use std::alloc::Global;
 use std::marker::Model;
 use synonym_terms::SynonymTable;
@@ -47,18 +46,18 @@ impl QueryWords {
         })
     }
 
-    /// What a search asks for, as a graph: each document costs under it what it costs under the query of the settings
-    /// whose words these are, and its first level has the same terms.
-    pub fn query(&self, alloc: Global, call: &SearchCall) -> Result<Graph, NoMemory>
+    /// What a text asks for that is searched with a strategy, as a graph: each document costs under it what it costs
+    /// under the query of the settings whose words these are, and its first level has the same terms.
+    pub fn query(&self, alloc: Global, text: &Word, strategy: Strategy) -> Result<Graph, NoMemory>
         ensures sound { IfOk result IsGraph }
         ensures costs { IfOk result (λ graph. (settings : SettingsView) → AreWordsOf self.now settings
             → (rows : RowsView) (rules : List Rule)
-            → tuple rows graph rules ≡ tuple_under rows (query_with settings call.now) rules) }
+            → tuple rows graph rules ≡ tuple_under rows (query_of settings strategy text.now) rules) }
         ensures terms { IfOk result (λ graph. (settings : SettingsView) → AreWordsOf self.now settings
-            → HaveSame (terms_of graph) (terms_under (query_with settings call.now))) }
+            → HaveSame (terms_of graph) (terms_under (query_of settings strategy text.now))) }
     {
-        let items = items(alloc, call.q.as_str(), self.stop_words.as_slice())?;
-        let graph = build_graph(alloc, &items, &self.synonyms, call.strategy)?;
+        let items = items(alloc, text.as_str(), self.stop_words.as_slice())?;
+        let graph = build_graph(alloc, &items, &self.synonyms, strategy)?;
         Ok(graph)
     }
 }

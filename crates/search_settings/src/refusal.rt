@@ -9,7 +9,7 @@ pub enum SearchRefusal {
     NotSortable { attribute: Word },
     /// The settings do not let a search filter by this attribute, the first such in the filter's order.
     NotFilterable { attribute: Word },
-    /// The settings do not let a search count the values of this attribute, the first such.
+    /// The settings do not let a search count the values of this attribute, the first such, or search them.
     NotFacet { attribute: Word },
 }
 

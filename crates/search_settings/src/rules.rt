@@ -95,7 +95,7 @@ fn entry_of(paths: &[Word], criterion: &Criterion) -> Rule
 }
 
 /// The path of this name in a registry, where it has one. Takes no memory.
-pub(crate) fn path_named(paths: &[Word], name: &Word) -> Option<PathId>
+pub fn path_named(paths: &[Word], name: &Word) -> Option<PathId>
     requires { length paths.now ≤ 1000 }
     ensures { result ≡ path_of_name paths.now name.now }
 {
