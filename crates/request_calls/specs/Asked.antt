@@ -2,13 +2,9 @@
 use Rattle.std.specs.Prelude.{ℕ, List}
 use Rattle.search_call.specs.SearchView.{SearchView, FacetCallView}
 use Rattle.doc_values.specs.Changes.{ChangeData}
+pub use Rattle.request_calls.specs.MultiData.{MultiData}
 use Rattle.request_calls.specs.declared.call.ReadCall.{ReadCall}
 use Rattle.request_calls.specs.declared.call.ReadCall.TheVariants as called
-
--- a search, and the uid of the index that is searched
-pub record MultiData : Type 0 where
-  pub uid : List ℕ
-  pub call : SearchView
 
 -- what is read: the health, the indexes from a place on, an index, its documents from a place on, one of its documents
 -- (each with the names of the members that are shown), its settings, the hits of a search, those of several

@@ -55,12 +55,15 @@ facet_call name filter d = record {
   strategy = unwrap_or (said strategy_in MatchingStrategy d) strategy.Last;
 }
 
-abbrev pub facets_from : Members → Result FacetCallView Refusal
-facets_from ms = do
+abbrev pub facets_from_members : Members → Result FacetCallView Refusal
+facets_from_members ms = do
   filter ← facet_tried (given_by ms) tree.all
   name ← or_refuse MissingFacetName (text_at (codes "facetName") ms)
   Ok (facet_call name filter (object ms))
 
+abbrev pub facets_from : Data → Result FacetCallView Refusal
+facets_from d = members_of d >>= facets_from_members
+
 -- the facet search that a body asks for
 abbrev pub facets_of : List ℕ → Result FacetCallView Refusal
-facets_of body = (json_in body >>= members_of) >>= facets_from
+facets_of body = json_in body >>= facets_from

@@ -3,6 +3,7 @@ pub mod Bodies
 pub mod Searches
 pub mod Multi
 pub mod FacetSearches
+pub mod MultiData
 pub mod Asked
 pub mod Calls
 pub mod Held

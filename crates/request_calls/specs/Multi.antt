@@ -8,7 +8,7 @@ use Rattle.search_base.specs.Trying.{◌>>=◌, ◌>>◌, or_refuse}
 use Rattle.doc_values.specs.Ids.{is_uid}
 use Rattle.request_refusals.specs.declared.refusal.Refusal.{Refusal}
 use Rattle.request_refusals.specs.declared.refusal.Refusal.TheVariants.{Unknown, InvalidUid, BadQueries, MissingQueryUid}
-use Rattle.request_calls.specs.Asked.{MultiData}
+use Rattle.request_calls.specs.MultiData.{MultiData}
 use Rattle.request_calls.specs.Bodies.{json_in, members_of}
 use Rattle.request_calls.specs.Searches.{Given, given_by, search_given}
 
@@ -55,11 +55,14 @@ abbrev pub queries_in : Data → Option Items
 queries_in d =
     option_and_then (λ ds. if nat_le (items_len ds) 100 && are_objects ds then Some ds else None) (as_array d)
 
-abbrev pub multi_from : Members → Result (List MultiData) Refusal
-multi_from ms =
+abbrev pub multi_from_members : Members → Result (List MultiData) Refusal
+multi_from_members ms =
     other_member ms
     >> (or_refuse BadQueries (option_and_then queries_in (get_member (codes "queries") ms)) >>= queries_from 1)
 
+abbrev pub multi_from : Data → Result (List MultiData) Refusal
+multi_from d = members_of d >>= multi_from_members
+
 -- the searches that a body asks for, in order
 abbrev pub multi_of : List ℕ → Result (List MultiData) Refusal
-multi_of body = (json_in body >>= members_of) >>= multi_from
+multi_of body = json_in body >>= multi_from

@@ -3,8 +3,6 @@ ghost use Rattle.serde_json.specs.View.{view, members_view};
 ghost use Rattle.filter_tree.specs.Tree as tree;
 ghost use Rattle.filter_tree.specs.View.{view as tree_of};
 ghost use Rattle.search_base.specs.Gives.{Gives};
-ghost use Rattle.search_base.specs.Trying.{◌>>=◌};
-ghost use Rattle.request_calls.specs.Bodies.{members_of};
 ghost use Rattle.request_calls.specs.Searches.{given_by};
 ghost use Rattle.request_calls.specs.FacetSearches.{shared_tried, facet_member_tried, facet_tried, facet_call as facet_call_with, facets_from, facets_of};
 
@@ -27,7 +25,7 @@ pub(crate) fn read_facets(alloc: Global, body: &[u8]) -> Result<FacetCall, Fault
 }
 
 fn facet_search(alloc: Global, value: &Value) -> Result<FacetCall, Fault<Refusal>>
-    ensures { Gives (λ call. call) result (members_of (view value.now) >>= facets_from) }
+    ensures { Gives (λ call. call) result (facets_from (view value.now)) }
 {
     let filter = match value {
         Value::Object(members) => try_facet_members(alloc, members)?,

@@ -5,8 +5,6 @@ ghost use Rattle.serde_json.specs.View.{view, members_view, items_view};
 ghost use Rattle.filter_tree.specs.Tree as tree;
 ghost use Rattle.filter_tree.specs.View.{view as tree_of};
 ghost use Rattle.search_base.specs.Gives.{Gives, Checks};
-ghost use Rattle.search_base.specs.Trying.{◌>>=◌};
-ghost use Rattle.request_calls.specs.Bodies.{members_of};
 ghost use Rattle.request_calls.specs.Searches.{tried};
 ghost use Rattle.request_calls.specs.Multi.{uid_in, given_beside, query_from, queries_from, other_member, are_objects as objects_among, multi_from, multi_of};
 
@@ -34,7 +32,7 @@ pub struct MultiCall {
 }
 
 impl Model for MultiCall {
-    ghost use Rattle.request_calls.specs.Asked.{MultiData};
+    ghost use Rattle.request_calls.specs.MultiData.{MultiData};
     ghost use Rattle.std.specs.Coded.{codes};
     ghost use Rattle.search_call.specs.TreeCode.{tree_code};
 
@@ -57,7 +55,7 @@ pub(crate) fn read_multi(alloc: Global, body: &[u8]) -> Result<Vec<MultiCall>, F
 }
 
 fn multi_calls(alloc: Global, value: &Value) -> Result<Vec<MultiCall>, Fault<Refusal>>
-    ensures { Gives (λ calls. calls.items) result (members_of (view value.now) >>= multi_from) }
+    ensures { Gives (λ calls. calls.items) result (multi_from (view value.now)) }
 {
     match value {
         Value::Object(members) => try_names(alloc, members)?,
@@ -88,6 +86,7 @@ fn try_names(alloc: Global, members: &Map<String, Value>) -> Result<(), Fault<Re
 }
 
 // At most 100 objects.
+#[tactic(auto, using(crate::proofs::Lengths::items_len_of_view))]
 fn are_queries(items: &[Value]) -> bool
     ensures { result ≡ (nat_le (items_len (items_view items.now)) 100 && objects_among (items_view items.now)) }
 {
