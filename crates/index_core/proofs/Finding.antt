@@ -1,5 +1,5 @@
 -- What a search finds: hits that are read by their ids, and the matches of an index among its documents.
-use Rattle.std.proofs.Common.{◌≡◌, ℕ, suc, ◌+◌, ◌-◌, ◌<◌, ◌≤◌, ◌⊎◌, inl, inr, min, Bool, true, false, cond, List, [], ◌∷◌, ◌++◌, length, map, take, slice_index_or, Option, None, Some, refl, sym, ap, ap₂, ◌∙◌, arith}
+use Rattle.std.proofs.Common.{◌≡◌, ℕ, suc, ◌+◌, ◌-◌, ◌<◌, ◌≤◌, ◌⊎◌, inl, inr, min, Bool, true, false, cond, List, [], ◌∷◌, ◌++◌, length, map, take, slice_index_or, Option, None, Some, Ok, refl, sym, ap, ap₂, ◌∙◌, arith}
 use Rattle.std.specs.Prelude.{◌&&◌}
 use Rattle.std.specs.Option.{option_map, is_some}
 use Rattle.std.specs.List.{AllByRecursion, filter_map, cons_option}
@@ -21,8 +21,14 @@ use Rattle.doc_search.specs.Matches.{matches_among}
 use Rattle.rule_buckets.specs.Matches.{match_at, ids_of, hits_of}
 use Rattle.row_filter.specs.Holds.{holds}
 use Rattle.facet_counts.specs.FacetView.{FacetView}
+use Rattle.facet_counts.specs.declared.rows.CountRow.{CountRow}
+use Rattle.search_base.specs.declared.document.PathId.{PathId}
+use Rattle.search_base.specs.Trying.{◌>>◌}
+use Rattle.search_settings.specs.Rules.{path_named}
+use Rattle.search_settings.specs.SearchFaults.{facet_search_fault}
+use Rattle.index_core.specs.FacetHits.{facet_found, facet_hits, hits_under}
 use Rattle.facet_counts.specs.Counts.{counted}
-use Rattle.search_call.specs.SearchView.{SearchView}
+use Rattle.search_call.specs.SearchView.{SearchView, FacetCallView}
 use Rattle.search_call.specs.Windows.{offset_of}
 use Rattle.doc_store.specs.Store.{Row, row_at}
 use Rattle.doc_store.specs.Sound.{IsSound}
@@ -139,7 +145,7 @@ match-costs passing graph rules rows = by (passing rows) (cost_of rows.places gr
     by true (Some n) = refl
 
 -- and so are the rows that are counted
-rows-same : (index : Index) (call : SearchView) (passing : RowsView → Bool) (graph : GraphView) (rules : List Rule) → IsAsked index call passing graph rules → (rows : List Row)
+pub rows-same : (index : Index) (call : SearchView) (passing : RowsView → Bool) (graph : GraphView) (rules : List Rule) → IsAsked index call passing graph rules → (rows : List Row)
     → rows_matching passing graph (documents_of index.store.paths (uses_in index) rows) ≡ map (λ m. rows_in index m.row.document) (filter_map (match_of index call) rows)
 rows-same index call passing graph rules is [] = refl
 rows-same index call passing graph rules is (r ∷ rows) =
@@ -232,3 +238,10 @@ finds index call passing graph rules start end bound total ids facets sound is s
         → option_map (λ _. map (counted index.settings.max_values_per_facet (rows_of_matches index call)) (paths_asked index.settings index.store.paths names)) names ≡ option_map (counts_of index call) names
     facets-are None = refl
     facets-are (Some names) = refl
+
+-- ---- values that are searched
+
+pub values-found : (index : Index) (call : FacetCallView) (path : Option PathId) (rows : List CountRow) → facet_search_fault index.settings call ≡ None
+    → path_named index.store.paths call.name ≡ path → hits_under index call path ≡ rows → facet_found index call ≡ Ok rows
+values-found index call path rows none named same =
+    ap (λ o. o >> Ok (facet_hits index call)) none ∙ ap (λ p. Ok (hits_under index call p)) named ∙ ap Ok same

@@ -1,6 +1,7 @@
 -- An index: what a search finds in it.
 pub mod Matching
 pub mod Found
+pub mod FacetHits
 pub mod Fetches
 pub mod Opened
 pub mod Laws

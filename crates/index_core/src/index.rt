@@ -18,7 +18,9 @@ ghost use Rattle.index_changes.specs.Fetches.{needed};
 ghost use Rattle.index_core.specs.Fetches.{hits_needed};
 ghost use Rattle.search_call.specs.Windows.{offset_of};
 ghost use Rattle.index_core.specs.Found.{found, most_hits, window_size, window_end as end_of_window};
-ghost use Rattle.index_core.specs.Matching.{matching, rules_in};
+ghost use Rattle.index_core.specs.Matching.{matching, rules_in, uses_in};
+ghost use Rattle.index_core.specs.FacetHits.{facet_found, hits_at};
+ghost use Rattle.doc_search.specs.Searched.{documents_in as documents_searched};
 ghost use Rattle.bucket_sort.specs.Opens.{log_state, Opens, is_starved};
 ghost use Rattle.index_core.specs.Opened.{opened, opened_in, most_opened};
 ghost use Rattle.index_core.specs.Ranking.{IsRankingOf};
@@ -28,11 +30,13 @@ use crate::call::{Hit, Listing, SearchResult};
 use crate::findings::{Findings, if_asked};
 use crate::ranking::{Ranking, costs_of};
 use crate::read::read;
+use crate::values::values_asked;
 use bucket_sort::BucketLog;
 use doc_index::clear_documents;
-use doc_search::{AskedCounts, IndexedDocuments, Search, search_documents};
+use doc_search::{AskedCounts, IndexedDocuments, Search, facet_values, search_documents};
 use doc_store::DocStore;
 use doc_values::{ChangeKind, DocumentText};
+use facet_counts::CountRow;
 use index_changes::{
     CoreFault, KeptRows, Plan, Work, image_of, index_of_store, keeping_key, no_work,
     patch_settings, planned_patch, planned_replace, planned_update, remove_named,
@@ -42,11 +46,11 @@ use index_image::ImageIndex;
 use index_settings::Settings;
 use row_index::RowIndex;
 use rule_buckets::HitWindow;
-use search_base::{DocId, NoMemory, Steps, Word};
-use search_call::SearchCall;
+use search_base::{DocId, NoMemory, PathId, Steps, Word};
+use search_call::{FacetCall, SearchCall};
 use search_settings::{
-    QueryWords, SearchFault, asked_paths, check_search, ranks_are_low, rules_of, window_end,
-    window_start,
+    QueryWords, SearchFault, asked_paths, check_facet_search, check_search, path_named,
+    ranks_are_low, rules_of, window_end, window_start,
 };
 use std::alloc::Global;
 use std::marker::Model;
@@ -274,12 +278,21 @@ impl IndexCore {
         ensures { IfOk result (λ ranking. IsRankingOf ranking self.now call.now) }
     {
         let paths = self.store.paths();
-        ranks_are_low(&self.settings, paths);
         Ok(Ranking {
             uses: self.kept.uses.as_slice(),
-            query: self.words.query(alloc, call)?,
+            query: self.words.query(alloc, &call.q, call.strategy)?,
             rules: rules_of(alloc, &self.settings, paths, &call.sort)?,
         })
+    }
+
+    // The documents with their rows, as they are searched.
+    fn documents(&self, alloc: Global) -> Result<IndexedDocuments<'_>, NoMemory>
+        ensures { IfOk result (λ documents. documents ≡ documents_searched self.now.store (uses_in self.now)) }
+    {
+        ranks_are_low(&self.settings, self.store.paths());
+        let uses = self.kept.uses.as_slice();
+        let documents = IndexedDocuments::new(alloc, &self.store, &self.kept.rows, uses)?;
+        Ok(documents)
     }
 
     // Finds the hits of a search, and counts matches and values. No document is read.
@@ -315,7 +328,7 @@ impl IndexCore {
                 most: self.settings.max_values_per_facet(),
             },
         };
-        let documents = IndexedDocuments::new(alloc, &self.store, &self.kept.rows, ranking.uses)?;
+        let documents = self.documents(alloc)?;
         let found = search_documents(alloc, &documents, search, log, openings)?;
         Ok(Findings {
             ids: found.hits,
@@ -371,6 +384,47 @@ impl IndexCore {
             None
         };
         Ok(Some(Hit { document, costs }))
+    }
+
+    /// The values of an attribute that documents have which match a search, in the order of their bytes: of each the
+    /// spelling of its first leaf and the number of these documents that have it. Where the call has a query, they are
+    /// those whose normal form begins as the normal form of the query. Of them the first are given, as many as the
+    /// settings let a search tell of an attribute. An attribute that is no path of the registry has none.
+    ///
+    /// Refused is a call that filters by an attribute that may not be filtered by (`NotFilterable`, which names the
+    /// first such), and then one whose own attribute may not be filtered by (`NotFacet`). Reads no document, and opens
+    /// no bucket.
+    pub fn facet_search(
+        &self,
+        alloc: Global,
+        call: &FacetCall,
+    ) -> Result<Vec<CountRow>, SearchFault>
+        ensures { Gives (λ rows. rows.items) result (facet_found self.now call.now) }
+    {
+        check_facet_search(alloc, &self.settings, call)?;
+        match path_named(self.store.paths(), &call.name) {
+            Some(path) => {
+                let rows = self.values(alloc, call, path)?;
+                Ok(rows)
+            }
+            None => Ok(Vec::new(alloc)),
+        }
+    }
+
+    // The values at a path that a search of values asks for.
+    fn values(
+        &self,
+        alloc: Global,
+        call: &FacetCall,
+        path: PathId,
+    ) -> Result<Vec<CountRow>, NoMemory>
+        ensures { IfOk result (λ rows. rows.items ≡ hits_at self.now call.now path) }
+    {
+        let query = self.words.query(alloc, &call.q, call.strategy)?;
+        let asked = values_asked(alloc, call, path, self.settings.max_values_per_facet())?;
+        let documents = self.documents(alloc)?;
+        let rows = facet_values(alloc, &documents, &query, &call.filter, &asked)?;
+        Ok(rows)
     }
 
     /// The document with an external id. Reads that document once, and none where there is none. Takes no memory.

@@ -17,7 +17,8 @@ struct Fetch;
 
 struct Opened;
 
-const FILMS: &str = r#"[{"id":1,"title":"The Dark Knight","year":2008,"genres":["Action","Drama"]},
+pub(crate) const FILMS: &str =
+    r#"[{"id":1,"title":"The Dark Knight","year":2008,"genres":["Action","Drama"]},
 {"id":2,"title":"Dark Knight Rises","year":2012,"genres":["Action"]},
 {"id":3,"title":"Knight of the Dark","year":1999},
 {"id":4,"title":"Darkness","year":2002,"genres":["drama"]}]"#;
@@ -32,7 +33,7 @@ fn documents(rt: &impl Abort, alloc: Global, body: &str) -> Vec<DocumentText> {
     texts
 }
 
-fn change(rt: &impl Abort, alloc: Global, index: &mut IndexCore, kind: ChangeKind)
+pub(crate) fn change(rt: &impl Abort, alloc: Global, index: &mut IndexCore, kind: ChangeKind)
     requires { HasKey (kind_view kind) }
 {
     let mut fetches = Steps::<Fetch>::new();
@@ -41,7 +42,7 @@ fn change(rt: &impl Abort, alloc: Global, index: &mut IndexCore, kind: ChangeKin
 }
 
 // An index with the documents of a body.
-fn filled(rt: &impl Abort, alloc: Global, body: &str) -> IndexCore {
+pub(crate) fn filled(rt: &impl Abort, alloc: Global, body: &str) -> IndexCore {
     let mut index = IndexCore::new(alloc).expect(rt, "memory");
     let documents = documents(rt, alloc, body);
     let key = None;

@@ -1,4 +1,4 @@
-//! Tests of what a search of an index opens.
+//! Tests of what a search of an index opens, and of which values a search of values finds.
 //!
 //! They use what these crates offer to others, and stand in a crate of their own, so that the crates they try are proved
 //! once and not twice. The crate has nothing but tests, and promises nothing.
@@ -8,3 +8,5 @@
 mod checks;
 #[cfg(test)]
 mod index;
+#[cfg(test)]
+mod values;

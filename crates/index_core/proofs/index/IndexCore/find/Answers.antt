@@ -10,14 +10,13 @@ use Rattle.row_filter.specs.Holds.{holds}
 use Rattle.facet_counts.specs.Counts.{counted}
 use Rattle.doc_index.specs.Documents.{documents_of}
 use Rattle.doc_search.specs.Matched.{rows_matching}
-use Rattle.doc_search.specs.Searched.{DocumentsView}
+use Rattle.doc_search.specs.Searched.{DocumentsView, documents_in}
 use Rattle.doc_search.specs.Matches.{matches_among, opened}
 use Rattle.bucket_sort.specs.Opens.{log_state}
 use Rattle.bucket_sort.proofs.StepLemmas.{on-err}
 use Rattle.rule_buckets.proofs.OpenLemmas.{opens-nothing, opens-at_most, opens-same as opens-as}
 use Rattle.index_core.specs.Opened.{opened_in}
 use Rattle.rule_buckets.specs.Matches.{ids_of, hits_of}
-use Rattle.row_index.specs.Standing.{StandsFor}
 use Rattle.index_changes.specs.Index.{Index}
 use Rattle.index_core.specs.Found.{most_hits, window_end}
 use Rattle.search_settings.specs.Asked.{paths_asked}
@@ -33,18 +32,6 @@ pub asked_paths-requires : goal.asked_paths-requires
 asked_paths-requires g c =
     let most = c.self.invariant.rows.sound.paths_within in
     omega (arith, ap length c.paths.ensures)
-
-pub new-requires-clause-sound : goal.new-requires-clause-sound
-new-requires-clause-sound g c = c.self.invariant.rows.sound
-
-pub new-requires-clause-ranks : goal.new-requires-clause-ranks
-new-requires-clause-ranks g c = c.requires.below
-
-pub new-requires-clause-stands : goal.new-requires-clause-stands
-new-requires-clause-stands g c =
-    let index : Index = record { key = c.self.inside.key; store = c.self.inside.store.content; settings = c.self.inside.settings } in
-    let is : IsRankingOf c.args.ranking.now index c.args.call.now = subst (λ (i : Index). IsRankingOf c.args.ranking.now i c.args.call.now) (sym c.self.view_is) c.requires in
-    subst (λ uses. StandsFor c.self.inside.kept.rows (documents_of index.store.paths uses index.store.rows)) (sym is.uses) c.self.invariant.rows.stands
 
 pub search_documents-requires : goal.search_documents-requires
 search_documents-requires g c = c.requires.graph
@@ -62,8 +49,7 @@ returns-clause-found g c =
     let rules = c.as_slice.result.now in
     let paths = index.store.paths in
     let rows = index.store.rows in
-    let uses = is.uses in
-    let documents = c.in_ok-documents.ensures in
+    let documents = c.in_ok-documents.ensures ∙ ap (λ (i : Index). documents_in i.store (uses_in i)) (sym c.self.view_is) in
     let asked : IsAsked index call passing graph rules = record {
       filter = λ rows. ap (λ (v : SearchView). holds paths rows v.filter) seen;
       query = is.costs;
@@ -76,7 +62,6 @@ returns-clause-found g c =
     c.if_asked.ensures ∙ ap (λ xs. option_map (λ _. xs) call.facets)
     (c.in_ok-found.ensures.facets
     ∙ ap (λ (d : DocumentsView). map (counted c.max_values_per_facet.result (rows_matching (λ rows. holds d.paths rows filter) graph d.documents)) c.in_ok-attributes.attributes.items) documents
-    ∙ ap (λ us. map (counted c.max_values_per_facet.result (rows_matching passing graph (documents_of paths us rows))) c.in_ok-attributes.attributes.items) uses
     ∙ ap₂ (λ n fs. map (counted n (rows_matching passing graph (documents_of paths (uses_in index) rows))) fs) c.max_values_per_facet.ensures.number (c.in_ok-attributes.ensures ∙ ap (λ ps. paths_asked index.settings ps call.facets) c.paths.ensures)) in
     let found = finds index call passing graph rules c.window_start-offset.result c.window_end.result (2 ^ 64 - 1) c.min.result (map (λ (id : DocId). id.0) c.in_ok-found.found.hits.items) (option_map (λ facets. facets.items) c.if_asked.result)
     c.self.invariant.rows.sound asked
@@ -85,10 +70,9 @@ returns-clause-found g c =
     le
     (c.in_ok-found.ensures.hits
     ∙ ap (λ (d : DocumentsView). ids_of (hits_of (matches_among (λ rows. holds d.paths rows filter) graph rules d.documents) c.window_start-offset.result c.saturating_sub-limit.result)) documents
-    ∙ ap₂ (λ us n. ids_of (hits_of (matches_among passing graph rules (documents_of paths us rows)) c.window_start-offset.result n)) uses c.saturating_sub-limit.ensures)
+    ∙ ap (λ n. ids_of (hits_of (matches_among passing graph rules (documents_of paths (uses_in index) rows)) c.window_start-offset.result n)) c.saturating_sub-limit.ensures)
     (c.min.ensures ∙ ap (λ n. min n c.max_total_hits-most.result) (c.in_ok-found.ensures.total
-    ∙ ap (λ (d : DocumentsView). length (matches_among (λ rows. holds d.paths rows filter) graph rules d.documents)) documents
-    ∙ ap (λ us. length (matches_among passing graph rules (documents_of paths us rows))) uses)
+    ∙ ap (λ (d : DocumentsView). length (matches_among (λ rows. holds d.paths rows filter) graph rules d.documents)) documents)
     ∙ ap (min (length (matches_among passing graph rules (documents_of paths (uses_in index) rows)))) c.max_total_hits-most.ensures.number)
     counts in
     subst (λ (i : Index). Finds i call (map (λ (id : DocId). id.0) c.in_ok-found.found.hits.items) c.min.result (option_map (λ facets. facets.items) c.if_asked.result)) c.self.view_is found
@@ -112,8 +96,7 @@ returns-in_err-found-clause-starved g c =
     let rules = c.as_slice.result.now in
     let paths = index.store.paths in
     let rows = index.store.rows in
-    let uses = is.uses in
-    let documents = c.in_ok-documents.ensures in
+    let documents = c.in_ok-documents.ensures ∙ ap (λ (i : Index). documents_in i.store (uses_in i)) (sym c.self.view_is) in
     let asked : IsAsked index call passing graph rules = record {
       filter = λ rows. ap (λ (v : SearchView). holds paths rows v.filter) seen;
       query = is.costs;
@@ -123,7 +106,7 @@ returns-in_err-found-clause-starved g c =
     let le : c.window_end.result ≤ 2 ^ 64 - 1 = omega (arith, c.window_end.ensures, most) in
     let same =
     ap (λ (d : DocumentsView). opened (λ rows. holds d.paths rows filter) graph rules d.documents c.window_start-offset.result c.saturating_sub-limit.result) documents
-    ∙ ap₂ (λ us n. opened passing graph rules (documents_of paths us rows) c.window_start-offset.result n) uses c.saturating_sub-limit.ensures
+    ∙ ap (λ n. opened passing graph rules (documents_of paths (uses_in index) rows) c.window_start-offset.result n) c.saturating_sub-limit.ensures
     ∙ opens-same index call passing graph rules asked c.window_start-offset.result c.window_end.result (2 ^ 64 - 1) c.self.invariant.rows.sound
     (c.window_start-offset.ensures ∙ ap (λ (v : SearchView). min (offset_of v.window) (2 ^ 64 - 1)) seen)
     (c.window_end.ensures ∙ ap (min (offset_of c.call.inside.window + limit_of c.call.inside.window)) c.max_total_hits-most.ensures.number ∙ ap (window_end index.settings.max_total_hits) seen)
@@ -146,8 +129,7 @@ returns-clause-opens g c =
     let rules = c.as_slice.result.now in
     let paths = index.store.paths in
     let rows = index.store.rows in
-    let uses = is.uses in
-    let documents = c.in_ok-documents.ensures in
+    let documents = c.in_ok-documents.ensures ∙ ap (λ (i : Index). documents_in i.store (uses_in i)) (sym c.self.view_is) in
     let asked : IsAsked index call passing graph rules = record {
       filter = λ rows. ap (λ (v : SearchView). holds paths rows v.filter) seen;
       query = is.costs;
@@ -157,7 +139,7 @@ returns-clause-opens g c =
     let le : c.window_end.result ≤ 2 ^ 64 - 1 = omega (arith, c.window_end.ensures, most) in
     let same =
     ap (λ (d : DocumentsView). opened (λ rows. holds d.paths rows filter) graph rules d.documents c.window_start-offset.result c.saturating_sub-limit.result) documents
-    ∙ ap₂ (λ us n. opened passing graph rules (documents_of paths us rows) c.window_start-offset.result n) uses c.saturating_sub-limit.ensures
+    ∙ ap (λ n. opened passing graph rules (documents_of paths (uses_in index) rows) c.window_start-offset.result n) c.saturating_sub-limit.ensures
     ∙ opens-same index call passing graph rules asked c.window_start-offset.result c.window_end.result (2 ^ 64 - 1) c.self.invariant.rows.sound
     (c.window_start-offset.ensures ∙ ap (λ (v : SearchView). min (offset_of v.window) (2 ^ 64 - 1)) seen)
     (c.window_end.ensures ∙ ap (min (offset_of c.call.inside.window + limit_of c.call.inside.window)) c.max_total_hits-most.ensures.number ∙ ap (window_end index.settings.max_total_hits) seen)
@@ -180,8 +162,7 @@ returns-in_err-found-clause-few g c =
     let rules = c.as_slice.result.now in
     let paths = index.store.paths in
     let rows = index.store.rows in
-    let uses = is.uses in
-    let documents = c.in_ok-documents.ensures in
+    let documents = c.in_ok-documents.ensures ∙ ap (λ (i : Index). documents_in i.store (uses_in i)) (sym c.self.view_is) in
     let asked : IsAsked index call passing graph rules = record {
       filter = λ rows. ap (λ (v : SearchView). holds paths rows v.filter) seen;
       query = is.costs;
@@ -191,7 +172,7 @@ returns-in_err-found-clause-few g c =
     let le : c.window_end.result ≤ 2 ^ 64 - 1 = omega (arith, c.window_end.ensures, most) in
     let same =
     ap (λ (d : DocumentsView). opened (λ rows. holds d.paths rows filter) graph rules d.documents c.window_start-offset.result c.saturating_sub-limit.result) documents
-    ∙ ap₂ (λ us n. opened passing graph rules (documents_of paths us rows) c.window_start-offset.result n) uses c.saturating_sub-limit.ensures
+    ∙ ap (λ n. opened passing graph rules (documents_of paths (uses_in index) rows) c.window_start-offset.result n) c.saturating_sub-limit.ensures
     ∙ opens-same index call passing graph rules asked c.window_start-offset.result c.window_end.result (2 ^ 64 - 1) c.self.invariant.rows.sound
     (c.window_start-offset.ensures ∙ ap (λ (v : SearchView). min (offset_of v.window) (2 ^ 64 - 1)) seen)
     (c.window_end.ensures ∙ ap (min (offset_of c.call.inside.window + limit_of c.call.inside.window)) c.max_total_hits-most.ensures.number ∙ ap (window_end index.settings.max_total_hits) seen)
@@ -217,8 +198,7 @@ returns-clause-few g c =
     let rules = c.as_slice.result.now in
     let paths = index.store.paths in
     let rows = index.store.rows in
-    let uses = is.uses in
-    let documents = c.in_ok-documents.ensures in
+    let documents = c.in_ok-documents.ensures ∙ ap (λ (i : Index). documents_in i.store (uses_in i)) (sym c.self.view_is) in
     let asked : IsAsked index call passing graph rules = record {
       filter = λ rows. ap (λ (v : SearchView). holds paths rows v.filter) seen;
       query = is.costs;
@@ -228,7 +208,7 @@ returns-clause-few g c =
     let le : c.window_end.result ≤ 2 ^ 64 - 1 = omega (arith, c.window_end.ensures, most) in
     let same =
     ap (λ (d : DocumentsView). opened (λ rows. holds d.paths rows filter) graph rules d.documents c.window_start-offset.result c.saturating_sub-limit.result) documents
-    ∙ ap₂ (λ us n. opened passing graph rules (documents_of paths us rows) c.window_start-offset.result n) uses c.saturating_sub-limit.ensures
+    ∙ ap (λ n. opened passing graph rules (documents_of paths (uses_in index) rows) c.window_start-offset.result n) c.saturating_sub-limit.ensures
     ∙ opens-same index call passing graph rules asked c.window_start-offset.result c.window_end.result (2 ^ 64 - 1) c.self.invariant.rows.sound
     (c.window_start-offset.ensures ∙ ap (λ (v : SearchView). min (offset_of v.window) (2 ^ 64 - 1)) seen)
     (c.window_end.ensures ∙ ap (min (offset_of c.call.inside.window + limit_of c.call.inside.window)) c.max_total_hits-most.ensures.number ∙ ap (window_end index.settings.max_total_hits) seen)

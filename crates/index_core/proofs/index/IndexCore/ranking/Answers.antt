@@ -1,18 +1,14 @@
-use Rattle.std.proofs.Common.{◌≡◌, length, ap, subst, sym, ◌∙◌, arith}
-use Rattle.doc_search.specs.Ranked.{RankedBelow}
+use Rattle.std.proofs.Common.{◌≡◌, length, ap, subst, ◌∙◌, arith}
+use Rattle.search_base.specs.Query.{tuple_under}
+use Rattle.search_base.specs.Terms.{terms_of, terms_under, HaveSame}
 use Rattle.search_call.specs.SearchView.{SearchView}
 use Rattle.index_core.specs.declared.ranking.Ranking.{Ranking}
 use Rattle.index_changes.specs.Index.{Index}
-use Rattle.index_core.specs.Matching.{rules_in}
+use Rattle.index_core.specs.Matching.{query_in, rules_in}
 use Rattle.search_settings.specs.Uses.{uses_from}
 use Rattle.index_core.specs.Ranking.{IsRankingOf}
 use Rattle.search_settings.specs.Rules.{rules_with}
 use Rattle.index_core.proofs.index.IndexCore.ranking.Goals as goal
-
-pub ranks_are_low-requires : goal.ranks_are_low-requires
-ranks_are_low-requires c =
-    let most = c.self.invariant.rows.sound.paths_within in
-    omega (arith, ap length c.paths-paths.ensures)
 
 pub rules_of-requires : goal.rules_of-requires
 rules_of-requires c =
@@ -27,10 +23,12 @@ returns c =
     let ranking : Ranking = record { uses = c.as_slice.result; query = c.in_ok-query.field-0; rules = c.in_ok-rules_of.field-0 } in
     subst (λ (i : Index). IsRankingOf ranking i call) c.self.view_is (record {
       uses = used;
-      below = subst (RankedBelow 65535) (sym (used ∙ ap (uses_from index.settings 0) (sym c.paths-paths.ensures))) c.ranks_are_low.ensures;
       graph = c.in_ok-query.ensures.sound;
-      costs = λ rows. c.in_ok-query.ensures.costs index.settings c.self.invariant.words rows (rules_in index call);
-      terms = c.in_ok-query.ensures.terms index.settings c.self.invariant.words;
+      costs = λ rows.
+          c.in_ok-query.ensures.costs index.settings c.self.invariant.words rows (rules_in index call)
+          ∙ ap (λ (v : SearchView). tuple_under rows (query_in index v) (rules_in index call)) c.call.view_is;
+      terms = subst (λ (v : SearchView). HaveSame (terms_of ranking.query) (terms_under (query_in index v))) c.call.view_is
+          (c.in_ok-query.ensures.terms index.settings c.self.invariant.words);
       rules =
           c.in_ok-rules_of.ensures ∙ ap (λ ps. rules_with index.settings ps c.deref.result.now) c.paths-paths.ensures
           ∙ ap (rules_with index.settings index.store.paths) (c.deref.ensures.value ∙ ap (λ (v : SearchView). v.sort) c.call.view_is);
