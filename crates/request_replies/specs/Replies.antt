@@ -1,15 +1,17 @@
 -- The replies to calls that are not refused.
-use Rattle.std.specs.Prelude.{ℕ, List, map, codes, Option, Some, None, ◌==◌, if◌then◌else◌}
+use Rattle.std.specs.Prelude.{ℕ, List, [], ◌∷◌, ◌++◌, map, Bool, true, codes, Option, Some, None, ◌==◌, if◌then◌else◌}
 use Rattle.std.specs.Int.{div_ceil}
-use Rattle.serde_json.specs.Data.{Data, null, number, unsigned, string, array, object, Members, member, no_members}
+use Rattle.serde_json.specs.Data.{Data, null, number, unsigned, string, array, object, Members, member, no_members, put}
 use Rattle.serde_json.specs.View.{items_of}
-use Rattle.serde_json.specs.Written.{compact_text}
+use Rattle.serde_json.specs.Written.{compact_text, comma_if}
 use Rattle.http_wire.specs.Reply.{Answer}
 use Rattle.index_settings.specs.View.{SettingsView}
 use Rattle.index_settings.specs.Json.{settings_data}
 use Rattle.search_call.specs.SearchView.{SearchView}
 use Rattle.search_call.specs.declared.Window.{Window}
 use Rattle.search_call.specs.declared.Window.TheVariants.{Slice, Page}
+use Rattle.doc_values.specs.Walk.{members_in}
+use Rattle.facet_counts.specs.declared.rows.CountRow.{CountRow}
 use Rattle.facet_counts.specs.FacetView.{FacetView}
 use Rattle.request_replies.specs.Shown.{shown, all_shown, HitView, hit_shown}
 use Rattle.request_replies.specs.Facets.{facet_members}
@@ -107,9 +109,40 @@ hits_data q (Page page per) total facets hits =
     (member (codes "totalPages") (count (total_pages total per)) no_members)))))))
 
 -- a hit shows the members that both the displayed names and the search name
+abbrev pub found_data : List (List ℕ) → SearchView → ℕ → List HitView → Option (List FacetView) → Data
+found_data displayed call total found facets =
+    hits_data call.q call.window total facets (map (hit_shown displayed call.retrieve) found)
+
 abbrev pub hits : List (List ℕ) → SearchView → ℕ → List HitView → Option (List FacetView) → Answer
-hits displayed call total found facets =
-    answer 200 (hits_data call.q call.window total facets (map (hit_shown displayed call.retrieve) found))
+hits displayed call total found facets = answer 200 (found_data displayed call total found facets)
+
+-- ---- several searches
+
+-- what a search finds, with the uid of its index among the other members in byte order
+abbrev pub with_uid : List ℕ → Data → Data
+with_uid uid d = object (put (codes "indexUid") (string uid) (members_in d))
+
+abbrev pub results_data : List Data → Data
+results_data ds = object (member (codes "results") (array (items_of ds)) no_members)
+
+-- what each search finds, in the order of the searches
+abbrev pub results : List Data → Answer
+results ds = answer 200 (results_data ds)
+
+-- ---- a search of the values of an attribute
+
+-- a value as it is spelled, and how many documents have it
+abbrev pub facet_hit : CountRow → Data
+facet_hit row = object (member (codes "count") (count row.count) (member (codes "value") (string row.shown) no_members))
+
+abbrev pub facet_hits_data : Option (List ℕ) → List CountRow → Data
+facet_hits_data query rows =
+    object (member (codes "facetHits") (array (items_of (map facet_hit rows)))
+    (member (codes "facetQuery") (text_or_null query) no_members))
+
+-- the values that are found by this text, if by one
+abbrev pub facet_hits : Option (List ℕ) → List CountRow → Answer
+facet_hits query rows = answer 200 (facet_hits_data query rows)
 
 -- ---- as the code does it
 
@@ -118,15 +151,32 @@ abbrev pub with_estimate : Window → ℕ → Members → Members
 with_estimate (Slice offset limit) total ms = member (codes "estimatedTotalHits") (count total) ms
 with_estimate (Page page per) total ms = ms
 
+-- the uid of the index before other members, where it is shown
+abbrev pub with_index : Option (List ℕ) → Members → Members
+with_index None ms = ms
+with_index (Some uid) ms = member (codes "indexUid") (string uid) ms
+
 -- what stands behind the hits
-abbrev pub window_members : List ℕ → Window → ℕ → Members
-window_members q (Slice offset limit) total =
-    member (codes "limit") (count limit)
+abbrev pub window_members : Option (List ℕ) → List ℕ → Window → ℕ → Members
+window_members uid q (Slice offset limit) total =
+    with_index uid
+    (member (codes "limit") (count limit)
     (member (codes "offset") (count offset)
-    (member (codes "query") (string q) no_members))
-window_members q (Page page per) total =
+    (member (codes "query") (string q) no_members)))
+window_members uid q (Page page per) total =
     member (codes "hitsPerPage") (count per)
+    (with_index uid
     (member (codes "page") (count page)
     (member (codes "query") (string q)
     (member (codes "totalHits") (count total)
-    (member (codes "totalPages") (count (total_pages total per)) no_members))))
+    (member (codes "totalPages") (count (total_pages total per)) no_members)))))
+
+-- texts that stand in a list, behind others or not, and its end
+abbrev pub joined : Bool → List (List ℕ) → List ℕ
+joined later [] = 93 ∷ []
+joined later (text ∷ texts) = comma_if later ++ (text ++ joined true texts)
+
+-- what a search finds, with the uid of its index, where it is shown
+abbrev pub shown_with : Option (List ℕ) → Data → Data
+shown_with None d = d
+shown_with (Some uid) d = with_uid uid d

@@ -1,44 +1,64 @@
-// The body of a search's reply.
-ghost use Rattle.std.specs.Prelude.{◌≡◌, ◌++◌, IfOk, map, string_bytes, false, true};
+// What a search found, as a text.
+ghost use Rattle.std.specs.Prelude.{◌≡◌, ◌++◌, IfOk, OnOk, codes, map, string_bytes, false, true};
 ghost use Rattle.std.specs.Option.{option_copied};
-ghost use Rattle.serde_json.specs.Data.{Members};
+ghost use Rattle.serde_json.specs.Data.{Members, member, array};
+ghost use Rattle.serde_json.specs.View.{items_of};
 ghost use Rattle.serde_json.specs.Written.{compact_text, members_text};
+ghost use Rattle.request_replies.specs.Facets.{facet_members};
 ghost use Rattle.request_replies.specs.Names.{shows};
 ghost use Rattle.request_replies.specs.Shown.{view_of, hit_by};
-ghost use Rattle.request_replies.specs.Replies.{hits_data, total_pages as total_pages_of, with_estimate, window_members};
+ghost use Rattle.request_replies.specs.Replies.{found_data, shown_with, total_pages as total_pages_of, with_estimate, with_index, window_members};
 
 use crate::facets::put_facets;
-use crate::hit::Hit;
+use crate::hit::Found;
 use crate::names::Names;
 use crate::shown::put_hits;
 use crate::text::{put_comma, quoted_text};
-use facet_counts::FacetReply;
-use search_base::NoMemory;
-use search_call::Window;
+use search_base::{NoMemory, Word};
+use search_call::{SearchCall, Window};
 use std::alloc::Global;
 
-/// The body of a search's reply, with its hits by the members that `names` shows.
-pub(crate) fn hits_text(
+/// What a search found, with its hits by the displayed members that the call asks for, and with the uid of its index,
+/// where that is shown.
+pub(crate) fn found_text(
     alloc: Global,
-    q: &str,
-    window: Window,
-    names: &Names,
-    total: u64,
-    hits: &[Hit],
-    facets: Option<&[FacetReply]>,
+    uid: Option<&str>,
+    call: &SearchCall,
+    displayed: &[Word],
+    found: Found,
 ) -> Result<String, NoMemory>
-    ensures { IfOk result (λ text. string_bytes text ≡ compact_text (hits_data q.now window total
-        (option_copied facets.entry) (map (hit_by (shows names.now)) (map view_of hits.now)))) }
+    ensures { IfOk result (λ text. string_bytes text ≡ compact_text (shown_with (option_copied uid.entry)
+        (found_data displayed.now call.now found.entry.total (map view_of found.entry.hits.now)
+        (option_copied found.entry.facets)))) }
 {
+    let names = Names::common(alloc, displayed, &call.retrieve)?;
     let mut text = String::from_str(alloc, "{")?;
-    let later = put_estimate(alloc, &mut text, window, total)?;
-    let later = put_facets(alloc, &mut text, later, facets)?;
-    put_comma(&mut text, later)?;
-    text.push_str("\"hits\":")?;
-    put_hits(alloc, &mut text, names, hits)?;
-    let rest = window_text(alloc, q, window, total)?;
+    put_found(alloc, &mut text, call.window, &names, found)?;
+    let rest = window_text(alloc, uid, call.q.as_str(), call.window, found.total)?;
     text.push_str(&rest)?;
     Ok(text)
+}
+
+// Puts what stands before the window: the number of hits in all, where it stands at the front, the counts, and the hits
+// by the members that `names` shows.
+fn put_found(
+    alloc: Global,
+    text: &mut String,
+    window: Window,
+    names: &Names,
+    found: Found,
+) -> Result<(), NoMemory>
+    ensures { OnOk result ((rest : Members) → string_bytes text.new ++ members_text true rest
+        ≡ string_bytes text.old ++ members_text false (with_estimate window found.entry.total
+        (facet_members (option_copied found.entry.facets) (member (codes "hits")
+        (array (items_of (map (hit_by (shows names.now)) (map view_of found.entry.hits.now)))) rest)))) }
+{
+    let later = put_estimate(alloc, text, window, found.total)?;
+    let later = put_facets(alloc, text, later, found.facets)?;
+    put_comma(text, later)?;
+    text.push_str("\"hits\":")?;
+    put_hits(alloc, text, names, found.hits)?;
+    Ok(())
 }
 
 // Puts the number of hits in all, where it stands at the front. Says whether something stands there now.
@@ -63,20 +83,43 @@ fn put_estimate(
 }
 
 // What stands behind the hits, with the end of the object.
-fn window_text(alloc: Global, q: &str, window: Window, total: u64) -> Result<String, NoMemory>
-    ensures { IfOk result (λ text. string_bytes text ≡ members_text true (window_members q.now window total)) }
+fn window_text(
+    alloc: Global,
+    uid: Option<&str>,
+    q: &str,
+    window: Window,
+    total: u64,
+) -> Result<String, NoMemory>
+    ensures { IfOk result (λ text. string_bytes text
+        ≡ members_text true (window_members (option_copied uid.entry) q.now window total)) }
 {
+    let index = index_text(alloc, uid)?;
     let q = quoted_text(alloc, q)?;
     match window {
         Window::Slice { offset, limit } => Ok(format!(in alloc;
-            ",\"limit\":{limit},\"offset\":{offset},\"query\":{q}}}"
+            "{index},\"limit\":{limit},\"offset\":{offset},\"query\":{q}}}"
         )?),
         Window::Page { page, per } => {
             let pages = total_pages(total, per);
             Ok(format!(in alloc;
-                ",\"hitsPerPage\":{per},\"page\":{page},\"query\":{q},\"totalHits\":{total},\"totalPages\":{pages}}}"
+                ",\"hitsPerPage\":{per}{index},\"page\":{page},\"query\":{q},\"totalHits\":{total},\"totalPages\":{}}}",
+                pages
             )?)
         }
+    }
+}
+
+// The member that has the uid of the index, behind others, where it is shown.
+fn index_text(alloc: Global, uid: Option<&str>) -> Result<String, NoMemory>
+    ensures { IfOk result (λ text. (rest : Members) → string_bytes text ++ members_text true rest
+        ≡ members_text true (with_index (option_copied uid.entry) rest)) }
+{
+    match uid {
+        Some(uid) => {
+            let uid = quoted_text(alloc, uid)?;
+            Ok(format!(in alloc; ",\"indexUid\":{uid}")?)
+        }
+        None => Ok(String::new(alloc)),
     }
 }
 

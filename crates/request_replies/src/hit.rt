@@ -1,4 +1,5 @@
 use doc_values::DocumentText;
+use facet_counts::FacetReply;
 use search_base::CostKey;
 
 /// A document that a search found, and the costs by which it stands where it stands, where the hit shows them.
@@ -6,4 +7,12 @@ use search_base::CostKey;
 pub struct Hit<'a> {
     pub document: &'a DocumentText,
     pub costs: Option<Vec<CostKey>>,
+}
+
+/// What a search found: the asked ones of so many hits in all, and the counts of values, where there are some.
+#[derive(Clone, Copy)]
+pub struct Found<'a> {
+    pub total: u64,
+    pub hits: &'a [Hit<'a>],
+    pub facets: Option<&'a [FacetReply]>,
 }

@@ -1,18 +1,20 @@
 // The replies to calls that are not refused.
-ghost use Rattle.std.specs.Prelude.{◌≡◌, IfOk, map, string_bytes, false};
+ghost use Rattle.std.specs.Prelude.{◌≡◌, IfOk, List, map, false};
 ghost use Rattle.std.specs.Option.{option_copied};
+ghost use Rattle.serde_json.specs.Data.{Data};
 ghost use Rattle.serde_json.specs.View.{view};
-ghost use Rattle.serde_json.specs.Written.{has_float};
+ghost use Rattle.serde_json.specs.Written.{compact_text, has_float};
 ghost use Rattle.http_wire.specs.Sent.{IsSentAs};
 ghost use Rattle.request_replies.specs.Shown.{view_of};
-ghost use Rattle.request_replies.specs.Replies.{answer, accepted, change_data, health, health_data, index_data, one_index, one_document, list_data, documents_listing, settings as shown_settings, hits as hits_answer};
+ghost use Rattle.request_replies.specs.Replies.{answer, accepted, change_data, health, health_data, index_data, one_index, one_document, list_data, documents_listing, facet_hits, found_data, settings as shown_settings, hits as hits_answer, results as all_results, with_uid};
 
-use crate::found::hits_text;
-use crate::hit::Hit;
-use crate::names::Names;
+use crate::found::found_text;
+use crate::hit::Found;
+use crate::result::ResultText;
+use crate::several::{facet_hits_text, results_text};
 use crate::shown::{listing_text, shown_text};
 use doc_values::DocumentText;
-use facet_counts::FacetReply;
+use facet_counts::CountRow;
 use http::StatusCode;
 use http_wire::{Reply, make_reply};
 use index_settings::{Settings, to_json};
@@ -136,36 +138,53 @@ pub fn document_reply(
     make_reply(alloc, StatusCode::OK, body.into_bytes())
 }
 
-/// The reply to a search, with its hits out of `total`, by the displayed members that the call asks for, and with the
-/// counts of values, where there are some.
+/// The reply to a search, with its hits by the displayed members that the call asks for, and with the counts of values,
+/// where there are some.
 pub fn hits_reply(
     alloc: Global,
     call: &SearchCall,
     displayed: &[Word],
-    total: u64,
-    hits: &[Hit],
-    facets: Option<&[FacetReply]>,
+    found: Found,
 ) -> Result<Reply, NoMemory>
-    ensures { IfOk result (λ reply. IsSentAs reply
-        (hits_answer displayed.now call.now total (map view_of hits.now) (option_copied facets.entry))) }
+    ensures { IfOk result (λ reply. IsSentAs reply (hits_answer displayed.now call.now found.entry.total
+        (map view_of found.entry.hits.now) (option_copied found.entry.facets))) }
 {
-    let body = body_of_hits(alloc, call, displayed, total, hits, facets)?;
+    let body = found_text(alloc, None, call, displayed, found)?;
     make_reply(alloc, StatusCode::OK, body.into_bytes())
 }
 
-fn body_of_hits(
+/// What one of several searches found, as `hits_reply` shows it, with the uid of its index.
+pub fn result_text(
     alloc: Global,
+    uid: &str,
     call: &SearchCall,
     displayed: &[Word],
-    total: u64,
-    hits: &[Hit],
-    facets: Option<&[FacetReply]>,
-) -> Result<String, NoMemory>
-    ensures { IfOk result (λ text. string_bytes text
-        ≡ (hits_answer displayed.now call.now total (map view_of hits.now) (option_copied facets.entry)).body) }
+    found: Found,
+) -> Result<ResultText, NoMemory>
+    ensures { IfOk result (λ text. text ≡ compact_text (with_uid uid.now (found_data displayed.now call.now
+        found.entry.total (map view_of found.entry.hits.now) (option_copied found.entry.facets)))) }
 {
-    let names = Names::common(alloc, displayed, &call.retrieve)?;
-    let q = call.q.as_str();
-    let text = hits_text(alloc, q, call.window, &names, total, hits, facets)?;
-    Ok(text)
+    let text = found_text(alloc, Some(uid), call, displayed, found)?;
+    Ok(ResultText::new(text))
+}
+
+/// The reply to several searches, by what each of them found, in their order.
+pub fn results_reply(alloc: Global, results: &[ResultText]) -> Result<Reply, NoMemory>
+    ensures { IfOk result (λ reply. (ds : List Data) → results.now ≡ map compact_text ds
+        → IsSentAs reply (all_results ds)) }
+{
+    let body = results_text(alloc, results)?;
+    make_reply(alloc, StatusCode::OK, body.into_bytes())
+}
+
+/// The reply to a search of the values of an attribute, by a text, if by one.
+pub fn facet_hits_reply(
+    alloc: Global,
+    query: Option<&Word>,
+    rows: &[CountRow],
+) -> Result<Reply, NoMemory>
+    ensures { IfOk result (λ reply. IsSentAs reply (facet_hits (option_copied query.entry) rows.now)) }
+{
+    let body = facet_hits_text(alloc, query, rows)?;
+    make_reply(alloc, StatusCode::OK, body.into_bytes())
 }

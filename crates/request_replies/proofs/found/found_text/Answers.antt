@@ -1,0 +1,27 @@
+use Rattle.std.proofs.Common.{◌≡◌, ◌++◌, ℕ, ◌&&◌, true, ◌∙◌, ap, subst, map, string_bytes, List}
+use Rattle.std.specs.Option.{option_copied}
+use Rattle.serde_json.specs.Written.{compact_text, members_text}
+use Rattle.search_call.specs.SearchView.{SearchView}
+use Rattle.request_replies.specs.Shown.{HitView, view_of, is_shown, hit_by}
+use Rattle.request_replies.specs.Replies.{found_data, hits_data, shown_with, window_members}
+use Rattle.request_replies.specs.Names.{shows}
+use Rattle.request_replies.proofs.PrintLemmas.{found_printed}
+use Rattle.request_replies.proofs.ShownLemmas.{hits_alike}
+use Rattle.request_replies.proofs.found.found_text.Goals as goal
+
+pub returns : goal.returns
+returns c =
+    let call = c.call.inside in
+    let uid = option_copied c.args.uid in
+    let total = c.args.found.total in
+    let hits : List HitView = map view_of c.args.found.hits.now in
+    let facets = option_copied c.args.found.facets in
+    let same : (name : List ℕ) → shows c.in_ok-names.names name ≡ (is_shown c.args.displayed.now name && is_shown call.retrieve.items name) =
+    λ name. c.in_ok-names.ensures name ∙ ap (λ v. is_shown c.args.displayed.now name && is_shown v name) c.deref.ensures.value in
+    let Is : SearchView → Type 0 = λ v. string_bytes c.push_str.new.self ≡ compact_text (shown_with uid (found_data c.args.displayed.now v total hits facets)) in
+    subst Is c.call.view_is
+    (found_printed uid call.q call.window total facets (map (hit_by (shows c.in_ok-names.names)) hits) _ _ _ _
+    c.in_ok-text.ensures.ok c.in_ok-put_found.ensures
+    (c.in_ok-rest.ensures ∙ ap (λ q. members_text true (window_members uid q call.window total)) c.as_str.ensures)
+    (c.in_ok-push_str.ensures.bytes ∙ ap (λ v. string_bytes c.put_found.new.text ++ v) c.deref-2.ensures)
+    ∙ ap (λ ds. compact_text (shown_with uid (hits_data call.q call.window total facets ds))) (hits_alike (shows c.in_ok-names.names) c.args.displayed.now call.retrieve.items same hits))
