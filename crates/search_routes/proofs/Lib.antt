@@ -7,3 +7,5 @@ pub mod OpenLemmas
 pub mod FitLemmas
 pub mod ImageLemmas
 pub mod RedoLemmas
+pub mod RunLemmas
+pub mod MultiLemmas

@@ -21,9 +21,9 @@ use Rattle.search_base.specs.declared.fault.Fault.{Fault}
 use Rattle.search_base.specs.declared.fault.Fault.TheVariants as fault
 use Rattle.request_calls.specs.declared.call.Call.{Call}
 use Rattle.request_calls.specs.declared.call.Call.TheVariants as call
-use Rattle.request_calls.specs.Asked.{CallData, ReadData, read, read_view, search, write}
+use Rattle.request_calls.specs.Asked.{CallData, MultiData, ReadData, facets, multi, read, read_view, search, write}
 use Rattle.request_calls.specs.Calls.{call_of, IsCall}
-use Rattle.search_base.specs.Gives.{Fails, Checks}
+use Rattle.search_base.specs.Gives.{Fails, Gives, Checks}
 use Rattle.request_refusals.specs.declared.refusal.Refusal.TheVariants.{IndexExists}
 use Rattle.search_base.specs.Trying.{◌>>=◌, ◌>>◌, refuse_if, refused_as}
 use Rattle.index_changes.specs.PlanView.{PlanView}
@@ -32,14 +32,17 @@ use Rattle.index_core.specs.declared.call.Hit.{Hit as HeldFound}
 use Rattle.index_core.specs.Shown.{hit_shown}
 use Rattle.search_routes.specs.Done.{reply_hit, Grows, Steps, Sends, Answers, Answered, Makes, Noted, Performs, held_need, held_most}
 use Rattle.index_core.specs.Found.{Found, found}
+use Rattle.index_core.specs.FacetHits.{facet_found}
+use Rattle.facet_counts.specs.declared.rows.CountRow.{CountRow}
+use Rattle.serde_json.specs.Data.{Data}
 use Rattle.search_settings.specs.declared.refusal.SearchRefusal.{SearchRefusal}
-use Rattle.search_call.specs.SearchView.{SearchView}
+use Rattle.search_call.specs.SearchView.{SearchView, FacetCallView}
 use Rattle.request_replies.specs.Shown.{view_of}
-use Rattle.request_replies.specs.Replies.{accepted}
+use Rattle.request_replies.specs.Replies.{accepted, answer, facet_hits, results}
 use Rattle.search_routes.specs.State.{State, Indexes}
-use Rattle.search_routes.specs.Machine.{Step, id_member_for, core_refusal, with_index, index_after, indexes_after, index_at, index_named, type_of, limits, created, hit_view, hits_answer, search_refusal, changed, filled, emptied, answer_to, outcome, told, is_full, unless_refused, performed, step}
-use Rattle.search_routes.specs.Needs.{needed_fetches}
-use Rattle.search_routes.specs.Openings.{asked_opened, call_opened, opened_by, most_opened_by}
+use Rattle.search_routes.specs.Machine.{Step, id_member_for, core_refusal, with_index, index_after, indexes_after, index_at, index_named, type_of, limits, created, hit_view, facet_refusal, found_shown, results_of, search_refusal, searched, changed, filled, emptied, answer_to, outcome, told, is_full, unless_refused, performed, step}
+use Rattle.search_routes.specs.Needs.{asked_need, needed_fetches}
+use Rattle.search_routes.specs.Openings.{asked_opened, asked_most, call_opened, opened_by, most_opened_by}
 use Rattle.search_routes.proofs.MapLemmas.{set_value-insert}
 
 -- a bind keeps a refusal
@@ -125,17 +128,49 @@ pub hits_seen : (found : List HeldFound) → map view_of (map reply_hit found) �
 hits_seen [] = refl
 hits_seen (hit ∷ found) = ap (λ hits. hit_view (hit_shown hit) ∷ hits) (hits_seen found)
 
--- what a search of an index that is there is answered
-answer_found : (es : Indexes) (uid : List ℕ) (call : SearchView) (i : Index) (r : Result Found SearchRefusal) → index_named uid es ≡ Ok i → found i call ≡ r
-    → answer_to es (search uid call) ≡ (refused_as search_refusal r >>= λ f. Ok (hits_answer call i.settings f))
-answer_found es uid call i r at is =
-    ap (λ r. r >>= λ i. refused_as search_refusal (found i call) >>= λ f. Ok (hits_answer call i.settings f)) at
-    ∙ ap (λ r. refused_as search_refusal r >>= λ f. Ok (hits_answer call i.settings f)) is
+-- what a search of an index that is there shows
+searched_is : (es : Indexes) (uid : List ℕ) (call : SearchView) (i : Index) (f : Found) → index_named uid es ≡ Ok i → found i call ≡ Ok f
+    → searched es uid call ≡ Ok (found_shown call i.settings f)
+searched_is es uid call i f at is =
+    ap (λ r. r >>= λ i. refused_as search_refusal (found i call) >>= λ f. Ok (found_shown call i.settings f)) at
+    ∙ ap (λ r. refused_as search_refusal r >>= λ f. Ok (found_shown call i.settings f)) is
 
--- the reply to a search is what it finds
-pub search_sent : (es : Indexes) (uid : List ℕ) (call : SearchView) (i : Index) (f : Found) (result : Result Reply (Fault Refusal))
-    → index_named uid es ≡ Ok i → found i call ≡ Ok f → Sends (Ok (hits_answer call i.settings f)) result → Sends (answer_to es (search uid call)) result
-search_sent es uid call i f result at is sent = subst (λ a. Sends a result) (sym (answer_found es uid call i (Ok f) at is)) sent
+pub gives_searched : {X : Type 0} (view : X → Data) (es : Indexes) (uid : List ℕ) (call : SearchView) (i : Index) (f : Found) (result : Result X (Fault Refusal))
+    → index_named uid es ≡ Ok i → found i call ≡ Ok f → Gives view result (Ok (found_shown call i.settings f)) → Gives view result (searched es uid call)
+gives_searched view es uid call i f result at is gives = subst (λ a. Gives view result a) (sym (searched_is es uid call i f at is)) gives
+
+-- the reply to a search is what it shows
+pub search_sent : (es : Indexes) (uid : List ℕ) (call : SearchView) (d : Data) (reply : Reply) → searched es uid call ≡ Ok d → IsSentAs reply (answer 200 d)
+    → Sends (answer_to es (search uid call)) (Ok reply)
+search_sent es uid call d reply is sent = (answer 200 d, ap (λ r. r >>= λ d. Ok (answer 200 d)) is, sent)
+
+pub search_fails : (es : Indexes) (uid : List ℕ) (call : SearchView) (f : Fault Refusal) → Fails f (searched es uid call) → Fails f (answer_to es (search uid call))
+search_fails es uid call f fails = fails_bind f (searched es uid call) (λ d. Ok (answer 200 d)) fails
+
+-- ---- several searches
+
+pub multi_sent : (es : Indexes) (calls : List MultiData) (ds : List Data) (reply : Reply) → results_of es calls ≡ Ok ds → IsSentAs reply (results ds)
+    → Sends (answer_to es (multi calls)) (Ok reply)
+multi_sent es calls ds reply is sent = (results ds, ap (λ r. r >>= λ ds. Ok (results ds)) is, sent)
+
+pub multi_fails : (es : Indexes) (calls : List MultiData) (f : Fault Refusal) → Fails f (results_of es calls) → Fails f (answer_to es (multi calls))
+multi_fails es calls f fails = fails_bind f (results_of es calls) (λ ds. Ok (results ds)) fails
+
+-- ---- a search of the values of an attribute
+
+facets_found : (es : Indexes) (uid : List ℕ) (call : FacetCallView) (i : Index) (r : Result (List CountRow) SearchRefusal) → index_named uid es ≡ Ok i → facet_found i call ≡ r
+    → answer_to es (facets uid call) ≡ (refused_as facet_refusal r >>= λ rows. Ok (facet_hits call.query rows))
+facets_found es uid call i r at is =
+    ap (λ r. r >>= λ i. refused_as facet_refusal (facet_found i call) >>= λ rows. Ok (facet_hits call.query rows)) at
+    ∙ ap (λ r. refused_as facet_refusal r >>= λ rows. Ok (facet_hits call.query rows)) is
+
+pub facets_sent : (es : Indexes) (uid : List ℕ) (call : FacetCallView) (i : Index) (rows : List CountRow) (reply : Reply) → index_named uid es ≡ Ok i
+    → facet_found i call ≡ Ok rows → IsSentAs reply (facet_hits call.query rows) → Sends (answer_to es (facets uid call)) (Ok reply)
+facets_sent es uid call i rows reply at is sent = (facet_hits call.query rows, facets_found es uid call i (Ok rows) at is, sent)
+
+pub facets_refused : (es : Indexes) (uid : List ℕ) (call : FacetCallView) (i : Index) (why : SearchRefusal) → index_named uid es ≡ Ok i
+    → facet_found i call ≡ Err why → answer_to es (facets uid call) ≡ Err (facet_refusal why)
+facets_refused es uid call i why at is = facets_found es uid call i (Err why) at is
 
 -- ---- steps
 
@@ -184,13 +219,13 @@ step_made old q (call.Read c) reply new is made = asked_made old (call_of q) (re
 -- what it needs is what the request needs
 pub need_made : (s : State) (q : Request) (call : Call) → IsCall call (call_of q) → held_need s call ≡ needed_fetches s q
 unfolding needed_fetches
-need_made s q (call.Refused given) (r, is, sent) = rw is refl
-need_made s q (call.Write change) is = rw is refl
-need_made s q (call.Read c) is = rw is refl
+need_made s q (call.Refused given) (r, is, sent) = sym (ap (asked_need s) is)
+need_made s q (call.Write change) is = sym (ap (asked_need s) is)
+need_made s q (call.Read c) is = sym (ap (asked_need s) is)
 
 -- and it opens at most as many buckets
 pub most_made : (s : State) (q : Request) (call : Call) → IsCall call (call_of q) → held_most s call ≡ most_opened_by s q
 unfolding most_opened_by
-most_made s q (call.Refused given) (r, is, sent) = rw is refl
-most_made s q (call.Write change) is = rw is refl
-most_made s q (call.Read c) is = rw is refl
+most_made s q (call.Refused given) (r, is, sent) = sym (ap (asked_most s) is)
+most_made s q (call.Write change) is = sym (ap (asked_most s) is)
+most_made s q (call.Read c) is = sym (ap (asked_most s) is)

@@ -8,3 +8,5 @@ pub mod Done
 pub mod Images
 pub mod Redo
 pub mod Laws
+pub mod Several
+pub mod Found

@@ -14,15 +14,16 @@ use Rattle.http_wire.specs.Reply.{Answer}
 use Rattle.index_changes.specs.Index.{Index, empty_index, documents as documents_in, document_under}
 use Rattle.index_changes.specs.Plans.{planned, applied}
 use Rattle.index_core.specs.Found.{Found, FoundHit, found}
+use Rattle.index_core.specs.FacetHits.{facet_found}
 use Rattle.index_changes.specs.declared.refusal.CoreRefusal.{CoreRefusal}
 use Rattle.index_changes.specs.declared.refusal.CoreRefusal.TheVariants as core
 use Rattle.search_settings.specs.declared.refusal.SearchRefusal.{SearchRefusal}
 use Rattle.search_settings.specs.declared.refusal.SearchRefusal.TheVariants as asked
 use Rattle.request_refusals.specs.declared.refusal.Refusal.{Refusal}
-use Rattle.request_refusals.specs.declared.refusal.Refusal.TheVariants.{NoIndex, IndexExists, NoDocument, KeyDiffers, NoCandidate, SeveralCandidates, MissingId, BadId, ChangesSpent, IndexesSpent, IdsSpent, PathsSpent, NoSortRule, NotSortable, NotFilterable, NotFacet}
+use Rattle.request_refusals.specs.declared.refusal.Refusal.TheVariants.{NoIndex, IndexExists, NoDocument, KeyDiffers, NoCandidate, SeveralCandidates, MissingId, BadId, ChangesSpent, IndexesSpent, IdsSpent, PathsSpent, NoSortRule, NotSortable, NotFilterable, NotFacet, InvalidFacetName}
 use Rattle.search_base.specs.Trying.{◌>>=◌, ◌>>◌, first_of, refuse_if, or_refuse, refused_as}
 use Rattle.request_calls.specs.Refusals.{refused}
-use Rattle.request_calls.specs.Asked.{ReadData, health, indexes, index, documents, document, settings, search, CallData, write, read}
+use Rattle.request_calls.specs.Asked.{ReadData, MultiData, health, indexes, index, documents, document, settings, search, multi, facets, CallData, write, read}
 use Rattle.request_calls.specs.Bodies.{settings_refusal}
 use Rattle.request_calls.specs.Calls.{call_of}
 use Rattle.search_routes.specs.State.{State, Indexes}
@@ -198,8 +199,8 @@ abbrev pub hit_view : FoundHit → HitView
 hit_view hit = record { document = hit.document; costs = hit.costs }
 
 -- a hit shows the members that both the settings and the search name
-abbrev pub hits_answer : SearchView → SettingsView → Found → Answer
-hits_answer call s f = replies.hits s.displayed_attributes call f.total (map hit_view f.hits) f.facets
+abbrev pub found_shown : SearchView → SettingsView → Found → Data
+found_shown call s f = replies.found_data s.displayed_attributes call f.total (map hit_view f.hits) f.facets
 
 -- why a search is refused by its index
 abbrev pub search_refusal : SearchRefusal → Refusal
@@ -207,6 +208,34 @@ search_refusal asked.NoSortRule = NoSortRule
 search_refusal (asked.NotSortable attribute) = NotSortable attribute
 search_refusal (asked.NotFilterable attribute) = NotFilterable attribute
 search_refusal (asked.NotFacet attribute) = NotFacet attribute
+
+-- why a search of the values of an attribute is refused by its index
+abbrev pub facet_refusal : SearchRefusal → Refusal
+facet_refusal asked.NoSortRule = NoSortRule
+facet_refusal (asked.NotSortable attribute) = NotSortable attribute
+facet_refusal (asked.NotFilterable attribute) = NotFilterable attribute
+facet_refusal (asked.NotFacet attribute) = InvalidFacetName
+
+-- what a search of the index of this uid shows, alone or as one of several
+abbrev pub searched : Indexes → List ℕ → SearchView → Result Data Refusal
+searched es uid call = do
+  i ← index_named uid es
+  f ← refused_as search_refusal (found i call)
+  Ok (found_shown call i.settings f)
+
+-- the same, with the uid of the index
+abbrev pub result_of : Indexes → MultiData → Result Data Refusal
+result_of es one = do
+  d ← searched es one.uid one.call
+  Ok (replies.with_uid one.uid d)
+
+-- what several searches show, in their order; the first that is refused refuses all
+abbrev pub results_of : Indexes → List MultiData → Result (List Data) Refusal
+results_of es [] = Ok []
+results_of es (one ∷ others) = do
+  d ← result_of es one
+  ds ← results_of es others
+  Ok (d ∷ ds)
 
 -- one equation a route
 abbrev pub answer_to : Indexes → ReadData → Result Answer Refusal
@@ -226,9 +255,15 @@ answer_to es (settings uid) = do
   i ← index_named uid es
   Ok (replies.settings i.settings)
 answer_to es (search uid call) = do
+  d ← searched es uid call
+  Ok (replies.answer 200 d)
+answer_to es (multi calls) = do
+  ds ← results_of es calls
+  Ok (replies.results ds)
+answer_to es (facets uid call) = do
   i ← index_named uid es
-  f ← refused_as search_refusal (found i call)
-  Ok (hits_answer call i.settings f)
+  rows ← refused_as facet_refusal (facet_found i call)
+  Ok (replies.facet_hits call.query rows)
 
 abbrev pub outcome : State → CallData → Result Step Refusal
 outcome s (write change) = changed s change.uid change.kind

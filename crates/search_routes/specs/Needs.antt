@@ -1,5 +1,5 @@
 -- How many stored documents a call needs to read.
-use Rattle.std.specs.Prelude.{ℕ, List, length, Bool, nat_le, ◌||◌, codes, Option, Some, None, is_some, unwrap_or, Result, Ok, Err, if◌then◌else◌}
+use Rattle.std.specs.Prelude.{ℕ, List, length, sum_by, take_while, Bool, nat_le, ◌||◌, codes, Option, Some, None, is_some, unwrap_or, Result, Ok, Err, is_ok, if◌then◌else◌}
 use Rattle.serde_json.specs.Data.{Data}
 use Rattle.serde_json.specs.Find.{get}
 use Rattle.doc_values.specs.Changes.{KindData, create, drop_index, replace, update, remove, clear, patch, reset}
@@ -12,10 +12,11 @@ use Rattle.index_core.specs.Fetches.{hits_needed}
 use Rattle.index_core.specs.Found.{found}
 use Rattle.index_changes.specs.declared.refusal.CoreRefusal.{CoreRefusal}
 use Rattle.request_refusals.specs.declared.refusal.Refusal.{Refusal}
-use Rattle.request_calls.specs.Asked.{ReadData, health, indexes, index, documents, document, settings, search, CallData, write, read}
+use Rattle.request_calls.specs.Asked.{ReadData, MultiData, health, indexes, index, documents, document, settings, search, multi, facets, CallData, write, read}
 use Rattle.request_calls.specs.Calls.{call_of}
+use Rattle.search_call.specs.SearchView.{SearchView}
 use Rattle.search_routes.specs.State.{State, Indexes}
-use Rattle.search_routes.specs.Machine.{index_at, most_changes, slice}
+use Rattle.search_routes.specs.Machine.{index_at, most_changes, searched, slice}
 
 -- ---- changes
 
@@ -73,7 +74,15 @@ abbrev pub one_if_some : Option Data → ℕ
 one_if_some None = 0
 one_if_some (Some d) = 1
 
--- the documents in the reply
+-- the hits of a search; one that is refused needs none
+abbrev pub search_need : Indexes → List ℕ → SearchView → ℕ
+search_need es uid call = there_need (index_at uid es) (λ i. hits_needed (found i call))
+
+-- of several searches those before the first that is refused
+abbrev pub answered : Indexes → List MultiData → List MultiData
+answered es calls = take_while (λ one. is_ok (searched es one.uid one.call)) calls
+
+-- the documents in the reply; of several searches the sum, where the first that is refused ends them
 abbrev pub read_need : Indexes → ReadData → ℕ
 read_need es health = 0
 read_need es (indexes offset limit) = 0
@@ -82,7 +91,9 @@ read_need es (documents uid offset limit fields) =
     there_need (index_at uid es) (λ i. length (slice offset limit (documents_in i)))
 read_need es (document uid id fields) = there_need (index_at uid es) (λ i. one_if_some (document_under id i.store.rows))
 read_need es (settings uid) = 0
-read_need es (search uid call) = there_need (index_at uid es) (λ i. hits_needed (found i call))
+read_need es (search uid call) = search_need es uid call
+read_need es (multi calls) = sum_by (λ one. search_need es one.uid one.call) (answered es calls)
+read_need es (facets uid call) = 0
 
 -- ---- calls and requests
 

@@ -5,8 +5,9 @@
 //! change comes with a payload that makes it again (specs/Images.antt, specs/Redo.antt). Contracts see `Machine` as a
 //! `State`: the number of accepted changes, and each index by its uid. Stands on index_core, which is one index, on
 //! index_image and change_payloads for images and payloads, on request_calls, which reads a request into a call, on
-//! request_refusals for why a request is refused, on request_replies for what is shown of what was done, on doc_values
-//! for documents and changes, on index_settings for patches, and on http_wire for requests and replies.
+//! request_refusals for why a request is refused, on request_replies for what is shown of what was done, on
+//! multi_search for several searches in one call, on doc_values for documents and changes, on index_settings for
+//! patches, and on http_wire for requests and replies.
 #![tactic(auto)]
 
 mod asking;
@@ -15,12 +16,14 @@ mod images;
 mod indexes;
 mod laws;
 mod machine;
+mod multi;
 mod performing;
 mod reads;
 mod redoing;
+mod searching;
 
 pub use asking::{Asked, ask};
-pub use laws::{none_answers_503, what_is_accepted_is_counted};
+pub use laws::{each_is_answered_alike, none_answers_503, what_is_accepted_is_counted};
 pub use machine::Machine;
 pub use performing::{answer, perform};
 pub use request_calls::{Call, ReadCall, read_call};

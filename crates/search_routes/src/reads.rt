@@ -1,29 +1,26 @@
 // The calls that change nothing, one function a route.
-ghost use Rattle.std.specs.Prelude.{◌≡◌, ◌+◌, ◌≤◌, IfOk, map, Ok};
-ghost use Rattle.std.specs.Option.{option_copied, option_map};
+ghost use Rattle.std.specs.Prelude.{◌≡◌, ◌+◌, ◌≤◌};
 ghost use Rattle.bucket_sort.specs.Opens.{log_state, Opens, is_starved};
-ghost use Rattle.index_core.specs.Shown.{result_shown};
 ghost use Rattle.request_calls.specs.Asked.{read_view};
 ghost use Rattle.request_calls.specs.Asked as asked;
-ghost use Rattle.search_routes.specs.Done.{Sends, reply_hit};
-ghost use Rattle.search_routes.specs.Machine.{answer_to, hits_answer, search_refusal as refusal_of_search};
+ghost use Rattle.search_routes.specs.Done.{Sends};
+ghost use Rattle.search_routes.specs.Machine.{answer_to, facet_refusal as refusal_of_facets};
 ghost use Rattle.search_routes.specs.Needs.{read_need};
 ghost use Rattle.search_routes.specs.Openings.{read_opened, read_most};
 
 use crate::indexes::{Indexes, index_named, index_values};
+use crate::multi::search_several;
+use crate::searching::{search_index, shown_reply};
 use bucket_sort::BucketLog;
-use facet_counts::FacetReply;
 use http_wire::Reply;
-use index_core::{Hit as FoundHit, SearchResult};
-use index_settings::Settings;
 use request_calls::ReadCall;
 use request_refusals::Refusal;
 use request_replies::{
-    Hit, document_reply, documents_reply, health_reply, hits_reply, index_reply, list_reply,
+    document_reply, documents_reply, facet_hits_reply, health_reply, index_reply, list_reply,
     settings_reply,
 };
-use search_base::{Fault, NoMemory, Steps, Word};
-use search_call::SearchCall;
+use search_base::{Fault, Steps, Word};
+use search_call::{FacetCall, SearchCall};
 use search_settings::SearchRefusal;
 use std::alloc::Global;
 
@@ -60,6 +57,10 @@ pub(crate) fn read_indexes<F, G>(
         ReadCall::Search { uid, call } => {
             search(alloc, indexes, &uid, &call, log, fetches, openings)
         }
+        ReadCall::Multi { calls } => {
+            search_several(alloc, indexes, &calls, log, fetches, openings)
+        }
+        ReadCall::Facets { uid, call } => search_facets(alloc, indexes, &uid, &call),
     }
 }
 
@@ -148,65 +149,35 @@ fn search<F, G>(
         (log_state (told log.old) openings.old) (log_state (told log.new) openings.new) }
     ensures few { openings.new ≤ openings.old + read_most indexes.now.entries (asked.search uid.now call.now) }
 {
+    let shown = search_index(alloc, indexes, uid, call, log, fetches, openings)?;
+    Ok(shown_reply(alloc, call, &shown)?)
+}
+
+fn search_facets(
+    alloc: Global,
+    indexes: &Indexes,
+    uid: &Word,
+    call: &FacetCall,
+) -> Result<Reply, Fault<Refusal>>
+    ensures { Sends (answer_to indexes.now.entries (asked.facets uid.now call.now)) result }
+{
     let index = index_named(indexes, uid)?;
-    let found = match index.search(alloc, call, log, fetches, openings) {
-        Ok(found) => found,
-        Err(Fault::Refused(refusal)) => return Err(Fault::Refused(search_refusal(refusal))),
+    let rows = match index.facet_search(alloc, call) {
+        Ok(rows) => rows,
+        Err(Fault::Refused(refusal)) => return Err(Fault::Refused(facet_refusal(refusal))),
         Err(Fault::NoMemory) => return Err(Fault::NoMemory),
     };
-    found_reply(alloc, call, index.settings(), found)
+    Ok(facet_hits_reply(alloc, call.query.as_ref(), &rows)?)
 }
 
-// The reply to what a search found.
-fn found_reply(
-    alloc: Global,
-    call: &SearchCall,
-    settings: &Settings,
-    found: SearchResult,
-) -> Result<Reply, Fault<Refusal>>
-    ensures { Sends (Ok (hits_answer call.now settings.now (result_shown found.entry))) result }
-{
-    let SearchResult {
-        hits,
-        total,
-        facets,
-    } = found;
-    let hits = reply_hits(alloc, hits)?;
-    let displayed = settings.displayed_attributes();
-    let facets = rows_of(&facets);
-    Ok(hits_reply(alloc, call, displayed, total, &hits, facets)?)
-}
-
-// The counts, where there are some.
-fn rows_of(facets: &Option<Vec<FacetReply>>) -> Option<&[FacetReply]>
-    ensures { option_copied result ≡ option_map (λ rows. rows.items) facets.now }
-{
-    match facets {
-        Some(rows) => Some(rows.as_slice()),
-        None => None,
-    }
-}
-
-// Why a search is refused, by why its index refuses it.
-fn search_refusal(refusal: SearchRefusal) -> Refusal
-    ensures { result ≡ refusal_of_search refusal }
+// Why a search of the values of an attribute is refused, by why its index refuses it.
+fn facet_refusal(refusal: SearchRefusal) -> Refusal
+    ensures { result ≡ refusal_of_facets refusal }
 {
     match refusal {
         SearchRefusal::NoSortRule => Refusal::NoSortRule,
         SearchRefusal::NotSortable { attribute } => Refusal::NotSortable { attribute },
         SearchRefusal::NotFilterable { attribute } => Refusal::NotFilterable { attribute },
-        SearchRefusal::NotFacet { attribute } => Refusal::NotFacet { attribute },
+        SearchRefusal::NotFacet { attribute: _ } => Refusal::InvalidFacetName,
     }
-}
-
-// The hits as the reply has them.
-fn reply_hits<'a>(alloc: Global, found: Vec<FoundHit<'a>>) -> Result<Vec<Hit<'a>>, NoMemory>
-    ensures { IfOk result (λ hits. hits.items ≡ map reply_hit found.entry.items) }
-{
-    let mut hits = Vec::with_capacity(alloc, found.len())?;
-    for hit in found {
-        let FoundHit { document, costs } = hit;
-        hits.push(Hit { document, costs })?;
-    }
-    Ok(hits)
 }

@@ -8,3 +8,5 @@
 mod checks;
 #[cfg(test)]
 mod machines;
+#[cfg(test)]
+mod several;

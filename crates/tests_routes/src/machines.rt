@@ -27,7 +27,7 @@ const NEW_IMAGE: [u8; 13] = [1, 0, 0, 0, 0, 0, 0, 0, 0, 0, 0, 0, 0];
 
 const LAST_CHANGE_IMAGE: [u8; 13] = [1, 0xff, 0xc9, 0x9a, 0x3b, 0, 0, 0, 0, 0, 0, 0, 0];
 
-fn new_machine(rt: &impl Abort, alloc: Global) -> Machine {
+pub(crate) fn new_machine(rt: &impl Abort, alloc: Global) -> Machine {
     Machine::new(alloc).expect(rt, "memory")
 }
 
@@ -83,7 +83,7 @@ fn check_row(rt: &impl Abort, alloc: Global, machine: &mut Machine, row: &str) {
     check_text(rt, &found, parts.next().unwrap_or(""), row);
 }
 
-fn check_table(rt: &impl Abort, alloc: Global, machine: &mut Machine, table: &str) {
+pub(crate) fn check_table(rt: &impl Abort, alloc: Global, machine: &mut Machine, table: &str) {
     let mut row = String::new(alloc);
     for line in table.lines() {
         if line.is_empty() {

@@ -1,6 +1,6 @@
 use Rattle.std.proofs.Common.{◌≡◌, ◌++◌, map}
 use Rattle.search_routes.specs.Done.{reply_hit}
-use Rattle.search_routes.proofs.reads.reply_hits.Given as goal
+use Rattle.search_routes.proofs.searching.reply_hits.Given as goal
 
 -- the hits so far, with those that are left, are all
 abbrev pub invariant-loop-hit : goal.invariant-loop-hit

@@ -4,14 +4,15 @@ use Rattle.bucket_sort.specs.Opens.{Opens, log_state, is_starved}
 use Rattle.index_core.specs.Opened.{opened, most_opened}
 use Rattle.index_core.proofs.Opening.{opens-some, opens-either}
 use Rattle.index_core.specs.Shown.{result_shown}
-use Rattle.search_routes.specs.Done.{Sends}
-use Rattle.search_routes.specs.Machine.{hits_answer, index_at}
+use Rattle.search_base.specs.Gives.{Gives}
+use Rattle.search_routes.specs.Found.{shown_data}
+use Rattle.search_routes.specs.Machine.{found_shown, index_at}
 use Rattle.search_routes.specs.Openings.{there_opened}
 use Rattle.index_core.specs.Fetches.{hits_needed}
 use Rattle.search_routes.proofs.NeedLemmas.{named_most}
 use Rattle.search_routes.proofs.OpenLemmas.{opens-named}
-use Rattle.search_routes.proofs.Steps.{search_sent}
-use Rattle.search_routes.proofs.reads.search.Goals as goal
+use Rattle.search_routes.proofs.Steps.{gives_searched}
+use Rattle.search_routes.proofs.searching.search_index.Goals as goal
 
 pub returns-clause-fetched : goal.returns-clause-fetched
 returns-clause-fetched g c =
@@ -26,8 +27,8 @@ returns-in-Err-NoMemory-clause-fetched g c =
 pub returns-clause-answer : goal.returns-clause-answer
 returns-clause-answer g c =
     let call = c.args.call.now in
-    search_sent c.args.indexes.now.entries c.args.uid.now call c.in_ok-index.index.now (result_shown c.in-Ok.found) c.found_reply.result c.in_ok-index.ensures c.in-Ok.ensures.answer
-    (subst (λ s. Sends (Ok (hits_answer call s (result_shown c.in-Ok.found))) c.found_reply.result) c.settings.ensures c.found_reply.ensures)
+    gives_searched (shown_data call) c.args.indexes.now.entries c.args.uid.now call c.in_ok-index.index.now (result_shown c.in-Ok.found) c.shown_of.result c.in_ok-index.ensures c.in-Ok.ensures.answer
+    (subst (λ s. Gives (shown_data call) c.shown_of.result (Ok (found_shown call s (result_shown c.in-Ok.found)))) c.settings.ensures c.shown_of.ensures)
 
 pub returns-in-Err-Refused-clause-opens : goal.returns-in-Err-Refused-clause-opens
 returns-in-Err-Refused-clause-opens g c =
@@ -54,7 +55,7 @@ returns-clause-opens g c =
     let all = there_opened (index_at c.args.uid.now c.args.indexes.now.entries) (λ i. opened i call) in
     let old = (log_state ((g.dyn-1.0.entry c.args.log.now.vtable).1.told c.args.log.now.value) c.args.openings.now) in
     let new = (log_state ((g.dyn-1.0.entry c.search.new.log.vtable).1.told c.search.new.log.value) c.search.new.openings) in
-    opens-either (is_starved c.found_reply.result) all old new
+    opens-either (is_starved c.shown_of.result) all old new
     (opens-named c.args.uid.now c.args.indexes.now.entries c.in_ok-index.index.now (λ i. opened i call) false old new c.in_ok-index.ensures c.in-Ok.ensures.opens)
 
 pub returns-in-Err-NoMemory-clause-few : goal.returns-in-Err-NoMemory-clause-few

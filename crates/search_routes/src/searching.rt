@@ -1,0 +1,158 @@
+// A search of an index, as it is shown alone or as one of several.
+ghost use Rattle.std.specs.Prelude.{◌≡◌, ◌+◌, ◌≤◌, IfOk, map, Ok};
+ghost use Rattle.std.specs.Option.{option_copied, option_map};
+ghost use Rattle.serde_json.specs.Written.{compact_text};
+ghost use Rattle.http_wire.specs.Sent.{IsSentAs};
+ghost use Rattle.bucket_sort.specs.Opens.{log_state, Opens, is_starved};
+ghost use Rattle.index_core.specs.Shown.{result_shown};
+ghost use Rattle.request_replies.specs.Replies.{answer, with_uid};
+ghost use Rattle.request_replies.specs.Shown.{view_of};
+ghost use Rattle.search_base.specs.Gives.{Gives};
+ghost use Rattle.search_routes.specs.Done.{reply_hit};
+ghost use Rattle.search_routes.specs.Found.{shown_data};
+ghost use Rattle.search_routes.specs.Machine.{found_shown, search_refusal as refusal_of_search, searched};
+ghost use Rattle.search_routes.specs.Needs.{search_need};
+ghost use Rattle.search_routes.specs.Openings.{search_opened, search_most};
+
+use crate::indexes::{Indexes, index_named};
+use bucket_sort::BucketLog;
+use facet_counts::FacetReply;
+use http_wire::Reply;
+use index_core::{Hit as FoundHit, SearchResult};
+use index_settings::Settings;
+use request_refusals::Refusal;
+use request_replies::{Found, Hit, ResultText, hits_reply, result_text};
+use search_base::{Fault, NoMemory, Steps, Word};
+use search_call::SearchCall;
+use search_settings::SearchRefusal;
+use std::alloc::Global;
+
+/// What a search found, as replies take it, with the settings of its index.
+#[derive(Drop)]
+pub(crate) struct Shown<'a> {
+    settings: &'a Settings,
+    total: u64,
+    hits: Vec<Hit<'a>>,
+    facets: Option<Vec<FacetReply>>,
+}
+
+/// Searches the index of this uid.
+pub(crate) fn search_index<'a, F, G>(
+    alloc: Global,
+    indexes: &'a Indexes,
+    uid: &Word,
+    call: &SearchCall,
+    log: &mut Box<dyn BucketLog>,
+    fetches: &mut Steps<F>,
+    openings: &mut Steps<G>,
+) -> Result<Shown<'a>, Fault<Refusal>>
+    ensures answer { Gives (shown_data call.now) result (searched indexes.now.entries uid.now call.now) }
+    ensures fetched { fetches.new ≤ fetches.old + search_need indexes.now.entries uid.now call.now }
+    ensures opens { Opens (is_starved result) (search_opened indexes.now.entries uid.now call.now)
+        (log_state (told log.old) openings.old) (log_state (told log.new) openings.new) }
+    ensures few { openings.new ≤ openings.old + search_most indexes.now.entries uid.now call.now }
+{
+    let index = index_named(indexes, uid)?;
+    let found = match index.search(alloc, call, log, fetches, openings) {
+        Ok(found) => found,
+        Err(Fault::Refused(refusal)) => return Err(Fault::Refused(search_refusal(refusal))),
+        Err(Fault::NoMemory) => return Err(Fault::NoMemory),
+    };
+    shown_of(alloc, call, index.settings(), found)
+}
+
+// What a search found in an index with these settings.
+fn shown_of<'a>(
+    alloc: Global,
+    call: &SearchCall,
+    settings: &'a Settings,
+    found: SearchResult<'a>,
+) -> Result<Shown<'a>, Fault<Refusal>>
+    ensures { Gives (shown_data call.now) result (Ok (found_shown call.now settings.now (result_shown found.entry))) }
+{
+    let SearchResult {
+        hits,
+        total,
+        facets,
+    } = found;
+    let hits = reply_hits(alloc, hits)?;
+    Ok(Shown {
+        settings,
+        total,
+        hits,
+        facets,
+    })
+}
+
+/// The reply to a search that found this.
+pub(crate) fn shown_reply(
+    alloc: Global,
+    call: &SearchCall,
+    shown: &Shown,
+) -> Result<Reply, NoMemory>
+    ensures { IfOk result (λ reply. IsSentAs reply (answer 200 (shown_data call.now shown.now))) }
+{
+    let found = found_in(shown);
+    let displayed = shown.settings.displayed_attributes();
+    hits_reply(alloc, call, displayed, found)
+}
+
+/// What one of several searches found, with the uid of its index.
+pub(crate) fn shown_text(
+    alloc: Global,
+    uid: &str,
+    call: &SearchCall,
+    shown: &Shown,
+) -> Result<ResultText, NoMemory>
+    ensures { IfOk result (λ text. text ≡ compact_text (with_uid uid.now (shown_data call.now shown.now))) }
+{
+    let found = found_in(shown);
+    let displayed = shown.settings.displayed_attributes();
+    result_text(alloc, uid, call, displayed, found)
+}
+
+fn found_in<'a>(shown: &'a Shown) -> Found<'a>
+    ensures total { result.total ≡ shown.now.total }
+    ensures hits { result.hits.now ≡ shown.now.hits.items }
+    ensures facets { option_copied result.facets ≡ option_map (λ rows. rows.items) shown.now.facets }
+{
+    Found {
+        total: shown.total,
+        hits: shown.hits.as_slice(),
+        facets: rows_of(&shown.facets),
+    }
+}
+
+// The counts, where there are some.
+fn rows_of(facets: &Option<Vec<FacetReply>>) -> Option<&[FacetReply]>
+    ensures { option_copied result ≡ option_map (λ rows. rows.items) facets.now }
+{
+    match facets {
+        Some(rows) => Some(rows.as_slice()),
+        None => None,
+    }
+}
+
+// Why a search is refused, by why its index refuses it.
+fn search_refusal(refusal: SearchRefusal) -> Refusal
+    ensures { result ≡ refusal_of_search refusal }
+{
+    match refusal {
+        SearchRefusal::NoSortRule => Refusal::NoSortRule,
+        SearchRefusal::NotSortable { attribute } => Refusal::NotSortable { attribute },
+        SearchRefusal::NotFilterable { attribute } => Refusal::NotFilterable { attribute },
+        SearchRefusal::NotFacet { attribute } => Refusal::NotFacet { attribute },
+    }
+}
+
+// The hits as the reply has them.
+fn reply_hits<'a>(alloc: Global, found: Vec<FoundHit<'a>>) -> Result<Vec<Hit<'a>>, NoMemory>
+    ensures { IfOk result (λ hits. hits.items ≡ map reply_hit found.entry.items) }
+{
+    let mut hits = Vec::with_capacity(alloc, found.len())?;
+    for hit in found {
+        let FoundHit { document, costs } = hit;
+        hits.push(Hit { document, costs })?;
+    }
+    Ok(hits)
+}
