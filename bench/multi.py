@@ -1,5 +1,5 @@
 #!/usr/bin/env python3
-"""Sends `rank_server pipe` several searches at once and one by one, and searches of a facet's values, and prints ratios.
+"""Sends `rank_server pipe` several searches at once and one by one, and searches of a facet's values; prints ratios.
 
     bench/multi.py [BIN] [--documents N] [--turns N]
 
