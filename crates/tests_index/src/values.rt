@@ -1,11 +1,12 @@
 use crate::checks::{check_text, word};
 use crate::index::{FILMS, change, filled};
 use doc_values::ChangeKind;
+use facet_counts::CountRow;
 use filter_tree::{Filter, Test};
 use index_core::IndexCore;
 use search_base::{Fault, Strategy};
 use search_call::FacetCall;
-use search_settings::SearchRefusal;
+use search_settings::{SearchFault, SearchRefusal};
 use serde_json::Value;
 use std::alloc::Global;
 use std::process::Abort;
@@ -42,14 +43,17 @@ fn facet_call(rt: &impl Abort, alloc: Global, name: &str, q: &str, year: i128) -
     }
 }
 
-fn tell_values(rt: &impl Abort, alloc: Global, index: &IndexCore, call: &FacetCall) -> String {
+fn tell_values(rt: &impl Abort, rows: &[CountRow], told: &mut String) {
+    for row in rows {
+        write!(told, "{} {}, ", row.shown.as_str(), row.count).expect(rt, "memory");
+    }
+}
+
+// What a search of values finds, or why it finds none.
+fn told_of(rt: &impl Abort, alloc: Global, found: &Result<Vec<CountRow>, SearchFault>) -> String {
     let mut told = String::new(alloc);
-    match index.facet_search(alloc, call) {
-        Ok(rows) => {
-            for row in &rows {
-                write!(told, "{} {}, ", row.shown.as_str(), row.count).expect(rt, "memory");
-            }
-        }
+    match found {
+        Ok(rows) => tell_values(rt, rows.as_slice(), &mut told),
         Err(Fault::Refused(SearchRefusal::NotFacet { attribute })) => {
             write!(told, "{} is no facet", attribute.as_str()).expect(rt, "memory");
         }
@@ -75,7 +79,7 @@ fn values_of_an_attribute_are_searched(rt: HostRuntime) {
         if let Some(text) = query {
             call.query = Some(word(&rt, alloc, text));
         }
-        let told = tell_values(&rt, alloc, &index, &call);
+        let told = told_of(&rt, alloc, &index.facet_search(alloc, &call));
         check_text(&rt, told.as_str(), wanted, wanted);
     }
 }
