@@ -14,5 +14,3 @@ mod demo;
 mod routes;
 #[cfg(test)]
 mod searches;
-#[cfg(test)]
-mod several;

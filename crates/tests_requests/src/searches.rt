@@ -79,7 +79,7 @@ fn tell_sort(rt: &impl Abort, criteria: &[Criterion], text: &mut String) {
     }
 }
 
-pub(crate) fn filter_kind(filter: &Filter) -> &'static str {
+fn filter_kind(filter: &Filter) -> &'static str {
     match filter {
         Filter::All => "all",
         Filter::And(_) => "and",
