@@ -5,12 +5,12 @@ use Rattle.std.proofs.lemmas.Map.Text.{is_eq-slice_cmp}
 use Rattle.std.proofs.lemmas.Slice.Eq.{bytes_eq-Decides}
 use Rattle.std.specs.Cmp.Lexicographic.{slice_cmp}
 use Rattle.std.specs.Ordering.{match_ordering, is_eq}
-use Rattle.std.specs.Prelude.{if◌then◌else◌, is_some, unwrap_or, option_and_then}
+use Rattle.std.specs.Prelude.{if◌then◌else◌, unwrap_or, option_and_then}
 use Rattle.serde_json.specs.Data.{Data, null, boolean, number, string, array, object, Items, no_items, item, Members, no_members, member}
 use Rattle.serde_json.specs.Events.{items_len}
 use Rattle.serde_json.specs.Find.{get, get_member, as_str, as_number, as_u64}
 use Rattle.index_settings.specs.declared.fault.SettingsRefusal.{SettingsRefusal}
-use Rattle.index_settings.specs.declared.fault.SettingsRefusal.TheVariants.{WrongShape, NotBuilt}
+use Rattle.index_settings.specs.declared.fault.SettingsRefusal.TheVariants.{WrongShape}
 use Rattle.search_base.specs.Trying.{first_of}
 use Rattle.index_settings.specs.View.{SettingsView}
 use Rattle.index_settings.specs.Values.{is_null, is_within, is_number_up_to, number_in, with_text, item_texts, texts_in, are_texts_up_to}
@@ -84,10 +84,6 @@ both_right : (right : Bool) (fault : Option SettingsRefusal) (name : List ℕ) �
 both_right true fault name none = (refl, none)
 both_right false fault name none = cc
 
-never_right : (text : Bool) (name : List ℕ) → (if text then Some (NotBuilt name) else Some (WrongShape name)) ≡ None → ⊥
-never_right true name none = cc
-never_right false name none = cc
-
 or_right : (a b : Bool) → a || b ≡ true → a ≡ false → b ≡ true
 or_right true b h is = absurd (true≢false is)
 or_right false b h is = h
@@ -133,12 +129,6 @@ module _ (patch : Data) (none : patch_fault patch ≡ None) where
       let fault : Option SettingsRefusal = if are_texts_up_to 32 d then bad_rule (texts_in d) else Some (WrongShape name) in
       both_right (are_texts_up_to 32 d) (bad_rule (texts_in d)) name (not_null (is_null d) fault (value_right name patch d none found) other)
 
-  no_attribute : (d : Data) → get (codes "distinctAttribute") patch ≡ Some d → is_null d ≡ false → ⊥
-  no_attribute d found other =
-      let name = codes "distinctAttribute" in
-      let fault : Option SettingsRefusal = if is_some (as_str d) then Some (NotBuilt name) else Some (WrongShape name) in
-      never_right (is_some (as_str d)) name (not_null (is_null d) fault (value_right name patch d none found) other)
-
   small_number : (outer inner : List ℕ) → ((d : Data) → member_fault outer d ≡ (if is_null d then None else nested_fault outer inner d))
       → ((d : Data) → inner_fault outer inner inner d ≡ wrong_unless (is_null d || is_number_up_to 1000000 d) (outer ++ 46 ∷ inner))
       → (old default : ℕ) → old ≤ 1000000 → default ≤ 1000000
@@ -162,10 +152,9 @@ module _ (patch : Data) (none : patch_fault patch ≡ None) where
     rules = chosen_has (λ texts. bad_rule texts ≡ None) old.ranking_rules default.ranking_rules texts_in (get (codes "rankingRules") patch) was.rules fresh.rules (λ d found other. (rules_right d found other).1);
     hits = small_number (codes "pagination") (codes "maxTotalHits") (λ d. refl) (λ d. refl) old.max_total_hits default.max_total_hits was.hits fresh.hits;
     values = small_number (codes "faceting") (codes "maxValuesPerFacet") (λ d. refl) (λ d. refl) old.max_values_per_facet default.max_values_per_facet was.values fresh.values;
-    no_distinct = chosen_has (λ o. o ≡ None) old.distinct_attribute default.distinct_attribute as_str (get (codes "distinctAttribute") patch) was.no_distinct fresh.no_distinct (λ d found other. absurd (no_attribute d found other));
     in_order = in_order;
   }
 
 -- the defaults are within the limits
 pub defaults_within : IsSettings defaults
-defaults_within = record { displayed = omega arith; searchable = omega arith; few_rules = omega arith; rules = refl; hits = omega arith; values = omega arith; no_distinct = refl; in_order = in_order_none }
+defaults_within = record { displayed = omega arith; searchable = omega arith; few_rules = omega arith; rules = refl; hits = omega arith; values = omega arith; in_order = in_order_none }

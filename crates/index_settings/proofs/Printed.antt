@@ -1,14 +1,17 @@
 -- What is printed of settings, taken as a patch, gives them back.
-use Rattle.std.proofs.Common.{◌≡◌, ℕ, suc, ◌≤◌, List, [], ◌∷◌, length, map, true, false, Ok, Option, None, Some, refl, sym, ap, ◌∙◌, arith}
+use Rattle.std.proofs.Common.{◌≡◌, ℕ, suc, ◌≤◌, List, [], ◌∷◌, length, map, true, false, codes, Option, None, Some, refl, ap, ◌∙◌, arith}
 use Rattle.std.proofs.lemmas.Bool.{le-leb, and_from}
-use Rattle.std.specs.Prelude.{nat_le}
+use Rattle.std.specs.Prelude.{nat_le, if◌then◌else◌}
 use Rattle.serde_json.specs.Data.{string, depth, items_depth, members_depth}
 use Rattle.serde_json.specs.Events.{items_len}
+use Rattle.serde_json.specs.Find.{as_str}
 use Rattle.serde_json.specs.Read.{max_depth}
 use Rattle.serde_json.specs.View.{items_of}
 use Rattle.serde_json.specs.Written.{has_float, items_have_float, members_have_float}
+use Rattle.index_settings.specs.declared.shape.Shape.TheVariants as shape
 use Rattle.index_settings.specs.View.{SynonymView, SettingsView}
 use Rattle.index_settings.specs.Values.{is_null, items_are_texts, item_texts, members_are_texts, member_synonyms, are_texts_up_to}
+use Rattle.index_settings.specs.Table.{fault_at}
 use Rattle.index_settings.specs.Json.{texts_data, text_or_null, synonym_members, settings_data}
 use Rattle.index_settings.specs.Laws.{PrintedGivesBack}
 
@@ -35,12 +38,21 @@ synonyms_in-printed : (lists : List SynonymView) → member_synonyms (synonym_me
 synonyms_in-printed [] = refl
 synonyms_in-printed (list ∷ lists) = rw (texts_in-printed list.texts, synonyms_in-printed lists)
 
+attribute_right : (name : List ℕ) (o : Option (List ℕ)) → fault_at (Some shape.Attribute) name (text_or_null o) ≡ None
+attribute_right name None = refl
+attribute_right name (Some text) = refl
+
+attribute_in : (o : Option (List ℕ)) → (if is_null (text_or_null o) then None else as_str (text_or_null o)) ≡ o
+attribute_in None = refl
+attribute_in (Some text) = refl
+
 pub printed_back : PrintedGivesBack
 printed_back old s h =
     rw (
       few-printed 65535 s.displayed_attributes h.displayed,
       texts_in-printed s.displayed_attributes,
-      ap (λ o. is_null (text_or_null o)) h.no_distinct,
+      attribute_right (codes "distinctAttribute") s.distinct_attribute,
+      attribute_in s.distinct_attribute,
       le-leb s.max_values_per_facet 1000000 h.values,
       are_texts-printed s.filterable_attributes,
       texts_in-printed s.filterable_attributes,
@@ -57,7 +69,6 @@ printed_back old s h =
       are_synonyms-printed s.synonyms,
       synonyms_in-printed s.synonyms,
     )
-    (ap (λ none. Ok (record s { distinct_attribute = none })) (sym h.no_distinct))
 
 -- ---- no number of what is printed is a float, and it nests three deep at most
 

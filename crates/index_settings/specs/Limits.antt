@@ -17,5 +17,4 @@ pub record IsSettings (s : SettingsView) : Type 0 where
   pub rules : bad_rule s.ranking_rules ≡ None
   pub hits : s.max_total_hits ≤ 1000000
   pub values : s.max_values_per_facet ≤ 1000000
-  pub no_distinct : s.distinct_attribute ≡ None
   pub in_order : AreInOrder s.synonyms

@@ -7,7 +7,7 @@ use Rattle.search_base.specs.Trying.{first_of}
 use Rattle.index_settings.specs.declared.shape.Shape.{Shape}
 use Rattle.index_settings.specs.declared.shape.Shape.TheVariants as shape
 use Rattle.index_settings.specs.declared.fault.SettingsRefusal.{SettingsRefusal}
-use Rattle.index_settings.specs.declared.fault.SettingsRefusal.TheVariants.{UnknownMember, WrongShape, NotBuilt}
+use Rattle.index_settings.specs.declared.fault.SettingsRefusal.TheVariants.{UnknownMember, WrongShape}
 use Rattle.index_settings.specs.View.{SettingsView}
 use Rattle.index_settings.specs.Values.{is_null, is_number_up_to, are_texts, are_texts_up_to, texts_in, are_synonyms}
 use Rattle.index_settings.specs.Rules.{bad_rule}
@@ -72,7 +72,7 @@ shape_fault shape.Entries name d = wrong_unless (are_texts_up_to 65535 d) name
 shape_fault shape.Texts name d = wrong_unless (are_texts d) name
 shape_fault shape.Rules name d = if are_texts_up_to 32 d then bad_rule (texts_in d) else Some (WrongShape name)
 shape_fault shape.Synonyms name d = wrong_unless (are_synonyms d) name
-shape_fault shape.Attribute name d = if is_some (as_str d) then Some (NotBuilt name) else Some (WrongShape name)
+shape_fault shape.Attribute name d = wrong_unless (is_some (as_str d)) name
 shape_fault shape.Faceting name d = nested_fault name (codes "maxValuesPerFacet") d
 shape_fault shape.Pagination name d = nested_fault name (codes "maxTotalHits") d
 

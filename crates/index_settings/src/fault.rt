@@ -9,8 +9,6 @@ pub enum SettingsRefusal {
     WrongShape { member: Word },
     /// A text of the ranking rules is no rule.
     BadRankingRule { text: Word },
-    /// The member may not hold a text yet.
-    NotBuilt { member: Word },
 }
 
 /// Why settings are not patched: what `SettingsRefusal` says, or want of memory.

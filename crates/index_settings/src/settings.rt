@@ -75,10 +75,9 @@ impl Settings {
         self.displayed_attributes.as_slice()
     }
 
-    /// The attribute of which hits have each value once. None as long as that is not built.
+    /// The attribute of which no two hits of a search have a value in common; none where a value may come again.
     pub fn distinct_attribute(&self) -> Option<&Word>
-        ensures attribute { option_map (λ attribute. attribute.now) result ≡ self.now.distinct_attribute }
-        ensures not_built { self.now.distinct_attribute ≡ None }
+        ensures { option_map (λ attribute. attribute.now) result ≡ self.now.distinct_attribute }
     {
         self.distinct_attribute.as_ref()
     }

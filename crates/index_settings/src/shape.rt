@@ -23,7 +23,7 @@ pub(crate) enum Shape {
     Rules,
     /// An object of lists of texts.
     Synonyms,
-    /// The name of an attribute. It is not built yet.
+    /// The name of an attribute: a text.
     Attribute,
     /// An object with the number `maxValuesPerFacet`.
     Faceting,
@@ -96,7 +96,7 @@ fn check_shape(alloc: Global, shape: Shape, name: &str, value: &Value) -> Result
         Shape::Texts => check_right(alloc, are_texts(value), name),
         Shape::Rules => check_rules(alloc, name, value),
         Shape::Synonyms => check_right(alloc, are_synonyms(value), name),
-        Shape::Attribute => check_attribute(alloc, name, value),
+        Shape::Attribute => check_right(alloc, value.is_string(), name),
         Shape::Faceting => check_nested(alloc, name, "maxValuesPerFacet", value),
         Shape::Pagination => check_nested(alloc, name, "maxTotalHits", value),
     }
@@ -118,18 +118,6 @@ fn wrong_shape(alloc: Global, name: &str) -> SettingsFault
     match Word::new(alloc, name) {
         Ok(member) => Fault::Refused(SettingsRefusal::WrongShape { member }),
         Err(_) => Fault::NoMemory,
-    }
-}
-
-/// A text would be right, and is not built yet.
-fn check_attribute(alloc: Global, name: &str, value: &Value) -> Result<(), SettingsFault>
-    ensures { Checks result (shape_fault Shape.Attribute name.now (data_of value.now)) }
-{
-    if value.is_string() {
-        let member = Word::new(alloc, name)?;
-        Err(Fault::Refused(SettingsRefusal::NotBuilt { member }))
-    } else {
-        Err(wrong_shape(alloc, name))
     }
 }
 

@@ -4,3 +4,4 @@ pub mod Lengths
 pub mod Patches
 pub mod Accepted
 pub mod Asking
+pub mod Colons

@@ -13,7 +13,7 @@ use Rattle.document_stream.specs.Bodies.{json_of, documents_read}
 use Rattle.document_stream.specs.declared.fault.BodyRefusal.{BodyRefusal}
 use Rattle.document_stream.specs.declared.fault.BodyRefusal.TheVariants as body
 use Rattle.request_refusals.specs.declared.refusal.Refusal.{Refusal}
-use Rattle.request_refusals.specs.declared.refusal.Refusal.TheVariants.{InvalidUid, Unknown, NotBuilt, NotJson, NotList, NotObject, NumberNotWhole, BadListedId, MissingUid, BadSettings, BadRankingRule}
+use Rattle.request_refusals.specs.declared.refusal.Refusal.TheVariants.{InvalidUid, Unknown, NotJson, NotList, NotObject, NumberNotWhole, BadListedId, MissingUid, BadSettings, BadRankingRule}
 
 -- the JSON value that a body is
 abbrev pub json_in : List ℕ → Result Data Refusal
@@ -124,7 +124,6 @@ settings_refusal (settings.UnknownMember name) = Unknown name
 settings_refusal (settings.WrongShape []) = Unknown (codes "body")
 settings_refusal (settings.WrongShape (b ∷ bytes)) = BadSettings (b ∷ bytes)
 settings_refusal (settings.BadRankingRule text) = BadRankingRule text
-settings_refusal (settings.NotBuilt name) = NotBuilt name
 
 abbrev pub patch_refusal : Data → Option Refusal
 patch_refusal d = option_map settings_refusal (patch_fault d)

@@ -14,7 +14,8 @@ use Rattle.request_refusals.specs.declared.refusal.Refusal.TheVariants.{Unknown,
 use Rattle.request_refusals.specs.declared.member.SearchMember.{SearchMember}
 use Rattle.request_refusals.specs.declared.member.SearchMember.TheVariants.{Query, Filter, MatchingStrategy}
 use Rattle.request_calls.specs.Bodies.{json_in, members_of, text_at}
-use Rattle.request_calls.specs.Searches.{Given, given_by, member_tried, said, strategy_in}
+use Rattle.request_calls.specs.Values.{said, strategy_in}
+use Rattle.request_calls.specs.Searches.{Given, given_by, member_tried}
 
 -- ---- the members are tried one after the other, and the filter among them is kept
 

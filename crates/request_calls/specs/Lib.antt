@@ -1,5 +1,7 @@
 pub mod Refusals
 pub mod Bodies
+pub mod Values
+pub mod Formats
 pub mod Searches
 pub mod Multi
 pub mod FacetSearches

@@ -4,7 +4,7 @@ use Rattle.serde_json.specs.Data.{Data, string, object, member, no_members}
 use Rattle.serde_json.specs.Written.{compact_text}
 use Rattle.http_wire.specs.Reply.{Answer}
 use Rattle.request_refusals.specs.declared.refusal.Refusal.{Refusal}
-use Rattle.request_refusals.specs.declared.refusal.Refusal.TheVariants.{NoRoute, MethodNotAllowed, InvalidUid, Unknown, NotBuilt, InvalidSearch, NotJson, NotList, NotObject, NumberNotWhole, BadListedId, MissingUid, BadSettings, BadRankingRule, BadQueries, MissingQueryUid, MissingFacetName, InvalidFacetName, InvalidFacetQuery, NoIndex, IndexExists, NoDocument, KeyDiffers, NoCandidate, SeveralCandidates, MissingId, BadId, ChangesSpent, IndexesSpent, IdsSpent, PathsSpent, FilterSyntax, FilterTooDeep, FilterNotANumber, NoSortRule, NotSortable, NotFilterable, NotFacet}
+use Rattle.request_refusals.specs.declared.refusal.Refusal.TheVariants.{NoRoute, MethodNotAllowed, InvalidUid, Unknown, InvalidSearch, NotJson, NotList, NotObject, NumberNotWhole, BadListedId, MissingUid, BadSettings, BadRankingRule, BadQueries, MissingQueryUid, MissingFacetName, InvalidFacetName, InvalidFacetQuery, NoIndex, IndexExists, NoDocument, KeyDiffers, NoCandidate, SeveralCandidates, MissingId, BadId, ChangesSpent, IndexesSpent, IdsSpent, PathsSpent, FilterSyntax, FilterTooDeep, FilterNotANumber, NoSortRule, NotSortable, NotFilterable, NotFacet}
 use Rattle.request_refusals.specs.Members.{row_of}
 
 pub record Told : Type 0 where
@@ -20,7 +20,6 @@ told_of NoRoute = told 404 (codes "not_found") (codes "No such route.")
 told_of MethodNotAllowed = told 405 (codes "method_not_allowed") (codes "Method not allowed.")
 told_of InvalidUid = told 400 (codes "invalid_index_uid") (codes "Invalid index uid.")
 told_of (Unknown name) = told 400 (codes "bad_request") (codes "Unknown or malformed `" ++ name ++ codes "`.")
-told_of (NotBuilt name) = told 501 (codes "not_built") (codes "Not built: `" ++ name ++ codes "`.")
 told_of (InvalidSearch m) = told 400 (row_of m).code (codes "Invalid `" ++ (row_of m).name ++ codes "`.")
 told_of (FilterSyntax text place) =
     told 400 (codes "invalid_search_filter")

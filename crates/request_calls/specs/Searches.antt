@@ -1,12 +1,10 @@
 -- The searches that bodies and query strings ask for. Their members are tried one after the other, and then read.
-use Rattle.std.specs.Prelude.{ℕ, List, [], ◌∷◌, map, nat_le, Bool, true, false, ◌||◌, codes, Option, Some, None, is_some, option_map, option_and_then, unwrap_or, Result, Ok, Err, if◌then◌else◌}
+use Rattle.std.specs.Prelude.{ℕ, List, [], ◌∷◌, map, Bool, true, false, ◌||◌, codes, Option, Some, None, is_some, unwrap_or, Result, Ok, Err, if◌then◌else◌}
 use Rattle.std.specs.Str.{bytes_eq}
-use Rattle.serde_json.specs.Data.{unsigned, Data, boolean, number, string, array, object, Items, no_items, item, Members, no_members, member, put}
-use Rattle.serde_json.specs.Events.{items_len}
-use Rattle.serde_json.specs.Find.{get, as_null, as_bool, as_number, as_str, as_array, as_u64}
+use Rattle.serde_json.specs.Data.{unsigned, Data, boolean, number, string, array, object, Members, no_members, member, put}
+use Rattle.serde_json.specs.Find.{as_null, as_bool, as_str}
 use Rattle.serde_json.specs.View.{items_of}
 use Rattle.search_base.specs.Trying.{◌>>=◌, refused_as}
-use Rattle.search_base.specs.declared.query.Strategy.{Strategy}
 use Rattle.search_base.specs.declared.query.Strategy.TheVariants as strategy
 use Rattle.filter_tree.specs.Tree as tree
 use Rattle.filter_tree.specs.Tree.{Tree}
@@ -16,65 +14,19 @@ use Rattle.filter_expr.specs.declared.fault.FilterRefusal.TheVariants as of_filt
 use Rattle.search_call.specs.SearchView.{SearchView}
 use Rattle.search_call.specs.declared.Window.{Window}
 use Rattle.search_call.specs.declared.Window.TheVariants as window
-use Rattle.search_call.specs.declared.Criterion.{Criterion}
-use Rattle.index_settings.specs.declared.rule.RankingRule.{RankingRule}
-use Rattle.index_settings.specs.declared.rule.RankingRule.TheVariants.{Up, Down}
-use Rattle.index_settings.specs.Rules.{rule_of}
 use Rattle.request_refusals.specs.Members.{row_of, member_named}
 use Rattle.request_refusals.specs.declared.refusal.Refusal.{Refusal}
-use Rattle.request_refusals.specs.declared.refusal.Refusal.TheVariants.{Unknown, NotBuilt, InvalidSearch, FilterSyntax, FilterTooDeep, FilterNotANumber}
+use Rattle.request_refusals.specs.declared.refusal.Refusal.TheVariants.{Unknown, InvalidSearch, FilterSyntax, FilterTooDeep, FilterNotANumber}
 use Rattle.request_refusals.specs.declared.member.SearchMember.{SearchMember}
-use Rattle.request_refusals.specs.declared.member.SearchMember.TheVariants.{Query, Offset, Limit, Page, HitsPerPage, Filter, Facets, Sort, AttributesToRetrieve, MatchingStrategy, ShowCosts}
+use Rattle.request_refusals.specs.declared.member.SearchMember.TheVariants.{Query, Offset, Limit, Page, HitsPerPage, Filter, Facets, Sort, AttributesToRetrieve, MatchingStrategy, ShowCosts, Distinct}
 use Rattle.request_refusals.specs.declared.member.Shape.{Shape}
 use Rattle.request_refusals.specs.declared.member.Shape.TheVariants as shape
 use Rattle.request_routes.specs.Query.{Pair, number_of, texts_of}
 use Rattle.request_calls.specs.Bodies.{json_in, members_of}
+use Rattle.request_calls.specs.Values.{count_in, names_in, sort_in, strategy_in, said}
+use Rattle.request_calls.specs.Formats.{formats_in}
 
--- ---- what a value says, where it has the shape
-
--- a whole number from 0 on
-abbrev pub count_in : Data → Option ℕ
-count_in d = option_and_then as_u64 (as_number d)
-
-abbrev pub with_first : {A : Type 0} → Option A → Option (List A) → Option (List A)
-with_first None more = None
-with_first (Some x) more = option_map (λ xs. x ∷ xs) more
-
--- what each item of an array is, where each is something
-abbrev pub each_of : {A : Type 0} → (Data → Option A) → Items → Option (List A)
-each_of is no_items = Some []
-each_of is (item d ds) = with_first (is d) (each_of is ds)
-
--- an array of texts
-abbrev pub names_in : Data → Option (List (List ℕ))
-names_in d = option_and_then (each_of as_str) (as_array d)
-
-abbrev pub criterion_by : Option RankingRule → Option Criterion
-criterion_by (Some (Up attribute)) = Some (record { attribute = attribute; up = true })
-criterion_by (Some (Down attribute)) = Some (record { attribute = attribute; up = false })
-criterion_by _ = None
-
--- an attribute with `:asc` or `:desc` behind it
-abbrev pub criterion_in : Data → Option Criterion
-criterion_in d = option_and_then (λ text. criterion_by (rule_of text)) (as_str d)
-
--- at most 16 criteria
-abbrev pub criteria_in : Items → Option (List Criterion)
-criteria_in ds = if nat_le (items_len ds) 16 then each_of criterion_in ds else None
-
--- an array of criteria
-abbrev pub sort_in : Data → Option (List Criterion)
-sort_in d = option_and_then criteria_in (as_array d)
-
--- `last` or `all`
-abbrev pub strategy_by : List ℕ → Option Strategy
-strategy_by text =
-    if bytes_eq text (codes "last") then Some strategy.Last
-    else if bytes_eq text (codes "all") then Some strategy.All
-    else None
-
-abbrev pub strategy_in : Data → Option Strategy
-strategy_in d = option_and_then strategy_by (as_str d)
+-- ---- what a filter says
 
 abbrev pub filter_refusal : FilterRefusal → Refusal
 filter_refusal of_filter.NotText = InvalidSearch Filter
@@ -91,7 +43,7 @@ filter_in d = refused_as filter_refusal (parsed d)
 abbrev pub kept_if : Bool → SearchMember → Data → Tree → Result Tree Refusal
 kept_if fits m d filter = if fits || is_some (as_null d) then Ok filter else Err (InvalidSearch m)
 
--- a member of a shape; one that is not built is refused whatever its value
+-- a member of a shape
 abbrev pub value_tried : Shape → SearchMember → Data → Tree → Result Tree Refusal
 value_tried shape.Text m d filter = kept_if (is_some (as_str d)) m d filter
 value_tried shape.Count m d filter = kept_if (is_some (count_in d)) m d filter
@@ -100,7 +52,6 @@ value_tried shape.Names m d filter = kept_if (is_some (names_in d)) m d filter
 value_tried shape.Criteria m d filter = kept_if (is_some (sort_in d)) m d filter
 value_tried shape.Strategy m d filter = kept_if (is_some (strategy_in d)) m d filter
 value_tried shape.Filter m d filter = filter_in d
-value_tried shape.Later m d filter = Err (NotBuilt (row_of m).name)
 
 -- a name that no member has is unknown
 abbrev pub named_tried : List ℕ → Option SearchMember → Data → Tree → Result Tree Refusal
@@ -120,10 +71,6 @@ tried [] filter = Ok filter
 tried (given ∷ more) filter = member_tried given filter >>= tried more
 
 -- ---- what they ask for
-
--- what a member of an object says; nothing where it is null, or not there
-abbrev pub said : {A : Type 0} → (Data → Option A) → SearchMember → Data → Option A
-said is m d = option_and_then is (get (row_of m).name d)
 
 -- a page, where its number or its size is given, or else a slice
 abbrev pub window_of : Option ℕ → Option ℕ → Window → Window
@@ -149,6 +96,8 @@ search_in filter d = record {
   strategy = unwrap_or (said strategy_in MatchingStrategy d) strategy.Last;
   costs = unwrap_or (said as_bool ShowCosts d) false;
   retrieve = unwrap_or (said names_in AttributesToRetrieve d) all_names;
+  formats = formats_in d;
+  distinct = said as_str Distinct d;
 }
 
 -- the search that the members of an object ask for, in the order in which they are tried
@@ -199,7 +148,6 @@ written_as shape.Names text = list_written text
 written_as shape.Criteria text = list_written text
 written_as shape.Strategy text = string text
 written_as shape.Filter text = string text
-written_as shape.Later text = string text
 
 abbrev pub written : Option SearchMember → List ℕ → Data
 written None text = string text

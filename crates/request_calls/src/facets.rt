@@ -6,9 +6,9 @@ ghost use Rattle.search_base.specs.Gives.{Gives};
 ghost use Rattle.request_calls.specs.Searches.{given_by};
 ghost use Rattle.request_calls.specs.FacetSearches.{shared_tried, facet_member_tried, facet_tried, facet_call as facet_call_with, facets_from, facets_of};
 
-use crate::body::{read_json, text_at as text_named};
+use crate::body::{read_json, text_at};
 use crate::members::try_member;
-use crate::values::{strategy_at, text_at};
+use crate::values::{strategy_at, text_or};
 use filter_tree::Filter;
 use request_refusals::{Refusal, SearchMember, member_named};
 use search_base::{Fault, NoMemory, Word};
@@ -35,7 +35,7 @@ fn facet_search(alloc: Global, value: &Value) -> Result<FacetCall, Fault<Refusal
             }));
         }
     };
-    match text_named(alloc, value, "facetName")? {
+    match text_at(alloc, value, "facetName")? {
         Some(name) => Ok(facet_call(alloc, name, filter, value)?),
         None => Err(Fault::Refused(Refusal::MissingFacetName)),
     }
@@ -99,8 +99,8 @@ fn facet_call(
 {
     Ok(FacetCall {
         name,
-        query: text_named(alloc, object, "facetQuery")?,
-        q: text_at(alloc, object, SearchMember::Query)?,
+        query: text_at(alloc, object, "facetQuery")?,
+        q: text_or(alloc, object, SearchMember::Query, "")?,
         filter,
         strategy: strategy_at(object),
     })

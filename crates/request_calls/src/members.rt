@@ -15,8 +15,8 @@ use serde_json::{Map, Value};
 use std::alloc::Global;
 
 /// Tries the members of an object in the byte order of their names, and gives the filter among them: it lets all pass
-/// where there is none. Refused is the first name that no member has (`Unknown`), member that is not built yet
-/// (`NotBuilt`), or value that is no value of its member. The one other error is want of memory.
+/// where there is none. Refused is the first name that no member has (`Unknown`), or value that is no value of its
+/// member. The one other error is want of memory.
 pub(crate) fn try_members(
     alloc: Global,
     members: &Map<String, Value>,
@@ -56,8 +56,7 @@ fn try_value(
     ensures { Gives tree_of result
         (value_tried (row_of member).shape member (view value.now) (tree_of filter)) }
 {
-    let row = member.row();
-    match row.shape {
+    match member.row().shape {
         Shape::Text => kept_if(value.is_string(), filter, member, value),
         Shape::Count => kept_if(value.is_u64(), filter, member, value),
         Shape::Flag => kept_if(value.is_boolean(), filter, member, value),
@@ -65,9 +64,6 @@ fn try_value(
         Shape::Criteria => kept_if(sort_in(alloc, value)?.is_some(), filter, member, value),
         Shape::Strategy => kept_if(strategy_in(value).is_some(), filter, member, value),
         Shape::Filter => filter_of(alloc, value),
-        Shape::Later => Err(Fault::Refused(Refusal::NotBuilt {
-            name: Word::new(alloc, row.name)?,
-        })),
     }
 }
 

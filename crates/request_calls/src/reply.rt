@@ -20,7 +20,6 @@ fn status_of(refusal: &Refusal) -> StatusCode
         }
         Refusal::MethodNotAllowed => StatusCode::METHOD_NOT_ALLOWED,
         Refusal::IndexExists { .. } => StatusCode::CONFLICT,
-        Refusal::NotBuilt { .. } => StatusCode::NOT_IMPLEMENTED,
         _ => StatusCode::BAD_REQUEST,
     }
 }
@@ -33,7 +32,6 @@ fn code_of(refusal: &Refusal) -> &'static str
         Refusal::MethodNotAllowed => "method_not_allowed",
         Refusal::InvalidUid => "invalid_index_uid",
         Refusal::Unknown { .. } | Refusal::BadQueries => "bad_request",
-        Refusal::NotBuilt { .. } => "not_built",
         Refusal::InvalidSearch { member } => member.row().code,
         Refusal::FilterSyntax { .. }
         | Refusal::FilterTooDeep { .. }
@@ -109,10 +107,6 @@ fn message_of(alloc: Global, refusal: &Refusal) -> Result<String, AllocError>
         Refusal::InvalidUid => String::from_str(alloc, "Invalid index uid."),
         Refusal::Unknown { name } => format!(in alloc;
             "Unknown or malformed `{name}`.",
-            name = name.as_str()
-        ),
-        Refusal::NotBuilt { name } => format!(in alloc;
-            "Not built: `{name}`.",
             name = name.as_str()
         ),
         Refusal::InvalidSearch { member } => member_message(alloc, *member),

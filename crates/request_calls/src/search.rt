@@ -7,11 +7,13 @@ ghost use Rattle.request_refusals.specs.Members.{member_named as member_by_name}
 ghost use Rattle.request_refusals.specs.declared.member.SearchMember.TheVariants.{AttributesToRetrieve};
 ghost use Rattle.request_routes.specs.Held.{pair_of};
 ghost use Rattle.request_routes.specs.Query.{number_of as number_in};
-ghost use Rattle.request_calls.specs.Searches.{object_in, all_names as all_names_list, said, names_in, window_of, window_in as window_by, search_in as search_with, search_from, search_of, search_by, written as written_in, written_as as written_by, list_written, flag_or_text, number_or_text};
+ghost use Rattle.request_calls.specs.Values.{said, names_in};
+ghost use Rattle.request_calls.specs.Searches.{object_in, all_names as all_names_list, window_of, window_in as window_by, search_in as search_with, search_from, search_of, search_by, written as written_in, written_as as written_by, list_written, flag_or_text, number_or_text};
 
 use crate::body::read_json;
+use crate::formats::formats_in;
 use crate::members::{try_member, try_members};
-use crate::values::{count_at, flag_at, names_at, sort_at, strategy_at, text_at};
+use crate::values::{count_at, flag_at, names_at, sort_at, strategy_at, text_at, text_or};
 use filter_tree::Filter;
 use request_refusals::{Refusal, SearchMember, Shape, member_named};
 use request_routes::{Pair, number_of, texts_of};
@@ -89,7 +91,7 @@ pub(crate) fn search_in(
     ensures { IfOk result (λ call. call ≡ search_with (tree_of filter) (view object.now)) }
 {
     Ok(SearchCall {
-        q: text_at(alloc, object, SearchMember::Query)?,
+        q: text_or(alloc, object, SearchMember::Query, "")?,
         window: window_in(object),
         filter,
         facets: names_at(alloc, object, SearchMember::Facets)?,
@@ -97,6 +99,8 @@ pub(crate) fn search_in(
         strategy: strategy_at(object),
         costs: flag_at(object, SearchMember::ShowCosts),
         retrieve: retrieved(alloc, object)?,
+        formats: formats_in(alloc, object)?,
+        distinct: text_at(alloc, object, SearchMember::Distinct)?,
     })
 }
 
@@ -161,7 +165,7 @@ fn written_as(alloc: Global, shape: Shape, text: &str) -> Result<Value, NoMemory
         Shape::Count => number_value(alloc, text),
         Shape::Flag => flag_value(alloc, text),
         Shape::Names | Shape::Criteria => list_value(alloc, text),
-        Shape::Text | Shape::Strategy | Shape::Filter | Shape::Later => text_value(alloc, text),
+        Shape::Text | Shape::Strategy | Shape::Filter => text_value(alloc, text),
     }
 }
 

@@ -41,7 +41,6 @@ pub fn settings_fault(alloc: Global, refusal: SettingsRefusal) -> Fault<Refusal>
         SettingsRefusal::BadRankingRule { text } => Fault::Refused(Refusal::BadRankingRule {
             text,
         }),
-        SettingsRefusal::NotBuilt { member } => Fault::Refused(Refusal::NotBuilt { name: member }),
     }
 }
 

@@ -5,7 +5,7 @@ ghost use Rattle.search_call.specs.SearchView.{names_view};
 ghost use Rattle.search_base.specs.declared.query.Strategy.TheVariants as strategy;
 ghost use Rattle.request_refusals.specs.Members.{row_of};
 ghost use Rattle.request_refusals.specs.declared.member.SearchMember.TheVariants.{Sort, MatchingStrategy};
-ghost use Rattle.request_calls.specs.Searches.{each_of, names_in as names_by, criterion_in, criteria_in, sort_in as sort_by, strategy_by, strategy_in as strategy_from, count_in, said};
+ghost use Rattle.request_calls.specs.Values.{each_of, names_in as names_by, criterion_in, criteria_in, sort_in as sort_by, strategy_by, strategy_in as strategy_from, count_in, said};
 
 use index_settings::{RankingRule, ranking_rule};
 use request_refusals::SearchMember;
@@ -125,13 +125,32 @@ fn value_at(object: &Value, member: SearchMember) -> Option<&Value>
     object.get(member.row().name)
 }
 
-/// The text that a member is, or else the empty one.
-pub(crate) fn text_at(alloc: Global, object: &Value, member: SearchMember) -> Result<Word, NoMemory>
-    ensures { IfOk result (λ text. text ≡ unwrap_or (said as_str member (view object.now)) []) }
+/// The text that a member is.
+pub(crate) fn text_at(
+    alloc: Global,
+    object: &Value,
+    member: SearchMember,
+) -> Result<Option<Word>, NoMemory>
+    ensures { IfOk result (λ text. text ≡ said as_str member (view object.now)) }
+{
+    match str_at(object, member) {
+        Some(text) => Ok(Some(Word::new(alloc, text)?)),
+        None => Ok(None),
+    }
+}
+
+/// The text that a member is, or else this one.
+pub(crate) fn text_or(
+    alloc: Global,
+    object: &Value,
+    member: SearchMember,
+    default: &str,
+) -> Result<Word, NoMemory>
+    ensures { IfOk result (λ text. text ≡ unwrap_or (said as_str member (view object.now)) default.now) }
 {
     match str_at(object, member) {
         Some(text) => Word::new(alloc, text),
-        None => Word::new(alloc, ""),
+        None => Word::new(alloc, default),
     }
 }
 

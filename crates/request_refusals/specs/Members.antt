@@ -31,15 +31,15 @@ row_of AttributesToRetrieve =
 row_of MatchingStrategy = row (codes "matchingStrategy") (codes "invalid_search_matching_strategy") shape.Strategy
 row_of ShowCosts = row (codes "showCosts") (codes "invalid_search_show_costs") shape.Flag
 row_of AttributesToHighlight =
-    row (codes "attributesToHighlight") (codes "invalid_search_attributes_to_highlight") shape.Later
-row_of AttributesToCrop = row (codes "attributesToCrop") (codes "invalid_search_attributes_to_crop") shape.Later
-row_of CropLength = row (codes "cropLength") (codes "invalid_search_crop_length") shape.Later
-row_of CropMarker = row (codes "cropMarker") (codes "invalid_search_crop_marker") shape.Later
-row_of HighlightPreTag = row (codes "highlightPreTag") (codes "invalid_search_highlight_pre_tag") shape.Later
-row_of HighlightPostTag = row (codes "highlightPostTag") (codes "invalid_search_highlight_post_tag") shape.Later
+    row (codes "attributesToHighlight") (codes "invalid_search_attributes_to_highlight") shape.Names
+row_of AttributesToCrop = row (codes "attributesToCrop") (codes "invalid_search_attributes_to_crop") shape.Names
+row_of CropLength = row (codes "cropLength") (codes "invalid_search_crop_length") shape.Count
+row_of CropMarker = row (codes "cropMarker") (codes "invalid_search_crop_marker") shape.Text
+row_of HighlightPreTag = row (codes "highlightPreTag") (codes "invalid_search_highlight_pre_tag") shape.Text
+row_of HighlightPostTag = row (codes "highlightPostTag") (codes "invalid_search_highlight_post_tag") shape.Text
 row_of ShowMatchesPosition =
-    row (codes "showMatchesPosition") (codes "invalid_search_show_matches_position") shape.Later
-row_of Distinct = row (codes "distinct") (codes "invalid_search_distinct") shape.Later
+    row (codes "showMatchesPosition") (codes "invalid_search_show_matches_position") shape.Flag
+row_of Distinct = row (codes "distinct") (codes "invalid_search_distinct") shape.Text
 
 abbrev pub first_named : List ℕ → List SearchMember → Option SearchMember
 first_named name [] = None

@@ -19,8 +19,6 @@ pub enum Shape {
     Strategy,
     /// A text, or a list of texts and of lists of texts, each of which is a filter.
     Filter,
-    /// The member is not built yet, and refused whatever its value.
-    Later,
 }
 
 /// The members of a search. What each is stands in its row.
@@ -112,39 +110,39 @@ impl SearchMember {
             SearchMember::AttributesToHighlight => row(
                 "attributesToHighlight",
                 "invalid_search_attributes_to_highlight",
-                Shape::Later,
+                Shape::Names,
             ),
             SearchMember::AttributesToCrop => row(
                 "attributesToCrop",
                 "invalid_search_attributes_to_crop",
-                Shape::Later,
+                Shape::Names,
             ),
             SearchMember::CropLength => row(
                 "cropLength",
                 "invalid_search_crop_length",
-                Shape::Later,
+                Shape::Count,
             ),
             SearchMember::CropMarker => row(
                 "cropMarker",
                 "invalid_search_crop_marker",
-                Shape::Later,
+                Shape::Text,
             ),
             SearchMember::HighlightPreTag => row(
                 "highlightPreTag",
                 "invalid_search_highlight_pre_tag",
-                Shape::Later,
+                Shape::Text,
             ),
             SearchMember::HighlightPostTag => row(
                 "highlightPostTag",
                 "invalid_search_highlight_post_tag",
-                Shape::Later,
+                Shape::Text,
             ),
             SearchMember::ShowMatchesPosition => row(
                 "showMatchesPosition",
                 "invalid_search_show_matches_position",
-                Shape::Later,
+                Shape::Flag,
             ),
-            SearchMember::Distinct => row("distinct", "invalid_search_distinct", Shape::Later),
+            SearchMember::Distinct => row("distinct", "invalid_search_distinct", Shape::Text),
         }
     }
 }

@@ -13,8 +13,6 @@ pub enum Refusal {
     /// A name of the query string or a member of the body that the route does not have, or whose value has a wrong
     /// shape. The name `body` stands for a whole body that is to be an object.
     Unknown { name: Word },
-    /// A member of a search or of a patch of settings that is not built yet, or not for such a value.
-    NotBuilt { name: Word },
     /// This member of a search has a wrong shape.
     InvalidSearch { member: SearchMember },
     /// A text of the filter, by its number from 1, is neither blank nor a filter. Up to the byte at this place, from

@@ -6,10 +6,11 @@ use Rattle.search_base.specs.declared.query.Strategy.{Strategy}
 use Rattle.search_call.specs.declared.Window.{Window}
 use Rattle.search_call.specs.declared.Window.TheVariants.{Slice}
 use Rattle.search_call.specs.declared.Criterion.{Criterion}
+use Rattle.search_call.specs.FormatView.{FormatView, no_formats}
 
 -- the text that is searched for, the hits that are asked for, the filter that they pass, the attributes whose values
--- are counted, by what hits are sorted, which words a hit must hold, whether it shows its costs, and the names of the
--- members that it shows
+-- are counted, by what hits are sorted, which words a hit must hold, whether it shows its costs, the names of the members
+-- that it shows, how it shows their texts, and the attribute of whose values no two hits have one in common
 pub record SearchView : Type 0 where
   pub q : List ℕ
   pub window : Window
@@ -19,6 +20,8 @@ pub record SearchView : Type 0 where
   pub strategy : Strategy
   pub costs : Bool
   pub retrieve : List (List ℕ)
+  pub formats : FormatView
+  pub distinct : Option (List ℕ)
 
 -- the names of a list, where there is one
 abbrev pub names_view : {A : Type 0} → Option (Vec (List ℕ) A) → Option (List (List ℕ))
@@ -44,4 +47,6 @@ matches_of call = record {
   strategy = call.strategy;
   costs = false;
   retrieve = [];
+  formats = no_formats;
+  distinct = None;
 }

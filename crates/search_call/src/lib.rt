@@ -1,8 +1,9 @@
 //! What a search asks for, as requests and indexes see it.
 //!
 //! A `SearchCall` and a `FacetCall` hold data and promise nothing. Contracts see them as a `SearchView` and a
-//! `FacetCallView`, whose vectors are lists and whose filter is a tree. The crate stands on `search_base` and
-//! `filter_tree`, and on nothing that reads requests or keeps documents.
+//! `FacetCallView`, whose vectors are lists and whose filter is a tree, and a `FormatCall`, which says how a search
+//! shows the texts of its hits, as a `FormatView`. The crate stands on `search_base` and `filter_tree`, and on nothing
+//! that reads requests or keeps documents.
 #![tactic(auto)]
 
 use filter_tree::Filter;
@@ -25,6 +26,50 @@ pub struct Criterion {
     pub up: bool,
 }
 
+/// A member whose texts are cropped, and to how many words. `*` names all members.
+#[derive(Debug, Drop)]
+pub struct CropRow {
+    pub attribute: Word,
+    pub length: u64,
+}
+
+/// How hits show the texts of their members, beside these as they are stored.
+#[derive(Debug, Drop)]
+pub struct FormatCall {
+    /// The members in whose texts matched words stand between tags, where the request says. `*` names all.
+    pub highlight: Option<Vec<Word>>,
+    /// The members whose texts are cropped, where the request says. The first row that names a member counts.
+    pub crop: Option<Vec<CropRow>>,
+    /// What stands for the text that is left out of a crop.
+    pub marker: Word,
+    /// What stands before a matched word.
+    pub pre: Word,
+    /// What stands after it.
+    pub post: Word,
+    /// Whether each hit says where the matched words of its texts stand.
+    pub positions: bool,
+}
+
+impl Model for FormatCall {
+    ghost use Rattle.search_call.specs.FormatView.{FormatView};
+    ghost use Rattle.search_call.specs.SearchView.{names_view};
+    ghost use Rattle.std.specs.Option.{option_map};
+    ghost use Rattle.std.specs.Coded.{codes};
+
+    ghost Value = { FormatView };
+
+    ghost coded = { Prim.hlevel codes };
+
+    ghost view = { λ call. record {
+      highlight = names_view call.highlight;
+      crop = option_map (λ rows. rows.items) call.crop;
+      marker = call.marker;
+      pre = call.pre;
+      post = call.post;
+      positions = call.positions;
+    } };
+}
+
 /// What is searched for, which hits are asked for, and what they show.
 #[derive(Debug, Drop)]
 pub struct SearchCall {
@@ -44,6 +89,11 @@ pub struct SearchCall {
     pub costs: bool,
     /// The names of the top members that hits show. `*` names all, and stands here where the request names none.
     pub retrieve: Vec<Word>,
+    /// How hits show the texts of these members.
+    pub formats: FormatCall,
+    /// The attribute of whose values no two hits have one in common, where the request names one. Else it is the
+    /// index's own, if that has one.
+    pub distinct: Option<Word>,
 }
 
 impl Model for SearchCall {
@@ -65,6 +115,8 @@ impl Model for SearchCall {
       strategy = call.strategy;
       costs = call.costs;
       retrieve = call.retrieve.items;
+      formats = call.formats;
+      distinct = call.distinct;
     } };
 }
 

@@ -13,10 +13,10 @@ const DEFAULTS: &str =
 
 // A patch of each member, with lists that are kept as they are.
 const EACH: &str =
-    r#"{"displayedAttributes":["id","id"],"distinctAttribute":null,"faceting":{"maxValuesPerFacet":0},"filterableAttributes":["b","a"],"pagination":{"maxTotalHits":1000000},"rankingRules":["x:y:asc","words","words","a:desc:asc"],"searchableAttributes":[],"sortableAttributes":["é"],"stopWords":["a b"],"synonyms":{"b":[],"a":["x","x"]}}"#;
+    r#"{"displayedAttributes":["id","id"],"distinctAttribute":"a.b","faceting":{"maxValuesPerFacet":0},"filterableAttributes":["b","a"],"pagination":{"maxTotalHits":1000000},"rankingRules":["x:y:asc","words","words","a:desc:asc"],"searchableAttributes":[],"sortableAttributes":["é"],"stopWords":["a b"],"synonyms":{"b":[],"a":["x","x"]}}"#;
 
 const EACH_SETTINGS: &str =
-    r#"{"displayedAttributes":["id","id"],"distinctAttribute":null,"faceting":{"maxValuesPerFacet":0},"filterableAttributes":["b","a"],"pagination":{"maxTotalHits":1000000},"rankingRules":["x:y:asc","words","words","a:desc:asc"],"searchableAttributes":[],"sortableAttributes":["é"],"stopWords":["a b"],"synonyms":{"a":["x","x"],"b":[]}}"#;
+    r#"{"displayedAttributes":["id","id"],"distinctAttribute":"a.b","faceting":{"maxValuesPerFacet":0},"filterableAttributes":["b","a"],"pagination":{"maxTotalHits":1000000},"rankingRules":["x:y:asc","words","words","a:desc:asc"],"searchableAttributes":[],"sortableAttributes":["é"],"stopWords":["a b"],"synonyms":{"a":["x","x"],"b":[]}}"#;
 
 const SAME: &str = r#"{"faceting":{},"pagination":{},"synonyms":{"a":["x","x"],"b":[]}}"#;
 
@@ -24,7 +24,7 @@ const EACH_NULL: &str =
     r#"{"displayedAttributes":null,"distinctAttribute":null,"faceting":null,"filterableAttributes":null,"pagination":{"maxTotalHits":null},"rankingRules":null,"searchableAttributes":null,"sortableAttributes":null,"stopWords":null,"synonyms":null}"#;
 
 // Patches of the settings of a new index, and how the settings are printed then.
-const PATCHED: [(&[&str], &str); 5] = [
+const PATCHED: [(&[&str], &str); 6] = [
     (&[], DEFAULTS),
     (
         &["{\"stopWords\":[\"the\"]}", "{\"stopWords\":null}"],
@@ -32,6 +32,7 @@ const PATCHED: [(&[&str], &str); 5] = [
     ),
     (&[EACH], EACH_SETTINGS),
     (&[EACH, SAME], EACH_SETTINGS),
+    (&[EACH_SETTINGS], EACH_SETTINGS),
     (&[EACH, EACH_NULL], DEFAULTS),
 ];
 
@@ -84,8 +85,16 @@ fn only_synonym(lists: &[SynonymList]) -> (&str, &str) {
     }
 }
 
+// The text, or `none`.
+fn text_or_none(text: Option<&Word>) -> &str {
+    match text {
+        Some(text) => text.as_str(),
+        None => "none",
+    }
+}
+
 const MEMBERS: &str =
-    r#"{"displayedAttributes":["a"],"faceting":{"maxValuesPerFacet":7},"filterableAttributes":["b"],"pagination":{"maxTotalHits":8},"rankingRules":["c:asc"],"searchableAttributes":["d"],"sortableAttributes":["e"],"stopWords":["f"],"synonyms":{"g":["h"]}}"#;
+    r#"{"displayedAttributes":["a"],"distinctAttribute":"i","faceting":{"maxValuesPerFacet":7},"filterableAttributes":["b"],"pagination":{"maxTotalHits":8},"rankingRules":["c:asc"],"searchableAttributes":["d"],"sortableAttributes":["e"],"stopWords":["f"],"synonyms":{"g":["h"]}}"#;
 
 fn check_lists(rt: &impl Abort, all: &Settings) {
     check_text(rt, only(all.displayed_attributes()), "a", "displayed");
@@ -106,7 +115,8 @@ fn the_members_of_the_settings(rt: HostRuntime) {
     check_lists(&rt, &all);
     check(&rt, all.max_values_per_facet() == 7, "values");
     check(&rt, all.max_total_hits() == 8, "hits");
-    check(&rt, all.distinct_attribute().is_none(), "distinct");
+    check_text(&rt, text_or_none(all.distinct_attribute()), "i", "distinct");
+    check(&rt, old.distinct_attribute().is_none(), "no distinct");
 }
 
 const FAULTS: &str = r#"[]~shape 
@@ -126,7 +136,9 @@ null~shape
 {"synonyms":{"a":"b"}}~shape synonyms
 {"synonyms":{"a":["b"],"c":null}}~shape synonyms
 {"distinctAttribute":5}~shape distinctAttribute
-{"distinctAttribute":"year"}~not built distinctAttribute
+{"distinctAttribute":[]}~shape distinctAttribute
+{"distinctAttribute":{}}~shape distinctAttribute
+{"distinctAttribute":"year"}~none
 {"faceting":5}~shape faceting
 {"faceting":[]}~shape faceting
 {"faceting":{"maxValuesPerFacet":"5"}}~shape faceting.maxValuesPerFacet
@@ -166,9 +178,6 @@ fn fault_text(rt: &impl Abort, alloc: Global, fault: &Result<(), SettingsFault>)
         }
         Err(Fault::Refused(SettingsRefusal::BadRankingRule { text })) => {
             format!(in alloc; "rule {}", text.as_str())
-        }
-        Err(Fault::Refused(SettingsRefusal::NotBuilt { member })) => {
-            format!(in alloc; "not built {}", member.as_str())
         }
         Err(Fault::NoMemory) => format!(in alloc; "no memory"),
     };

@@ -47,7 +47,7 @@ pub(crate) fn call_of(
     read_call(alloc, &table, &wire).expect(rt, "memory")
 }
 
-fn reply_text(rt: &impl Abort, alloc: Global, reply: &Reply) -> String {
+pub(crate) fn reply_text(rt: &impl Abort, alloc: Global, reply: &Reply) -> String {
     match reply {
         Reply::Made { status, body, .. } => {
             let text = str::from_utf8(body).unwrap_or("no text");
@@ -57,7 +57,13 @@ fn reply_text(rt: &impl Abort, alloc: Global, reply: &Reply) -> String {
     }
 }
 
-fn refusal(rt: &impl Abort, alloc: Global, status: &str, code: &str, message: &str) -> String {
+pub(crate) fn refusal(
+    rt: &impl Abort,
+    alloc: Global,
+    status: &str,
+    code: &str,
+    message: &str,
+) -> String {
     let text = format!(in alloc;
         "{status} {{\"code\":\"{code}\",\"message\":\"{message}\",\"type\":\"invalid_request\"}}"
     );

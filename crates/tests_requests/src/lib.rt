@@ -11,6 +11,8 @@ mod checks;
 #[cfg(test)]
 mod demo;
 #[cfg(test)]
+mod formats;
+#[cfg(test)]
 mod routes;
 #[cfg(test)]
 mod searches;

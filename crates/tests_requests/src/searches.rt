@@ -60,8 +60,9 @@ fn tell_names(rt: &impl Abort, names: &[Word], text: &mut String) {
     }
 }
 
-fn tell_facets(rt: &impl Abort, facets: &Option<Vec<Word>>, text: &mut String) {
-    match facets {
+// The names of a list, or `-` where none is given.
+pub(crate) fn tell_given(rt: &impl Abort, names: &Option<Vec<Word>>, text: &mut String) {
+    match names {
         Some(names) => {
             add(rt, text, "[");
             tell_names(rt, names, text);
@@ -93,7 +94,7 @@ fn search_text(rt: &impl Abort, alloc: Global, call: &SearchCall) -> String {
     let mut text = String::new(alloc);
     let (q, filter) = (call.q.as_str(), filter_kind(&call.filter));
     write!(text, "{q}|{:?}|{filter}|", call.window).expect(rt, "memory");
-    tell_facets(rt, &call.facets, &mut text);
+    tell_given(rt, &call.facets, &mut text);
     add(rt, &mut text, "|");
     tell_sort(rt, &call.sort, &mut text);
     write!(text, "|{:?}|{}|", call.strategy, call.costs).expect(rt, "memory");

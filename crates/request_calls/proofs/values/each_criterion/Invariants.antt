@@ -1,6 +1,6 @@
 use Rattle.std.proofs.Common.{◌≡◌, ◌++◌, drop, option_map}
 use Rattle.serde_json.specs.View.{items_view}
-use Rattle.request_calls.specs.Searches.{each_of, criterion_in}
+use Rattle.request_calls.specs.Values.{each_of, criterion_in}
 use Rattle.request_calls.proofs.values.each_criterion.Given as goal
 
 -- the criteria so far, and those that are left, are all

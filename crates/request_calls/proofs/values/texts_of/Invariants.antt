@@ -1,7 +1,7 @@
 use Rattle.std.proofs.Common.{◌≡◌, ◌++◌, drop, option_map}
 use Rattle.serde_json.specs.Find.{as_str}
 use Rattle.serde_json.specs.View.{items_view}
-use Rattle.request_calls.specs.Searches.{each_of}
+use Rattle.request_calls.specs.Values.{each_of}
 use Rattle.request_calls.proofs.values.texts_of.Given as goal
 
 -- the texts so far, and those that are left, are all
