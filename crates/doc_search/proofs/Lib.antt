@@ -7,3 +7,4 @@ pub mod MatchLemmas
 pub mod MeetLemmas
 pub mod RankLemmas
 pub mod FoundLemmas
+pub mod DistinctLemmas

@@ -1,6 +1,7 @@
 -- What a search finds among documents, and a search of the values that they have.
-use Rattle.std.specs.Prelude.{◌≡◌, Bool, List, map, filter}
+use Rattle.std.specs.Prelude.{◌≡◌, ℕ, Bool, List, length, map, filter}
 use Rattle.search_base.specs.declared.rule.Rule.{Rule}
+use Rattle.search_base.specs.declared.value.FacetValue.{FacetValue}
 use Rattle.search_base.specs.GraphView.{GraphView}
 use Rattle.search_base.specs.Hits.{Match}
 use Rattle.search_base.specs.RowsView.{RowsView}
@@ -13,8 +14,9 @@ use Rattle.facet_counts.specs.declared.rows.CountRow.{CountRow}
 use Rattle.list_facets.specs.declared.query.FacetQuery.{FacetQuery}
 use Rattle.list_facets.specs.Rows.{rows_asked}
 use Rattle.bucket_sort.specs.declared.log.Opening.{Opening}
+use Rattle.distinct_hits.specs.Distinct.{texts_by, distinct_hits, reach, taken}
 use Rattle.rule_buckets.specs.Entries.{is_match}
-use Rattle.rule_buckets.specs.Matches.{hits_of}
+use Rattle.rule_buckets.specs.Matches.{hits_of, ids_of}
 use Rattle.rule_buckets.specs.Rules.{RulesView}
 use Rattle.doc_search.specs.declared.found.Search.{Search}
 use Rattle.doc_search.specs.Matched.{rows_matching}
@@ -60,6 +62,30 @@ abbrev pub opened_in : DocumentsView → Search → List Opening
 opened_in among search =
     opened (passes_in among search) search.query.now search.rules.now among.documents
     search.window.offset search.window.limit
+
+-- ---- a search of which no two hits have a value in common
+
+-- the documents that match, in their order
+abbrev pub order_in : DocumentsView → Search → List ℕ
+order_in among search = ids_of (hits_of (matches_in among search) 0 (length (matches_in among search)))
+
+-- how many of them are looked at until the window is full, where these are the values of each
+abbrev pub reach_in : DocumentsView → Search → (ℕ → List FacetValue) → ℕ
+reach_in among search values = reach (texts_by values) (order_in among search) search.window.offset search.window.limit
+
+-- those that are looked at
+abbrev pub taken_in : DocumentsView → Search → (ℕ → List FacetValue) → List ℕ
+taken_in among search values = taken (texts_by values) (order_in among search) search.window.offset search.window.limit
+
+-- the hits of the window
+abbrev pub distinct_in : DocumentsView → Search → (ℕ → List FacetValue) → List ℕ
+distinct_in among search values =
+    distinct_hits (texts_by values) (order_in among search) search.window.offset search.window.limit
+
+-- the buckets that are opened on the way to those that are looked at
+abbrev pub opened_for : DocumentsView → Search → (ℕ → List FacetValue) → List Opening
+opened_for among search values =
+    opened (passes_in among search) search.query.now search.rules.now among.documents 0 (reach_in among search values)
 
 -- ---- a search of values
 

@@ -7,4 +7,5 @@ pub mod Meeting
 pub mod Ranked
 pub mod Matched
 pub mod Searched
+pub mod Valued
 pub mod Found

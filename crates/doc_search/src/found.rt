@@ -1,14 +1,17 @@
 ghost use Rattle.std.specs.Prelude.{◌≡◌, length, map, is_err, IfOk};
 ghost use Rattle.search_base.specs.Graphs.{IsGraph};
+ghost use Rattle.facet_counts.specs.Counts.{counted};
 ghost use Rattle.bucket_sort.specs.Opens.{Opens, log_state};
 ghost use Rattle.rule_buckets.specs.Matches.{ids_of};
 ghost use Rattle.doc_search.specs.Found.{matches_in, hits_in, counts_in, opened_in};
+ghost use Rattle.doc_search.specs.Rows.{rows_at};
 
 use crate::documents::IndexedDocuments;
 use crate::facets::{AskedCounts, all_counts};
 use crate::over::rules_over;
 use crate::source::Snapshot;
 use bucket_sort::BucketLog;
+use doc_sets::DocSet;
 use facet_counts::FacetReply;
 use filter_tree::Filter;
 use rule_buckets::{HitWindow, page};
@@ -63,8 +66,23 @@ pub fn search_documents<G>(
     let snapshot = Snapshot::new(documents);
     let rules = rules_over(alloc, &snapshot, query, filter, rules)?;
     let hits = page(alloc, &rules, window, log, openings)?;
-    let matching = rules.matching();
-    let facets = all_counts(alloc, documents, matching, counts)?;
+    with_counts(alloc, documents, rules.matching(), counts, hits)
+}
+
+/// What a search finds with these hits: how many documents match, and the counts over them.
+pub(crate) fn with_counts(
+    alloc: Global,
+    documents: &IndexedDocuments<'_>,
+    matching: &DocSet,
+    asked: AskedCounts,
+    hits: Vec<DocId>,
+) -> Result<DocumentsFound, NoMemory>
+    ensures hits { IfOk result (λ found. found.hits.items ≡ hits.items) }
+    ensures total { IfOk result (λ found. found.total ≡ length matching.now.ids) }
+    ensures facets { IfOk result (λ found. found.facets.items
+        ≡ map (counted asked.most (map (rows_at documents.now.documents) matching.now.ids)) asked.attributes.items) }
+{
+    let facets = all_counts(alloc, documents, matching, asked)?;
     Ok(DocumentsFound {
         hits,
         total: matching.len(),

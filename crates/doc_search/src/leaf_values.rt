@@ -1,0 +1,90 @@
+ghost use Rattle.std.specs.Prelude.{◌≡◌, [], map, IfOk};
+ghost use Rattle.search_base.specs.SortKeys.{leaves_under};
+ghost use Rattle.doc_search.specs.Valued.{values_under};
+
+use crate::documents::IndexedDocuments;
+use distinct_hits::Values;
+use search_base::{DocId, FacetValue, Leaf, NoMemory, PathId};
+use std::alloc::Global;
+use std::marker::Model;
+
+/// The values of documents under a path whose leaves the index keeps, and whose values were asked for. No document is
+/// read for them.
+#[derive(Drop)]
+pub struct LeafValues<'a, 'b> {
+    documents: &'a IndexedDocuments<'b>,
+    path: PathId,
+    asked: Vec<DocId>,
+}
+
+impl<'a, 'b> Model for LeafValues<'a, 'b> {
+    ghost use Rattle.std.specs.Prelude.{map};
+    ghost use Rattle.doc_search.specs.Valued.{LeafValuesView};
+
+    ghost Value = { LeafValuesView };
+
+    ghost view = { λ v. record {
+      among = v.documents.now;
+      path = v.path.0;
+      asked = map (λ id. id.0) v.asked.items;
+    } };
+}
+
+impl<'a, 'b> LeafValues<'a, 'b> {
+    /// The values under a path, of which none was asked for yet. Takes no memory.
+    pub fn new(
+        alloc: Global,
+        documents: &'a IndexedDocuments<'b>,
+        path: PathId,
+    ) -> LeafValues<'a, 'b>
+        ensures { result ≡ record { among = documents.now; path = path.0; asked = [] } }
+    {
+        LeafValues {
+            documents,
+            path,
+            asked: Vec::new(alloc),
+        }
+    }
+}
+
+impl<'a, 'b> Values for LeafValues<'a, 'b> {
+    ghost use Rattle.doc_search.specs.Valued.{values_under};
+
+    ghost values = { λ v. values_under v.among.documents v.path };
+
+    ghost asked = { λ v. v.asked };
+
+    ghost Asks = { λ before d after. Unit {0} };
+
+    fn values(&mut self, alloc: Global, id: DocId) -> Result<Vec<FacetValue>, NoMemory> {
+        let values = values_of(alloc, self.documents, self.path, id)?;
+        self.asked.push(id)?;
+        Ok(values)
+    }
+}
+
+// The values of a document under a path.
+fn values_of(
+    alloc: Global,
+    documents: &IndexedDocuments<'_>,
+    path: PathId,
+    id: DocId,
+) -> Result<Vec<FacetValue>, NoMemory>
+    ensures { IfOk result (λ values. values.items ≡ values_under documents.now.documents path.0 id.0) }
+{
+    let table = documents.leaves();
+    values_among(alloc, table.leaves(id), path)
+}
+
+// The values of those of the leaves that stand under a path.
+fn values_among(alloc: Global, leaves: &[Leaf], path: PathId) -> Result<Vec<FacetValue>, NoMemory>
+    ensures { IfOk result (λ values. values.items ≡ map (λ leaf. leaf.value) (leaves_under path.0 leaves.now)) }
+{
+    let mut values = Vec::new(alloc);
+    for leaf in leaves {
+        if leaf.path == path {
+            values.push(leaf.value.clone()?)?;
+        }
+    }
+    Ok(values)
+}
