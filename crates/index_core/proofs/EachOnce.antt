@@ -1,9 +1,10 @@
 -- The hits of a search stand each once and in order, as many as the window has room for and documents match behind its
 -- offset.
-use Rattle.std.proofs.Common.{◌≡◌, ℕ, suc, ◌-◌, ◌*◌, ◌<◌, ◌≤◌, ◌==◌, min, Bool, true, cond, List, [], ◌∷◌, ◌++◌, length, map, filter, Option, None, Some, refl, sym, ap, ap₂, subst, ◌∙◌, arith}
+use Rattle.std.proofs.Common.{◌≡◌, ℕ, suc, ◌-◌, ◌*◌, ◌<◌, ◌≤◌, ◌==◌, min, Bool, true, cond, List, [], ◌∷◌, ◌++◌, length, map, drop, filter, Option, None, Some, refl, sym, ap, ap₂, subst, ◌∙◌, arith}
 use Rattle.std.specs.Prelude.{nat_lt, option_and_then}
 use Rattle.std.specs.Option.{option_map}
 use Rattle.std.specs.List.{AllByRecursion, filter_map, flat_map, cons_option}
+use Rattle.std.proofs.lemmas.List.{length-take, length-drop}
 use Rattle.search_base.specs.declared.cost_key.CostKey.{CostKey}
 use Rattle.search_base.specs.declared.rule.Rule.{Rule}
 use Rattle.search_base.specs.CostOrder.{before}
@@ -19,13 +20,17 @@ use Rattle.bucket_sort.proofs.LawLemmas.{has-its-hits, opens-few}
 use Rattle.doc_sets.specs.Sets.{AreAbove, IsIncreasing}
 use Rattle.doc_store.specs.Sound.{Increase, IsSound}
 use Rattle.doc_store.specs.Store.{Row}
-use Rattle.index_core.specs.Found.{most_hits, window_end, window_size}
+use Rattle.distinct_hits.specs.Kept.{kept}
+use Rattle.index_core.specs.Distinct.{distinct_attribute_in}
+use Rattle.index_core.specs.Found.{asked_of, candidates_of, in_order, most_hits, texts_of, window_size}
+use Rattle.index_core.specs.Looked.{looked_at}
 use Rattle.index_changes.specs.Index.{Index}
 use Rattle.index_core.specs.Laws.{HitsAreEachOnce}
 use Rattle.index_core.specs.Matching.{Matching, with_costs, match_of, matching, costs_in, rows_in, query_in, rules_in}
 use Rattle.index_core.specs.Opened as index
 use Rattle.index_changes.proofs.ByIds.{rows-there}
 use Rattle.index_core.proofs.HitLemmas.{all-hits, hits-seen}
+use Rattle.index_core.proofs.KeptLemmas.{ordered-distinct}
 use Rattle.index_core.proofs.Tracing.{Matches, matching-match, entries-are, where-passing}
 
 all-weaker : {X : Type 0} (P Q : X → Type 0) → ((x : X) → P x → Q x) → (xs : List X) → AllByRecursion P xs → AllByRecursion Q xs
@@ -134,11 +139,22 @@ module _ (i : Index) (call : SearchView) (sound : IsSound i.store) where
       sym (length-mapped id_in (hits offset limit)) ∙ ap length (seen offset limit) ∙ (has-its-hits key levels (map id_in (matching i call)) offset limit up).full
       ∙ ap (λ k. min limit (k - offset)) (length-mapped id_in (matching i call))
 
-  -- one bucket a level and match is opened at most, up to the end of the window
-  pub opened-few : length (index.opened_in i call) ≤ length (rules_in i call) * min (window_end (most_hits i) call) (length (matching i call))
+  order-full : length (in_order (matching i call)) ≡ length (matching i call)
+  order-full = (let full = hits-full 0 (length (matching i call)) in omega (arith, full))
+
+  -- as many hits as the window has room for and documents may be handed out behind its offset
+  pub asked-full : (o : Option (List ℕ)) → length (asked_of o (most_hits i) call (matching i call))
+      ≡ min (window_size (most_hits i) call) (length (candidates_of o (matching i call)) - offset_of call.window)
+  asked-full None = hits-full (offset_of call.window) (window_size (most_hits i) call) ∙ ap (λ n. min (window_size (most_hits i) call) (n - offset_of call.window)) (sym order-full)
+  asked-full (Some attribute) =
+      let all = kept (texts_of attribute) (in_order (matching i call)) in
+      length-take (window_size (most_hits i) call) (drop (offset_of call.window) all) ∙ ap (min (window_size (most_hits i) call)) (length-drop (offset_of call.window) all)
+
+  -- one bucket a level and match is opened at most, up to the last document that is looked at
+  pub opened-few : length (index.opened_in i call) ≤ length (rules_in i call) * min (looked_at i call).end (length (matching i call))
   opened-few =
-      subst (λ n. length (index.opened_in i call) ≤ length (rules_in i call) * min (window_end (most_hits i) call) n) (length-mapped id_in (matching i call))
-      (opens-few key levels (map id_in (matching i call)) (offset_of call.window) (window_end (most_hits i) call) up).few
+      subst (λ n. length (index.opened_in i call) ≤ length (rules_in i call) * min (looked_at i call).end n) (length-mapped id_in (matching i call))
+      (opens-few key levels (map id_in (matching i call)) (looked_at i call).start (looked_at i call).end up).few
 
   pub hits-ordered : (offset limit : ℕ) → AreOrdered (base.stands_before before (λ (m : Matching). m.costs) (λ (m : Matching). m.row.id)) (hits offset limit)
   hits-ordered offset limit =
@@ -148,4 +164,10 @@ module _ (i : Index) (call : SearchView) (sound : IsSound i.store) where
       (subst (AreOrdered (bucket.stands_before before key levels 0)) (sym (seen offset limit)) (has-its-hits key levels (map id_in (matching i call)) offset limit up).in_order)
 
 pub hits_are_each_once : HitsAreEachOnce
-hits_are_each_once i call sound = hits-ordered i call sound (offset_of call.window) (window_size (most_hits i) call)
+hits_are_each_once i call sound = by (distinct_attribute_in i call)
+  where
+    by : (o : Option (List ℕ)) → AreOrdered (base.stands_before before (λ (m : Matching). m.costs) (λ (m : Matching). m.row.id)) (asked_of o (most_hits i) call (matching i call))
+    by None = hits-ordered i call sound (offset_of call.window) (window_size (most_hits i) call)
+    by (Some attribute) =
+        ordered-distinct (texts_of attribute) (base.stands_before before (λ (m : Matching). m.costs) (λ (m : Matching). m.row.id)) (in_order (matching i call)) (offset_of call.window)
+        (window_size (most_hits i) call) (hits-ordered i call sound 0 (length (matching i call)))

@@ -1,5 +1,5 @@
 -- What a search finds: hits that are read by their ids, and the matches of an index among its documents.
-use Rattle.std.proofs.Common.{◌≡◌, ℕ, suc, ◌+◌, ◌-◌, ◌<◌, ◌≤◌, ◌⊎◌, inl, inr, min, Bool, true, false, cond, List, [], ◌∷◌, ◌++◌, length, map, take, slice_index_or, Option, None, Some, Ok, refl, sym, ap, ap₂, ◌∙◌, arith}
+use Rattle.std.proofs.Common.{◌≡◌, ℕ, suc, ◌+◌, ◌-◌, ◌^◌, ◌<◌, ◌≤◌, ◌⊎◌, inl, inr, min, Bool, true, false, cond, List, [], ◌∷◌, ◌++◌, length, map, take, slice_index_or, Option, None, Some, Ok, refl, sym, ap, ap₂, ◌∙◌, arith}
 use Rattle.std.specs.Prelude.{◌&&◌}
 use Rattle.std.specs.Option.{option_map, is_some}
 use Rattle.std.specs.List.{AllByRecursion, filter_map, cons_option}
@@ -27,7 +27,7 @@ use Rattle.search_base.specs.Trying.{◌>>◌}
 use Rattle.search_settings.specs.Rules.{path_named}
 use Rattle.search_settings.specs.SearchFaults.{facet_search_fault}
 use Rattle.index_core.specs.FacetHits.{facet_found, facet_hits, hits_under}
-use Rattle.facet_counts.specs.Counts.{counted}
+use Rattle.facet_counts.specs.Counts.{counted, text_of}
 use Rattle.search_call.specs.SearchView.{SearchView, FacetCallView}
 use Rattle.search_call.specs.Windows.{offset_of}
 use Rattle.doc_store.specs.Store.{Row, row_at}
@@ -35,13 +35,24 @@ use Rattle.doc_store.specs.Sound.{IsSound}
 use Rattle.index_changes.specs.Index.{Index}
 use Rattle.index_changes.proofs.ByIds.{IsThere, rows-there}
 use Rattle.index_core.specs.Matching.{Matching, with_costs, match_of, matching, passes, query_in, rows_in, rules_in, uses_in, costs_in, rows_matching as rows_of_matches}
-use Rattle.index_core.specs.Found.{Found, FoundHit, hit_of, asked_of, most_hits, window_end, window_size, counts_of}
+use Rattle.distinct_hits.specs.Distinct.{distinct_hits, reach, texts_by}
+use Rattle.doc_search.specs.Found.{matches_in, order_in, passes_in, reach_in}
+use Rattle.doc_search.specs.Searched.{DocumentsView, documents_in}
+use Rattle.doc_search.specs.declared.found.DocumentsFound.{DocumentsFound}
+use Rattle.doc_search.specs.declared.found.Search.{Search}
+use Rattle.index_core.specs.Among.{IsFound, IsSearchOf, compared_found, ids_found, stored_values, values_of_row}
+use Rattle.index_core.specs.Distinct.{distinct_attribute_in}
+use Rattle.index_core.specs.Fetches.{compared_of}
+use Rattle.index_core.specs.Looked.{looked_under}
+use Rattle.index_core.specs.Found.{Found, FoundHit, hit_of, asked, asked_of, slice_of, in_order, texts_of, most_hits, window_end, window_size, counts_of}
 use Rattle.search_settings.specs.Asked.{paths_asked}
 use Rattle.doc_rows.specs.Rows.{rows_of}
 use Rattle.index_core.specs.declared.ranking.Ranking.{Ranking}
 use Rattle.index_core.specs.Ranking.{IsRankingOf}
 use Rattle.index_core.specs.Shown.{costs_shown, hit_at, hit_under, Finds}
 use Rattle.index_core.proofs.HitLemmas.{all-hits, hits-seen}
+use Rattle.index_core.proofs.KeptLemmas.{all-distinct, distinct-cut, distinct-seen, reach-cut, reach-seen}
+use Rattle.search_base.specs.declared.document.DocId.{DocId}
 
 -- ---- a list of documents that are read one after the other
 
@@ -85,10 +96,22 @@ matching-are index call (r ∷ rows) h = by (passes index call r.document) (tupl
     by true None e rest = rest
     by true (Some costs) e rest = (record { there = h.0; costs = e }, rest)
 
--- and so are those that are asked for
-pub asked-are : (index : Index) (call : SearchView) → IsSound index.store → AllByRecursion (IsMatch index call) (asked_of (most_hits index) call (matching index call))
-asked-are index call sound =
-    all-hits before (λ m. m.costs) (λ m. m.row.id) (IsMatch index call) (matching index call) (offset_of call.window) (window_size (most_hits index) call) (matching-are index call index.store.rows (rows-there index.store sound))
+-- and so are those of a slice
+slice-are : (index : Index) (call : SearchView) (offset limit : ℕ) → IsSound index.store → AllByRecursion (IsMatch index call) (slice_of (matching index call) offset limit)
+slice-are index call offset limit sound =
+    all-hits before (λ m. m.costs) (λ m. m.row.id) (IsMatch index call) (matching index call) offset limit (matching-are index call index.store.rows (rows-there index.store sound))
+
+pub ordered-are : (index : Index) (call : SearchView) → IsSound index.store → AllByRecursion (IsMatch index call) (in_order (matching index call))
+ordered-are index call sound = slice-are index call 0 (length (matching index call)) sound
+
+-- and those that are asked for
+pub asked-are : (index : Index) (call : SearchView) → IsSound index.store → AllByRecursion (IsMatch index call) (asked index call)
+asked-are index call sound = by (distinct_attribute_in index call)
+  where
+    by : (o : Option (List ℕ)) → AllByRecursion (IsMatch index call) (asked_of o (most_hits index) call (matching index call))
+    by None = slice-are index call (offset_of call.window) (window_size (most_hits index) call) sound
+    by (Some attribute) =
+        all-distinct (texts_of attribute) (IsMatch index call) (in_order (matching index call)) (offset_of call.window) (window_size (most_hits index) call) (ordered-are index call sound)
 
 costs-read : (index : Index) (call : SearchView) (m : Matching) → IsMatch index call m → hit_under index call m.row ≡ hit_of call m
 costs-read index call m h = ap (λ (o : Option (List CostKey)). record { document = m.row.document; costs = o }) (by call.costs)
@@ -208,36 +231,105 @@ cut-window ms offset start end most is le = by (near-or-far offset most)
     by (inl near) = ap (λ n. hits_of ms n (end - n)) (let e : start ≡ offset = omega arith in e)
     by (inr far) = ap (hits_of ms start) (let e : end - start ≡ 0 = omega arith in e) ∙ sym (ap (hits_of ms offset) (let e : end - offset ≡ 0 = omega arith in e))
 
--- what was found and counted is what the search finds
-pub finds : (index : Index) (call : SearchView) (passing : RowsView → Bool) (graph : GraphView) (rules : List Rule) (start end bound total : ℕ) (ids : List ℕ) (facets : Option (List FacetView))
-    → IsSound index.store → IsAsked index call passing graph rules
-    → start ≡ min (offset_of call.window) bound → end ≡ window_end (most_hits index) call → end ≤ bound
-    → ids ≡ ids_of (hits_of (matches_among passing graph rules (documents_of index.store.paths (uses_in index) index.store.rows)) start (end - start))
-    → total ≡ min (length (matches_among passing graph rules (documents_of index.store.paths (uses_in index) index.store.rows))) (most_hits index)
-    → facets ≡ option_map (λ _. map (counted index.settings.max_values_per_facet (rows_matching passing graph (documents_of index.store.paths (uses_in index) index.store.rows))) (paths_asked index.settings index.store.paths call.facets)) call.facets
-    → Finds index call ids total facets
-finds index call passing graph rules start end bound total ids facets sound is starts ends le hits counts told =
-    let all = matches-same index call passing graph rules is index.store.rows in
-    let found = matches_among passing graph rules (documents_of index.store.paths (uses_in index) index.store.rows) in
-    let offset = offset_of call.window in
-    let size = window_size (most_hits index) call in
-    let asked = asked_of (most_hits index) call (matching index call) in
-    let seen : ids ≡ ids_of (map as_match asked) =
-    hits ∙ ap ids_of (cut-window found offset start end bound starts le
-    ∙ ap (λ n. hits_of found offset (n - offset)) ends ∙ ap (λ ms. hits_of ms offset size) all
-    ∙ sym (hits-seen before (λ (m : Match). m.costs) (λ (m : Match). m.id) as_match (matching index call) offset size)) in
-    record {
-      hits = ap (filter_map (hit_at index call)) seen ∙ hits-read index call asked (asked-are index call sound);
-      number = ap length seen ∙ length-map (λ (m : Match). m.id) (map as_match asked) ∙ length-map as_match asked ∙ sym (length-map (hit_of call) asked);
-      total = counts ∙ ap (λ n. min n (most_hits index)) (ap length all ∙ length-map as_match (matching index call));
-      facets = told ∙ ap (λ rows. option_map (λ _. map (counted index.settings.max_values_per_facet rows) (paths_asked index.settings index.store.paths call.facets)) call.facets) (rows-same index call passing graph rules is index.store.rows)
-          ∙ facets-are call.facets;
-    }
-  where
-    facets-are : (names : Option (List (List ℕ)))
-        → option_map (λ _. map (counted index.settings.max_values_per_facet (rows_of_matches index call)) (paths_asked index.settings index.store.paths names)) names ≡ option_map (counts_of index call) names
-    facets-are None = refl
-    facets-are (Some names) = refl
+pub ids-matched : (ms : List Matching) → ids_of (map as_match ms) ≡ map (λ m. m.row.id) ms
+ids-matched [] = refl
+ids-matched (m ∷ ms) = ap (λ v. m.row.id ∷ v) (ids-matched ms)
+
+weaker : {X : Type 0} (P Q : X → Type 0) → ((x : X) → P x → Q x) → (xs : List X) → AllByRecursion P xs → AllByRecursion Q xs
+weaker P Q f [] h = tt
+weaker P Q f (x ∷ xs) h = (f x h.0, weaker P Q f xs h.1)
+
+module _ (index : Index) (call : SearchView) (search : Search) (sound : IsSound index.store) (is : IsSearchOf search index call) where
+  abbrev pub among : DocumentsView
+  among = documents_in index.store (uses_in index)
+
+  pub is-asked : IsAsked index call (passes_in among search) search.query.now search.rules.now
+  is-asked = record {
+    filter = λ rows. ap (holds index.store.paths rows) is.filter;
+    query = is.costs;
+    ruled = is.rules;
+  }
+
+  abbrev all : List Match
+  all = matches_in among search
+
+  abbrev matches : List Matching
+  matches = matching index call
+
+  abbrev number : Matching → ℕ
+  number m = m.row.id
+
+  abbrev offset : ℕ
+  offset = offset_of call.window
+
+  abbrev end : ℕ
+  end = window_end (most_hits index) call
+
+  abbrev greatest : ℕ
+  greatest = 2 ^ 64 - 1
+
+  all-are : all ≡ map as_match matches
+  all-are = matches-same index call (passes_in among search) search.query.now search.rules.now is-asked index.store.rows
+
+  pub slice-seen : (from limit : ℕ) → map as_match (slice_of matches from limit) ≡ hits_of (map as_match matches) from limit
+  slice-seen from limit = hits-seen before (λ (m : Match). m.costs) (λ (m : Match). m.id) as_match matches from limit
+
+  order-are : order_in among search ≡ map number (in_order matches)
+  order-are =
+      ap (λ ms. ids_of (hits_of ms 0 (length ms))) all-are ∙ ap (λ n. ids_of (hits_of (map as_match matches) 0 n)) (length-map as_match matches)
+      ∙ ap ids_of (sym (slice-seen 0 (length matches))) ∙ ids-matched (in_order matches)
+
+  -- the documents have the values that they have by their ids
+  texts-are : (attribute : List ℕ) → AllByRecursion (λ m. texts_of attribute m ≡ texts_by (stored_values attribute index.store.rows) (number m)) (in_order matches)
+  texts-are attribute =
+      weaker (IsMatch index call) (λ m. texts_of attribute m ≡ texts_by (stored_values attribute index.store.rows) (number m))
+      (λ m h. ap (λ o. map text_of (values_of_row attribute o)) (sym h.there)) (in_order matches) (ordered-are index call sound)
+
+  pub reach-are : (attribute : List ℕ) → reach_in among search (stored_values attribute index.store.rows) ≡ (looked_under (Some attribute) index call).end
+  reach-are attribute =
+      let texts = texts_by (stored_values attribute index.store.rows) in
+      ap (λ xs. reach texts xs search.window.offset search.window.limit) order-are ∙ ap (reach texts (map number (in_order matches)) search.window.offset) is.limit
+      ∙ reach-cut texts (map number (in_order matches)) offset search.window.offset end greatest is.start is.within
+      ∙ sym (reach-seen number (texts_of attribute) texts (in_order matches) offset (window_size (most_hits index) call) (texts-are attribute))
+
+  pub compared-are : (o : Option (List ℕ)) → compared_found o index.store.rows among search ≡ compared_of o (looked_under o index call)
+  compared-are None = refl
+  compared-are (Some attribute) = reach-are attribute
+
+  ids-are : (o : Option (List ℕ)) → ids_found o index.store.rows among search ≡ ids_of (map as_match (asked_of o (most_hits index) call matches))
+  ids-are None =
+      ap (λ n. ids_of (hits_of all search.window.offset n)) is.limit
+      ∙ ap ids_of (cut-window all offset search.window.offset end greatest is.start is.within ∙ ap (λ ms. hits_of ms offset (window_size (most_hits index) call)) all-are
+      ∙ sym (slice-seen offset (window_size (most_hits index) call)))
+  ids-are (Some attribute) =
+      let texts = texts_by (stored_values attribute index.store.rows) in
+      ap (λ xs. distinct_hits texts xs search.window.offset search.window.limit) order-are ∙ ap (distinct_hits texts (map number (in_order matches)) search.window.offset) is.limit
+      ∙ distinct-cut texts (map number (in_order matches)) offset search.window.offset end greatest is.start is.within
+      ∙ sym (distinct-seen number (texts_of attribute) texts (in_order matches) offset (window_size (most_hits index) call) (texts-are attribute))
+      ∙ sym (ids-matched (distinct_hits (texts_of attribute) (in_order matches) offset (window_size (most_hits index) call)))
+
+  -- what was found and counted is what the search finds
+  pub finds : (found : DocumentsFound) (total : ℕ) (facets : Option (List FacetView)) → IsFound (distinct_attribute_in index call) index.store.rows among search found
+      → total ≡ min found.total (most_hits index) → facets ≡ option_map (λ _. found.facets.items) call.facets
+      → Finds index call (map (λ (id : DocId). id.0) found.hits.items) total facets
+  finds found total facets h counts told =
+      let hits = asked index call in
+      let seen : map (λ (id : DocId). id.0) found.hits.items ≡ ids_of (map as_match hits) = h.hits ∙ ids-are (distinct_attribute_in index call) in
+      record {
+        hits = ap (filter_map (hit_at index call)) seen ∙ hits-read index call hits (asked-are index call sound);
+        number = ap length seen ∙ length-map (λ (m : Match). m.id) (map as_match hits) ∙ length-map as_match hits ∙ sym (length-map (hit_of call) hits);
+        total = counts ∙ ap (λ n. min n (most_hits index)) (h.total ∙ ap length all-are ∙ length-map as_match matches);
+        facets = told ∙ ap (λ counted_rows. option_map (λ _. counted_rows) call.facets) (h.facets
+            ∙ ap₂ (λ n asked_paths. map (counted n (rows_matching (passes_in among search) search.query.now among.documents)) asked_paths) is.most is.attributes
+            ∙ ap (λ rows. map (counted index.settings.max_values_per_facet rows) (paths_asked index.settings index.store.paths call.facets))
+            (rows-same index call (passes_in among search) search.query.now search.rules.now is-asked index.store.rows))
+            ∙ facets-are call.facets;
+      }
+    where
+      facets-are : (names : Option (List (List ℕ)))
+          → option_map (λ _. map (counted index.settings.max_values_per_facet (rows_of_matches index call)) (paths_asked index.settings index.store.paths names)) names ≡ option_map (counts_of index call) names
+      facets-are None = refl
+      facets-are (Some names) = refl
 
 -- ---- values that are searched
 

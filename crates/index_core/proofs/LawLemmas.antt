@@ -23,7 +23,7 @@ use Rattle.index_changes.proofs.ByIds.{IsThere, rows-there, rows-take, rows-drop
 use Rattle.index_changes.proofs.LawLemmas.{after_plan, applied-is}
 use Rattle.index_changes.proofs.Settling.{uses-patched, rules-patched, alike-patched}
 use Rattle.index_core.specs.Matching.{matching, rules_in}
-use Rattle.index_core.specs.Found.{asked_of, most_hits, window_size}
+use Rattle.index_core.specs.Found.{asked, asked_of, most_hits, window_size}
 use Rattle.index_core.specs.Laws.{NoWordFindsTheList, LeavesRanking, OtherPatchesLeaveRanking}
 use Rattle.index_core.proofs.Finding.{as_match, asked-are}
 use Rattle.index_core.proofs.HitLemmas.{hits-seen}
@@ -32,17 +32,18 @@ use Rattle.index_core.proofs.NoWord.{no_costs, empty-matching, listed, document_
 -- ---- no word
 
 pub no_word_finds_the_list : NoWordFindsTheList
-no_word_finds_the_list index call sound none ask unfiltered =
-    let asked = asked_of (most_hits index) call (matching index call) in
+no_word_finds_the_list index call sound none ask unfiltered unmarked =
+    let hits = asked index call in
     let offset = offset_of call.window in
     let size = window_size (most_hits index) call in
     let rows = index.store.rows in
     let costs = no_costs (rules_in index call) in
     let some = take size (drop offset rows) in
-    let seen : ids_of (map as_match asked) ≡ map (λ (r : Row). r.id) some =
-    ap ids_of (hits-seen before (λ (m : Match). m.costs) (λ (m : Match). m.id) as_match (matching index call) offset size ∙ ap (λ ms. hits_of (map as_match ms) offset size) (empty-matching index call none ask unfiltered rows))
+    let seen : ids_of (map as_match hits) ≡ map (λ (r : Row). r.id) some =
+    ap (λ o. ids_of (map as_match (asked_of o (most_hits index) call (matching index call)))) unmarked
+    ∙ ap ids_of (hits-seen before (λ (m : Match). m.costs) (λ (m : Match). m.id) as_match (matching index call) offset size ∙ ap (λ ms. hits_of (map as_match ms) offset size) (empty-matching index call none ask unfiltered rows))
     ∙ listed costs rows index.store.next_id offset size sound.increase in
-    sym (hits-documents index call asked (asked-are index call sound)) ∙ ap (filter_map (document_at rows)) seen
+    sym (hits-documents index call hits (asked-are index call sound)) ∙ ap (filter_map (document_at rows)) seen
     ∙ documents-read rows some (rows-take (IsThere rows) size (drop offset rows) (rows-drop (IsThere rows) offset rows (rows-there index.store sound)))
     ∙ sym (ap (take size) (drop-map (λ (r : Row). r.document) offset rows) ∙ take-map (λ (r : Row). r.document) size (drop offset rows))
 

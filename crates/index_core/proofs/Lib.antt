@@ -1,3 +1,9 @@
+pub mod KeptLemmas
+pub mod KeptLeaves
+pub mod StoredLemmas
+pub mod Showing
+pub mod Reading
+pub mod Asking
 pub mod HitLemmas
 pub mod Finding
 pub mod Opening

@@ -1,5 +1,5 @@
 -- What a search opens over the documents of a store is what the index says.
-use Rattle.std.proofs.Common.{◌≡◌, ℕ, zero, suc, ◌+◌, ◌-◌, ◌<◌, ◌≤◌, ◌==◌, ◌⊎◌, inl, inr, min, Bool, true, false, cond, List, [], ◌∷◌, ◌++◌, length, map, Option, Some, None, refl, sym, ap, ap₂, subst, ◌∙◌, arith, append_assoc, length-append, unwrap_or}
+use Rattle.std.proofs.Common.{◌≡◌, ℕ, zero, suc, ◌+◌, ◌-◌, ◌^◌, ◌<◌, ◌≤◌, ◌==◌, ◌⊎◌, inl, inr, min, Bool, true, false, cond, List, [], ◌∷◌, ◌++◌, length, map, Option, Some, None, refl, sym, ap, ap₂, subst, ◌∙◌, arith, append_assoc, length-append, unwrap_or}
 use Rattle.std.specs.Prelude.{get_or, slice_get, option_and_then}
 use Rattle.std.specs.Option.{option_map}
 use Rattle.std.specs.List.{AllByRecursion, filter_map, cons_option}
@@ -15,6 +15,7 @@ use Rattle.search_base.specs.RowsView.{RowsView}
 use Rattle.search_base.specs.Tuple.{tuple, cost_of, entry}
 use Rattle.search_call.specs.SearchView.{SearchView}
 use Rattle.search_call.specs.Windows.{offset_of}
+use Rattle.bucket_sort.specs.declared.log.Opening.{Opening}
 use Rattle.bucket_sort.specs.Hits.{costs}
 use Rattle.bucket_sort.specs.Trace.{trace, opened_classes, opening_of}
 use Rattle.doc_index.specs.Documents.{documents_of, document_of}
@@ -22,7 +23,10 @@ use Rattle.doc_rows.specs.declared.path_use.PathUse.{PathUse}
 use Rattle.doc_search.proofs.FoundLemmas.{in-order}
 use Rattle.doc_store.specs.Sound.{IsSound}
 use Rattle.doc_store.specs.Store.{Row, row_at}
-use Rattle.doc_search.specs.Matches.{passing, opened}
+use Rattle.doc_search.specs.Found.{passes_in, reach_in}
+use Rattle.doc_search.specs.Matches.{passing}
+use Rattle.doc_search.specs.Searched.{documents_in}
+use Rattle.doc_search.specs.declared.found.Search.{Search}
 use Rattle.doc_search.specs.Rows.{rows_at, rows_of}
 use Rattle.doc_search.proofs.MatchLemmas.{matches_over}
 use Rattle.rule_buckets.specs.Matches.{ids_of}
@@ -30,15 +34,17 @@ use Rattle.rule_buckets.specs.Matches as lists
 use Rattle.rule_buckets.proofs.Slices.{entries-listed}
 use Rattle.row_index.specs.Documents.{IndexedDocument, document_at}
 use Rattle.rule_buckets.specs.Entries.{entry_at, entry_of}
+use Rattle.index_core.specs.Among.{IsSearchOf, opened_found, stored_values}
 use Rattle.index_core.specs.Found.{most_hits, window_end}
+use Rattle.index_core.specs.Looked.{looked_under, unless_refused}
 use Rattle.index_changes.specs.Index.{Index}
 use Rattle.index_core.specs.Matching.{Matching, with_costs, match_of, matching, costs_in, rows_in, rules_in, uses_in}
 use Rattle.search_settings.specs.SearchFaults.{search_fault}
 use Rattle.bucket_sort.specs.Opens.{LogState, Opens}
-use Rattle.index_core.specs.Opened.{costs_at, opened_in, unless_refused}
+use Rattle.index_core.specs.Opened.{costs_at, opened_in}
 use Rattle.index_core.specs.Opened as index
 use Rattle.index_changes.proofs.ByIds.{IsThere, rows-there}
-use Rattle.index_core.proofs.Finding.{IsAsked, matches-same, costs-same, as_match}
+use Rattle.index_core.proofs.Finding.{IsAsked, matches-same, costs-same, ids-matched, is-asked, reach-are}
 use Rattle.rule_buckets.proofs.OpenLemmas.{opens-either}
 use Rattle.index_core.proofs.Opening.{HasSame, opened-same, none-opened}
 
@@ -116,6 +122,21 @@ pub where-passing : (b : Bool) (o : Option (List CostKey)) (all : List CostKey) 
 where-passing true o all is = is
 where-passing false o all is = absurd (cc)
 
+-- the window that is asked for, cut at some number at least as great as its end
+same-window : (i : Index) (call : SearchView) (n : ℕ) (ids : List ℕ) (offset start end most : ℕ) → start ≡ min offset most → end ≤ most
+    → opened_classes before (index.entry_at i call) n ids start (start + (end - start)) ≡ opened_classes before (index.entry_at i call) n ids offset end
+same-window i call n ids offset start end most at le = by (near-or-far start end)
+  where
+    near-or-far : (a b : ℕ) → (a < b) ⊎ (b ≤ a)
+    near-or-far a b = grind arith
+
+    by : (start < end) ⊎ (end ≤ start) → opened_classes before (index.entry_at i call) n ids start (start + (end - start)) ≡ opened_classes before (index.entry_at i call) n ids offset end
+    by (inl near) =
+        ap₂ (opened_classes before (index.entry_at i call) n ids) (let e : start ≡ offset = omega arith in e) (let e : start + (end - start) ≡ end = omega arith in e)
+    by (inr far) =
+        none-opened before (index.entry_at i call) (index.entry_at i call) n ids start (start + (end - start)) (le-ltb start (start + (end - start)) (omega arith))
+        ∙ sym (none-opened before (index.entry_at i call) (index.entry_at i call) n ids offset end (le-ltb offset end (omega arith)))
+
 module _ (i : Index) (call : SearchView) (passes : RowsView → Bool) (graph : GraphView) (rules : List Rule) (is : IsAsked i call passes graph rules) where
   abbrev documents : List IndexedDocument
   documents = documents_of i.store.paths (uses_in i) i.store.rows
@@ -137,39 +158,42 @@ module _ (i : Index) (call : SearchView) (passes : RowsView → Bool) (graph : G
   same-all [] h = tt
   same-all (m ∷ ms) h = (same-entries m h.0, same-all ms h.1)
 
-  ids-matched : (ms : List Matching) → ids_of (map as_match ms) ≡ map (λ m. m.row.id) ms
-  ids-matched [] = refl
-  ids-matched (m ∷ ms) = ap (λ v. m.row.id ∷ v) (ids-matched ms)
-
   universe-is : IsSound i.store → ids_of (lists.matches_among (rows_at documents) graph rules (passing passes documents)) ≡ map (λ m. m.row.id) (matching i call)
   universe-is sound =
       ap ids_of (matches_over passes graph rules documents (passing passes documents) (in-order i.store.paths (uses_in i) 0 i.store.rows i.store.next_id sound.increase) refl
       ∙ matches-same i call passes graph rules is i.store.rows) ∙ ids-matched (matching i call)
 
-  -- the window that is asked for, cut at some number at least as great as its end
-  same-window : (n : ℕ) (ids : List ℕ) (offset start end most : ℕ) → start ≡ min offset most → end ≤ most
-      → opened_classes before (index.entry_at i call) n ids start (start + (end - start)) ≡ opened_classes before (index.entry_at i call) n ids offset end
-  same-window n ids offset start end most at le = by (near-or-far start end)
-    where
-      near-or-far : (a b : ℕ) → (a < b) ⊎ (b ≤ a)
-      near-or-far a b = grind arith
-
-      by : (start < end) ⊎ (end ≤ start) → opened_classes before (index.entry_at i call) n ids start (start + (end - start)) ≡ opened_classes before (index.entry_at i call) n ids offset end
-      by (inl near) =
-          ap₂ (opened_classes before (index.entry_at i call) n ids) (let e : start ≡ offset = omega arith in e) (let e : start + (end - start) ≡ end = omega arith in e)
-      by (inr far) =
-          none-opened before (index.entry_at i call) (index.entry_at i call) n ids start (start + (end - start)) (le-ltb start (start + (end - start)) (omega arith))
-          ∙ sym (none-opened before (index.entry_at i call) (index.entry_at i call) n ids offset end (le-ltb offset end (omega arith)))
-
-  pub opens-same : (start end bound : ℕ) → IsSound i.store → start ≡ min (offset_of call.window) bound → end ≡ window_end (most_hits i) call → end ≤ bound
-      → opened passes graph rules documents start (end - start) ≡ opened_in i call
-  opens-same start end bound sound starts ends le =
-      ap (λ ids. trace before key (length rules) ids start (start + (end - start))) (universe-is sound)
+  -- the buckets of some window are opened over the documents of the index
+  traced : (start end : ℕ) → IsSound i.store
+      → trace before key (length rules) (ids_of (lists.matches_among (rows_at documents) graph rules (passing passes documents))) start end
+      ≡ trace before (index.entry_at i call) (length (rules_in i call)) (map (λ m. m.row.id) (matching i call)) start end
+  traced start end sound =
+      ap (λ ids. trace before key (length rules) ids start end) (universe-is sound)
       ∙ ap (map opening_of)
-      (opened-same before key (index.entry_at i call) (length rules) (map (λ m. m.row.id) (matching i call)) start (start + (end - start)) (same-all (matching i call) (matching-match i call i.store.rows (rows-there i.store sound)))
-      ∙ ap (λ n. opened_classes before (index.entry_at i call) n (map (λ m. m.row.id) (matching i call)) start (start + (end - start))) (ap length is.ruled)
-      ∙ same-window (length (rules_in i call)) (map (λ m. m.row.id) (matching i call)) (offset_of call.window) start end bound starts le
-      ∙ ap (opened_classes before (index.entry_at i call) (length (rules_in i call)) (map (λ m. m.row.id) (matching i call)) (offset_of call.window)) ends)
+      (opened-same before key (index.entry_at i call) (length rules) (map (λ m. m.row.id) (matching i call)) start end (same-all (matching i call) (matching-match i call i.store.rows (rows-there i.store sound)))
+      ∙ ap (λ n. opened_classes before (index.entry_at i call) n (map (λ m. m.row.id) (matching i call)) start end) (ap length is.ruled))
+
+module _ (i : Index) (call : SearchView) (search : Search) (sound : IsSound i.store) (is : IsSearchOf search i call) where
+  abbrev traced_in : ℕ → ℕ → List Opening
+  traced_in start end = trace before (index.entry_at i call) (length (rules_in i call)) (map (λ m. m.row.id) (matching i call)) start end
+
+  abbrev passes : RowsView → Bool
+  passes = passes_in (documents_in i.store (uses_in i)) search
+
+  traces : (start end : ℕ) → trace before (λ level d. entry_at (rows_at (documents_of i.store.paths (uses_in i) i.store.rows) d) search.query.now search.rules.now level) (length search.rules.now)
+      (ids_of (lists.matches_among (rows_at (documents_of i.store.paths (uses_in i) i.store.rows)) search.query.now search.rules.now (passing passes (documents_of i.store.paths (uses_in i) i.store.rows)))) start end
+      ≡ traced_in start end
+  traces start end = traced i call passes search.query.now search.rules.now (is-asked i call search sound is) start end sound
+
+  -- what is opened is what the index says
+  pub opened-are : (o : Option (List ℕ)) → opened_found o i.store.rows (documents_in i.store (uses_in i)) search
+      ≡ traced_in (looked_under o i call).start (looked_under o i call).end
+  opened-are None =
+      traces search.window.offset (search.window.offset + search.window.limit) ∙ ap (λ n. traced_in search.window.offset (search.window.offset + n)) is.limit
+      ∙ ap (map opening_of) (same-window i call (length (rules_in i call)) (map (λ m. m.row.id) (matching i call)) (offset_of call.window) search.window.offset (window_end (most_hits i) call) (2 ^ 64 - 1) is.start is.within)
+  opened-are (Some attribute) =
+      let r = reach_in (documents_in i.store (uses_in i)) search (stored_values attribute i.store.rows) in
+      traces 0 (0 + r) ∙ ap (λ n. traced_in 0 n) (let e : 0 + r ≡ r = omega arith in e) ∙ ap (λ n. traced_in 0 n) (reach-are i call search sound is attribute)
 
 -- ---- a search that its settings may refuse
 

@@ -13,6 +13,9 @@ use Rattle.facet_counts.specs.FacetView.{FacetView}
 use Rattle.facet_counts.specs.Counts.{counted}
 use Rattle.search_settings.specs.declared.refusal.SearchRefusal.{SearchRefusal}
 use Rattle.index_changes.specs.Index.{Index}
+use Rattle.distinct_hits.specs.Kept.{kept}
+use Rattle.distinct_hits.specs.Distinct.{distinct_hits}
+use Rattle.index_core.specs.Distinct.{distinct_attribute_in, texts_under}
 use Rattle.index_core.specs.Matching.{Matching, matching, rows_matching}
 use Rattle.search_settings.specs.Asked.{facet_paths}
 use Rattle.search_settings.specs.SearchFaults.{search_fault}
@@ -45,10 +48,36 @@ window_size most call = window_end most call - offset_of call.window
 abbrev pub hit_of : SearchView → Matching → FoundHit
 hit_of call m = record { document = m.row.document; costs = if call.costs then Some m.costs else None }
 
--- the hits from the window's offset on, up to its end, in their order
-abbrev pub asked_of : ℕ → SearchView → List Matching → List Matching
-asked_of most call matches =
-    hits_of before (λ m. m.costs) (λ m. m.row.id) matches (offset_of call.window) (window_size most call)
+-- of documents that match those from a place on, of which there are at most as many as the limit says, in their order
+abbrev pub slice_of : List Matching → ℕ → ℕ → List Matching
+slice_of matches offset limit = hits_of before (λ m. m.costs) (λ m. m.row.id) matches offset limit
+
+-- all of them in their order
+abbrev pub in_order : List Matching → List Matching
+in_order matches = slice_of matches 0 (length matches)
+
+abbrev pub texts_of : List ℕ → Matching → List (List ℕ)
+texts_of attribute m = texts_under attribute m.row.document
+
+-- those of them that may be handed out, in their order: all, or, where no two may have a value of an attribute in
+-- common, each that has none of one that is kept before it
+abbrev pub candidates_of : Option (List ℕ) → List Matching → List Matching
+candidates_of None matches = in_order matches
+candidates_of (Some attribute) matches = kept (texts_of attribute) (in_order matches)
+
+-- of these the ones from the window's offset on, up to its end
+abbrev pub asked_of : Option (List ℕ) → ℕ → SearchView → List Matching → List Matching
+asked_of None most call matches = slice_of matches (offset_of call.window) (window_size most call)
+asked_of (Some attribute) most call matches =
+    distinct_hits (texts_of attribute) (in_order matches) (offset_of call.window) (window_size most call)
+
+-- the documents of an index that a search may hand out
+abbrev pub candidates : Index → SearchView → List Matching
+candidates index call = candidates_of (distinct_attribute_in index call) (matching index call)
+
+-- and its hits
+abbrev pub asked : Index → SearchView → List Matching
+asked index call = asked_of (distinct_attribute_in index call) (most_hits index) call (matching index call)
 
 -- ---- counts
 
@@ -62,13 +91,11 @@ counts_of index call names =
 
 -- the hits with their costs, the number of matches, of which no more are counted than the settings say, and the counts
 abbrev pub found_in : Index → SearchView → Found
-found_in index call =
-    let matches = matching index call in
-    record {
-      hits = map (hit_of call) (asked_of (most_hits index) call matches);
-      total = min (length matches) (most_hits index);
-      facets = option_map (counts_of index call) call.facets;
-    }
+found_in index call = record {
+  hits = map (hit_of call) (asked index call);
+  total = min (length (matching index call)) (most_hits index);
+  facets = option_map (counts_of index call) call.facets;
+}
 
 -- the same, unless the settings refuse the search
 abbrev pub found : Index → SearchView → Result Found SearchRefusal

@@ -1,5 +1,5 @@
 -- What holds of each search, and what a patch leaves of it.
-use Rattle.std.specs.Prelude.{◌≡◌, List, [], take, drop, map, true, Ok}
+use Rattle.std.specs.Prelude.{◌≡◌, List, [], take, drop, map, true, Ok, None}
 use Rattle.std.specs.List.{list_all}
 use Rattle.doc_values.specs.Changes.{patch}
 use Rattle.serde_json.specs.Data.{Data}
@@ -16,17 +16,19 @@ use Rattle.index_changes.specs.Fetches.{needed, LeavesUses}
 use Rattle.index_changes.specs.Index.{Index, documents}
 use Rattle.index_changes.specs.PlanView.{PlanView}
 use Rattle.index_changes.specs.Plans.{planned, applied}
-use Rattle.index_core.specs.Found.{asked_of, found_in, most_hits, window_size}
-use Rattle.index_core.specs.Matching.{Matching, matching, query_in, rows_in, rules_in}
+use Rattle.index_core.specs.Distinct.{distinct_attribute_in}
+use Rattle.index_core.specs.Found.{asked, found_in, most_hits, window_size}
+use Rattle.index_core.specs.Matching.{Matching, query_in, rows_in, rules_in}
 
 -- each rule asks how a document meets the query, and none for a value of the document
 abbrev pub AskOfTheQuery : List Rule → Type 0
 AskOfTheQuery rules = list_all is_query_rule rules ≡ true
 
--- under such rules a search for no word, without a filter, finds the documents in the order of their internal ids
+-- under such rules a search for no word, without a filter, finds the documents in the order of their internal ids,
+-- where hits may have values in common
 abbrev pub NoWordFindsTheList : Type 0
 NoWordFindsTheList = (index : Index) (call : SearchView) → IsSound index.store → (query_in index call).levels ≡ []
-    → AskOfTheQuery (rules_in index call) → call.filter ≡ all →
+    → AskOfTheQuery (rules_in index call) → call.filter ≡ all → distinct_attribute_in index call ≡ None →
     map (λ hit. hit.document) (found_in index call).hits
     ≡ take (window_size (most_hits index) call) (drop (offset_of call.window) (documents index))
 
@@ -35,7 +37,7 @@ NoWordFindsTheList = (index : Index) (call : SearchView) → IsSound index.store
 abbrev pub HitsAreEachOnce : Type 0
 HitsAreEachOnce = (index : Index) (call : SearchView) → IsSound index.store →
     AreOrdered (stands_before before (λ (m : Matching). m.costs) (λ (m : Matching). m.row.id))
-    (asked_of (most_hits index) call (matching index call))
+    (asked index call)
 
 -- a patch that names no member that says how paths are used leaves what a search sees of documents and the rules that
 -- rank them, and reads no document

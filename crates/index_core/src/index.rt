@@ -1,6 +1,6 @@
-ghost use Rattle.std.specs.Prelude.{◌≡◌, ◌+◌, ◌-◌, ◌*◌, ◌≤◌, List, true, false, min, length, map, take, drop, IfOk, OnOk, OnErr, IsTrue, ◌↔◌, if◌then◌else◌};
+ghost use Rattle.std.specs.Prelude.{◌≡◌, ◌+◌, ◌-◌, ◌*◌, ◌≤◌, List, true, false, min, length, map, take, drop, IfOk, OnOk, OnErr, IsTrue, ◌↔◌, None, is_err, if◌then◌else◌};
 ghost use Rattle.std.specs.List.{filter_map};
-ghost use Rattle.std.specs.Option.{option_copied, option_map, is_some};
+ghost use Rattle.std.specs.Option.{option_copied, option_map, is_some, IfSome};
 ghost use Rattle.search_base.specs.Gives.{Gives, Checks};
 ghost use Rattle.doc_values.specs.Changes.{kind_view};
 ghost use Rattle.doc_values.specs.Ids.{is_uid};
@@ -15,9 +15,15 @@ ghost use Rattle.index_changes.specs.Refusals.{store_refusal};
 ghost use Rattle.index_changes.specs.PlanView.{work_view, IsGood};
 ghost use Rattle.index_changes.specs.Plans.{planned, applied, after_work, settings_after, IsPlanFor};
 ghost use Rattle.index_changes.specs.Fetches.{needed};
-ghost use Rattle.index_core.specs.Fetches.{hits_needed};
+ghost use Rattle.index_core.specs.Distinct.{distinct_attribute_in};
+ghost use Rattle.index_core.specs.Fetches.{compared, documents_needed};
+ghost use Rattle.index_core.specs.Looked.{looked_at};
+ghost use Rattle.index_core.specs.Among.{IsSearchOf, IsFound, IsKeptPath, opened_found, compared_found};
+ghost use Rattle.index_core.specs.Terms.{terms_in};
+ghost use Rattle.search_base.specs.Graphs.{IsGraph};
+ghost use Rattle.search_base.specs.Terms.{HaveSame};
 ghost use Rattle.search_call.specs.Windows.{offset_of};
-ghost use Rattle.index_core.specs.Found.{found, most_hits, window_size, window_end as end_of_window};
+ghost use Rattle.index_core.specs.Found.{found, candidates, most_hits, window_size};
 ghost use Rattle.index_core.specs.Matching.{matching, rules_in, uses_in};
 ghost use Rattle.index_core.specs.FacetHits.{facet_found, hits_at};
 ghost use Rattle.doc_search.specs.Searched.{documents_in as documents_searched};
@@ -27,13 +33,18 @@ ghost use Rattle.index_core.specs.Ranking.{IsRankingOf};
 ghost use Rattle.index_core.specs.Shown.{result_shown, hit_shown, hit_at, Finds};
 
 use crate::call::{Hit, Listing, SearchResult};
+use crate::distinct::search_stored;
 use crate::findings::{Findings, if_asked};
 use crate::ranking::{Ranking, costs_of};
 use crate::read::read;
+use crate::terms::terms_shown;
 use crate::values::values_asked;
 use bucket_sort::BucketLog;
 use doc_index::clear_documents;
-use doc_search::{AskedCounts, IndexedDocuments, Search, facet_values, search_documents};
+use doc_search::{
+    AskedCounts, DocumentsFound, IndexedDocuments, LeafValues, Search, facet_values,
+    search_distinct, search_documents,
+};
 use doc_store::DocStore;
 use doc_values::{ChangeKind, DocumentText};
 use facet_counts::CountRow;
@@ -226,21 +237,25 @@ impl IndexCore {
         }
     }
 
-    /// What a search finds: its hits, each a stored document, with its costs where these are asked for, the number of
-    /// matches, and the counts that it asks for, over all matches. The hits are the asked slice of the documents that
-    /// match, in the order of their costs and then of their internal ids; there are as many as the window has room for
-    /// and documents match behind its offset. The settings say which costs count and in which order, which paths are
-    /// searched, which words of a query are left out or stand for others, and how many matches and values are counted
-    /// or handed out.
+    /// What a search finds: its hits, each a stored document, with its costs where these are asked for, the terms of
+    /// the query, where hits show which of their words are matched, the number of matches, and the counts that it asks
+    /// for, over all matches. The hits are the asked slice of the documents that match, in the order of their costs
+    /// and then of their internal ids; there are as many as the window has room for and documents match behind its
+    /// offset. Where the call or else the settings name an attribute as distinct, a document that has a value of it in
+    /// common with one before it that may be a hit is none. The settings say which costs count and in which order,
+    /// which paths are searched, which words of a query are left out or stand for others, and how many matches and
+    /// values are counted or handed out.
     ///
     /// Refused is a search that sorts where the ranking rules do not (`NoSortRule`) or by an attribute that may not be
     /// sorted by (`NotSortable`), then one that filters (`NotFilterable`), and then one that counts (`NotFacet`) by an
     /// attribute that may not be filtered by; the first such attribute is named. Reads no other document than the hits,
-    /// and each of them once at most; where it is refused, none.
+    /// and each of them once at most, and before them, where an attribute is distinct, those that are looked at for its
+    /// values, from the best on until the window is full; where it is refused, none.
     ///
-    /// Each bucket that is opened on the way to the hits is told to the log and is one step: exactly those of the
-    /// definition, in their order, or for want of memory some of them, from the first on. A log that finds no memory
-    /// ends the search so. At each level at most as many are opened as documents match, up to the end of the window.
+    /// Each bucket that is opened on the way to the hits, or to the last document that is looked at, is told to the log
+    /// and is one step: exactly those of the definition, in their order, or for want of memory some of them, from the
+    /// first on. A log that finds no memory ends the search so. At each level at most as many are opened as documents
+    /// match, up to the end of the window or the last document that is looked at.
     ///
     /// The `requires` asks nothing of the caller: it keeps a body from putting a log of its own in the place of the one
     /// that is handed in, so that callers know theirs to be the same.
@@ -254,20 +269,26 @@ impl IndexCore {
     ) -> Result<SearchResult, SearchFault>
         requires { Unit {0} }
         ensures answer { Gives result_shown result (found self.now call.now) }
+        ensures terms { IfOk result (λ found. HaveSame found.terms.items (terms_in self.now call.now)) }
         ensures full { IfOk result (λ found. length found.hits.items ≡ min (window_size (most_hits self.now) call.now)
-            (length (matching self.now call.now) - offset_of call.now.window)) }
-        ensures fetches { IfOk result (λ found. fetches.new ≡ fetches.old + length found.hits.items) }
-        ensures at_most { fetches.new ≤ fetches.old + hits_needed (found self.now call.now) }
+            (length (candidates self.now call.now) - offset_of call.now.window)) }
+        ensures fetches { distinct_attribute_in self.now call.now ≡ None
+            → IfOk result (λ found. fetches.new ≡ fetches.old + length found.hits.items) }
+        ensures at_most { fetches.new ≤ fetches.old + documents_needed self.now call.now }
         ensures opens { Opens (is_starved result) (opened self.now call.now)
             (log_state (told log.old) openings.old) (log_state (told log.new) openings.new) }
         ensures few { openings.new ≤ openings.old + most_opened self.now call.now }
     {
         check_search(alloc, &self.settings, call)?;
         let ranking = self.ranking(alloc, call)?;
-        let Findings { ids, total, facets } = self.find(alloc, call, &ranking, log, openings)?;
+        let terms = terms_shown(alloc, &call.formats, &ranking.query)?;
+        let Findings { ids, total, facets } = self.find(
+            alloc, call, &ranking, log, fetches, openings,
+        )?;
         let hits = self.hits(alloc, call, &ranking, ids.as_slice(), fetches)?;
         Ok(SearchResult {
             hits,
+            terms,
             total,
             facets,
         })
@@ -295,13 +316,14 @@ impl IndexCore {
         Ok(documents)
     }
 
-    // Finds the hits of a search, and counts matches and values. No document is read.
-    fn find<G>(
+    // Finds the hits of a search, and counts matches and values. No document is read but those that are told apart.
+    fn find<F, G>(
         &self,
         alloc: Global,
         call: &SearchCall,
         ranking: &Ranking,
         log: &mut Box<dyn BucketLog>,
+        fetches: &mut Steps<F>,
         openings: &mut Steps<G>,
     ) -> Result<Findings, NoMemory>
         requires { IsRankingOf ranking.now self.now call.now }
@@ -312,29 +334,108 @@ impl IndexCore {
         ensures starved { OnErr result (Opens true (opened_in self.now call.now)
             (log_state (told log.old) openings.old) (log_state (told log.new) openings.new)) }
         ensures few { openings.new ≤ openings.old + length (rules_in self.now call.now)
-            * min (end_of_window (most_hits self.now) call.now) (length (matching self.now call.now)) }
+            * min (looked_at self.now call.now).end (length (matching self.now call.now)) }
+        ensures none_read { distinct_attribute_in self.now call.now ≡ None → fetches.new ≡ fetches.old }
+        ensures at_most { fetches.new ≤ fetches.old + compared self.now call.now }
     {
-        let attributes = asked_paths(alloc, &self.settings, self.store.paths(), call)?;
         let most = self.settings.max_total_hits();
-        let offset = window_start(call.window);
-        let limit = window_end(most, call.window).saturating_sub(offset);
-        let search = Search {
-            query: &ranking.query,
-            filter: &call.filter,
-            rules: ranking.rules.as_slice(),
-            window: HitWindow { offset, limit },
-            counts: AskedCounts {
-                attributes,
-                most: self.settings.max_values_per_facet(),
-            },
-        };
+        let search = self.search_of(alloc, call, ranking)?;
         let documents = self.documents(alloc)?;
-        let found = search_documents(alloc, &documents, search, log, openings)?;
+        let attribute = self.distinct_attribute(call);
+        let found = self.found(alloc, &documents, search, attribute, log, fetches, openings)?;
         Ok(Findings {
             ids: found.hits,
             total: found.total.min(most),
             facets: if_asked(call, found.facets),
         })
+    }
+
+    // What a search asks of the documents of the index.
+    fn search_of<'a>(
+        &self,
+        alloc: Global,
+        call: &'a SearchCall,
+        ranking: &'a Ranking<'_>,
+    ) -> Result<Search<'a>, NoMemory>
+        requires { IsRankingOf ranking.now self.now call.now }
+        ensures { IfOk result (λ search. IsSearchOf search self.now call.now) }
+    {
+        let attributes = asked_paths(alloc, &self.settings, self.store.paths(), call)?;
+        let offset = window_start(call.window);
+        let end = window_end(self.settings.max_total_hits(), call.window);
+        Ok(Search {
+            query: &ranking.query,
+            filter: &call.filter,
+            rules: ranking.rules.as_slice(),
+            window: HitWindow {
+                offset,
+                limit: end.saturating_sub(offset),
+            },
+            counts: AskedCounts {
+                attributes,
+                most: self.settings.max_values_per_facet(),
+            },
+        })
+    }
+
+    // The attribute of whose values no two hits of a search have one in common, where there is one.
+    fn distinct_attribute<'a>(&'a self, call: &'a SearchCall) -> Option<&'a Word>
+        ensures { option_map (λ attribute. attribute.now) result ≡ distinct_attribute_in self.now call.now }
+    {
+        match &call.distinct {
+            Some(attribute) => Some(attribute),
+            None => self.settings.distinct_attribute(),
+        }
+    }
+
+    // What a search finds among the documents of the index, no two hits with a value of the attribute in common, where
+    // one is named. Their values are those that are kept, and are read of the stored documents where none are.
+    fn found<F, G>(
+        &self,
+        alloc: Global,
+        documents: &IndexedDocuments<'_>,
+        search: Search<'_>,
+        attribute: Option<&Word>,
+        log: &mut Box<dyn BucketLog>,
+        fetches: &mut Steps<F>,
+        openings: &mut Steps<G>,
+    ) -> Result<DocumentsFound, NoMemory>
+        requires graph { IsGraph search.query.now }
+        requires documents { documents.now ≡ documents_searched self.now.store (uses_in self.now) }
+        ensures found { IfOk result (λ found. IsFound (option_map (λ attribute. attribute.now) attribute.entry)
+            self.now.store.rows documents.now search.entry found) }
+        ensures opens { Opens (is_err result) (opened_found (option_map (λ attribute. attribute.now) attribute.entry)
+            self.now.store.rows documents.now search.entry)
+            (log_state (told log.old) openings.old) (log_state (told log.new) openings.new) }
+        ensures none_read { option_map (λ attribute. attribute.now) attribute.entry ≡ None → fetches.new ≡ fetches.old }
+        ensures at_most { fetches.new ≤ fetches.old
+            + compared_found (option_map (λ attribute. attribute.now) attribute.entry) self.now.store.rows
+            documents.now search.entry }
+    {
+        let Some(attribute) = attribute else {
+            return search_documents(alloc, documents, search, log, openings);
+        };
+        match self.kept_path(attribute) {
+            Some(path) => {
+                let mut values = LeafValues::new(alloc, documents, path);
+                search_distinct(alloc, documents, search, &mut values, log, openings)
+            }
+            None => {
+                let store = &self.store;
+                search_stored(
+                    alloc, store, attribute, documents, search, log, fetches, openings,
+                )
+            }
+        }
+    }
+
+    // The path of this name, where its leaves are kept.
+    fn kept_path(&self, attribute: &Word) -> Option<PathId>
+        ensures { IfSome result (λ path. IsKeptPath self.now attribute.now path) }
+    {
+        let path = path_named(self.store.paths(), attribute)?;
+        let path_use = self.kept.uses.get(path.0 as usize)?;
+        if path_use.faceted { Some(path) } else { None }
     }
 
     // The documents with these internal ids as hits, in this order. Each is read once; where memory is wanting, no more

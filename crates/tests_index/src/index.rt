@@ -7,15 +7,15 @@ use doc_values::{ChangeKind, DocumentText, documents_of};
 use filter_tree::Filter;
 use index_core::IndexCore;
 use search_base::{CostKey, Steps, Strategy};
-use search_call::{SearchCall, Window};
+use search_call::{FormatCall, SearchCall, Window};
 use serde_json::Value;
 use std::alloc::Global;
 use std::process::Abort;
 
 // The marks of the steps that these tests count.
-struct Fetch;
+pub(crate) struct Fetch;
 
-struct Opened;
+pub(crate) struct Opened;
 
 pub(crate) const FILMS: &str =
     r#"[{"id":1,"title":"The Dark Knight","year":2008,"genres":["Action","Drama"]},
@@ -55,7 +55,19 @@ pub(crate) fn filled(rt: &impl Abort, alloc: Global, body: &str) -> IndexCore {
     index
 }
 
-fn call(rt: &impl Abort, alloc: Global, q: &str, limit: u64) -> SearchCall {
+// Texts as they are stored.
+fn no_formats(rt: &impl Abort, alloc: Global) -> FormatCall {
+    FormatCall {
+        highlight: None,
+        crop: None,
+        marker: word(rt, alloc, ""),
+        pre: word(rt, alloc, ""),
+        post: word(rt, alloc, ""),
+        positions: false,
+    }
+}
+
+pub(crate) fn call(rt: &impl Abort, alloc: Global, q: &str, limit: u64) -> SearchCall {
     SearchCall {
         q: word(rt, alloc, q),
         window: Window::Slice { offset: 0, limit },
@@ -65,6 +77,8 @@ fn call(rt: &impl Abort, alloc: Global, q: &str, limit: u64) -> SearchCall {
         strategy: Strategy::Last,
         costs: false,
         retrieve: Vec::new(alloc),
+        formats: no_formats(rt, alloc),
+        distinct: None,
     }
 }
 

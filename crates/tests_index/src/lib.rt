@@ -1,4 +1,5 @@
-//! Tests of what a search of an index opens, and of which values a search of values finds.
+//! Tests of what a search of an index opens, of hits of which no two have a value in common, and of which values a search
+//! of values finds.
 //!
 //! They use what these crates offer to others, and stand in a crate of their own, so that the crates they try are proved
 //! once and not twice. The crate has nothing but tests, and promises nothing.
@@ -6,6 +7,8 @@
 
 #[cfg(test)]
 mod checks;
+#[cfg(test)]
+mod distinct;
 #[cfg(test)]
 mod index;
 #[cfg(test)]
