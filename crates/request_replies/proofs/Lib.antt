@@ -1,3 +1,7 @@
 pub mod PrintLemmas
 pub mod ShownLemmas
+pub mod AddedLemmas
+pub mod CropLemmas
+pub mod PlaceLemmas
+pub mod TermLemmas
 pub mod FacetLemmas

@@ -1,12 +1,23 @@
 -- Members by tests of their names: one test in place of another, and of two.
-use Rattle.std.proofs.Common.{◌≡◌, ℕ, List, [], ◌∷◌, map, Bool, true, false, ◌&&◌, ◌||◌, cond, refl, sym, ap, ap₂, ◌∙◌, ◌+◌, ◌<◌, ◌++◌, take, length, get_or}
+use Rattle.std.proofs.Common.{◌≡◌, ℕ, List, [], ◌∷◌, map, Bool, true, false, ◌&&◌, ◌||◌, cond, not, codes, Option, refl, sym, ap, ap₂, ◌∙◌, ◌+◌, ◌<◌, ◌++◌, take, length, get_or}
 use Rattle.std.specs.Str.{bytes_eq}
 use Rattle.std.proofs.lemmas.List.{take_more}
 use Rattle.std.proofs.lemmas.List.Folds.{list_any-append}
-use Rattle.serde_json.specs.Data.{Data, null, boolean, number, string, array, object, Members, no_members, member}
+use Rattle.serde_json.specs.Data.{Data, null, boolean, number, string, array, object, Members, no_members, member, put}
 use Rattle.doc_values.specs.Walk.{members_in}
 use Rattle.doc_values.specs.Whole.{IsDocument}
-use Rattle.request_replies.specs.Shown.{is_among, is_shown, members_by, shown, all_shown, HitView, with_costs, hit_shown, hit_by}
+use Rattle.search_base.specs.TermView.{TermView}
+use Rattle.search_base.specs.declared.cost_key.CostKey.{CostKey}
+use Rattle.search_call.specs.FormatView.{FormatView, formats_texts}
+use Rattle.request_replies.specs.declared.added.Added.{Added}
+use Rattle.request_replies.specs.declared.names.Names.{Names}
+use Rattle.request_replies.specs.Added.{added_name, owns}
+use Rattle.request_replies.specs.Formatted.{formatted_data}
+use Rattle.request_replies.specs.Marks.{terms_if}
+use Rattle.request_replies.specs.Members.{is_among, is_shown, members_by, shown_members}
+use Rattle.request_replies.specs.Names.{shows}
+use Rattle.request_replies.specs.Positions.{positions_data}
+use Rattle.request_replies.specs.Shown.{shown, all_shown, HitView, added_names, own_members, with_costs, with_added, hit_by}
 
 -- tests that agree show the same members
 members_same : (p q : List ℕ → Bool) → ((name : List ℕ) → p name ≡ q name) → (ms : Members) → members_by p ms ≡ members_by q ms
@@ -48,16 +59,48 @@ pub all_alike : (p : List ℕ → Bool) (names : List (List ℕ)) → ((name : L
 all_alike p names same [] = refl
 all_alike p names same (d ∷ ds) = ap₂ (λ x xs. x ∷ xs) (shown_alike p names same d) (all_alike p names same ds)
 
--- hits by a test that says what both lists show
-pub hits_alike : (p : List ℕ → Bool) (displayed asked : List (List ℕ)) → ((name : List ℕ) → p name ≡ (is_shown displayed name && is_shown asked name))
-    → (hits : List HitView) → map (hit_by p) hits ≡ map (hit_shown displayed asked) hits
-hits_alike p displayed asked same [] = refl
-hits_alike p displayed asked same (hit ∷ hits) =
+-- hits by a test that says what both lists show, where no terms stand for those that are not looked at
+added_if : (formats : FormatView) (terms : List TermView) (costs : Option (List CostKey)) (ms : Members)
+    → with_added formats (terms_if formats terms) costs ms ≡ with_added formats terms costs ms
+added_if formats terms costs ms = by (formats_texts formats) formats.positions
+  where
+    own : Members
+    own = own_members formats costs ms
+
+    put_texts : List TermView → Members → Members
+    put_texts by rest = put (codes "_formatted") (formatted_data by formats own) rest
+
+    put_places : List TermView → Members → Members
+    put_places by rest = put (codes "_matchesPosition") (positions_data by own) rest
+
+    by : (texts positions : Bool)
+        → with_costs costs (cond texts (put_texts (cond (texts || positions) terms []) (cond positions (put_places (cond (texts || positions) terms []) ms) ms)) (cond positions (put_places (cond (texts || positions) terms []) ms) ms))
+        ≡ with_costs costs (cond texts (put_texts terms (cond positions (put_places terms ms) ms)) (cond positions (put_places terms ms) ms))
+    by true true = refl
+    by true false = refl
+    by false true = refl
+    by false false = refl
+
+pub hits_alike : (p : List ℕ → Bool) (displayed retrieve : List (List ℕ)) (formats : FormatView) (terms : List TermView)
+    → ((name : List ℕ) → p name ≡ (is_shown displayed name && is_shown retrieve name))
+    → (hits : List HitView) → map (hit_by p formats (terms_if formats terms)) hits
+    ≡ map (λ hit. object (with_added formats terms hit.costs (shown_members retrieve (shown_members displayed (members_in hit.document))))) hits
+hits_alike p displayed retrieve formats terms same [] = refl
+hits_alike p displayed retrieve formats terms same (hit ∷ hits) =
     ap₂ (λ x xs. x ∷ xs)
-    (ap (λ ms. object (with_costs hit.costs ms))
-    (members_same p (λ name. is_shown displayed name && is_shown asked name) same (members_in hit.document)
-    ∙ members_both (is_shown displayed) (is_shown asked) (members_in hit.document)))
-    (hits_alike p displayed asked same hits)
+    (ap (λ ms. object (with_added formats (terms_if formats terms) hit.costs ms))
+    (members_same p (λ name. is_shown displayed name && is_shown retrieve name) same (members_in hit.document)
+    ∙ members_both (is_shown displayed) (is_shown retrieve) (members_in hit.document))
+    ∙ ap object (added_if formats terms hit.costs (shown_members retrieve (shown_members displayed (members_in hit.document)))))
+    (hits_alike p displayed retrieve formats terms same hits)
+
+-- the members that a hit has from its document, by one test and by one after the other
+pub own_alike : (names : Names) (added : List Added) (formats : FormatView) (costs : Option (List CostKey)) (ms : Members)
+    → map added_name added ≡ added_names formats costs
+    → members_by (owns names added) ms ≡ own_members formats costs (members_by (shows names) ms)
+own_alike names added formats costs ms are =
+    members_both (shows names) (λ name. not (is_among (map added_name added) name)) ms
+    ∙ ap (λ list. members_by (λ name. not (is_among list name)) (members_by (shows names) ms)) are
 
 or_behind : (a b : Bool) → cond b true a ≡ (a || (b || false))
 or_behind true true = refl

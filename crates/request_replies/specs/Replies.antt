@@ -7,6 +7,7 @@ use Rattle.serde_json.specs.Written.{compact_text, comma_if}
 use Rattle.http_wire.specs.Reply.{Answer}
 use Rattle.index_settings.specs.View.{SettingsView}
 use Rattle.index_settings.specs.Json.{settings_data}
+use Rattle.search_base.specs.TermView.{TermView}
 use Rattle.search_call.specs.SearchView.{SearchView}
 use Rattle.search_call.specs.declared.Window.{Window}
 use Rattle.search_call.specs.declared.Window.TheVariants.{Slice, Page}
@@ -108,13 +109,14 @@ hits_data q (Page page per) total facets hits =
     (member (codes "totalHits") (count total)
     (member (codes "totalPages") (count (total_pages total per)) no_members)))))))
 
--- a hit shows the members that both the displayed names and the search name
-abbrev pub found_data : List (List ℕ) → SearchView → ℕ → List HitView → Option (List FacetView) → Data
-found_data displayed call total found facets =
-    hits_data call.q call.window total facets (map (hit_shown displayed call.retrieve) found)
+-- A hit shows the members that both the displayed names and the search name, and what the search adds to it. By these
+-- terms are the matched words of its texts found.
+abbrev pub found_data : List (List ℕ) → SearchView → List TermView → ℕ → List HitView → Option (List FacetView) → Data
+found_data displayed call terms total found facets =
+    hits_data call.q call.window total facets (map (hit_shown displayed call terms) found)
 
-abbrev pub hits : List (List ℕ) → SearchView → ℕ → List HitView → Option (List FacetView) → Answer
-hits displayed call total found facets = answer 200 (found_data displayed call total found facets)
+abbrev pub hits : List (List ℕ) → SearchView → List TermView → ℕ → List HitView → Option (List FacetView) → Answer
+hits displayed call terms total found facets = answer 200 (found_data displayed call terms total found facets)
 
 -- ---- several searches
 

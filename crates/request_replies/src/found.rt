@@ -9,8 +9,10 @@ ghost use Rattle.request_replies.specs.Names.{shows};
 ghost use Rattle.request_replies.specs.Shown.{view_of, hit_by};
 ghost use Rattle.request_replies.specs.Replies.{found_data, shown_with, total_pages as total_pages_of, with_estimate, with_index, window_members};
 
+use crate::display::Display;
 use crate::facets::put_facets;
 use crate::hit::Found;
+use crate::marks::Marks;
 use crate::names::Names;
 use crate::shown::put_hits;
 use crate::text::{put_comma, quoted_text};
@@ -28,36 +30,39 @@ pub(crate) fn found_text(
     found: Found,
 ) -> Result<String, NoMemory>
     ensures { IfOk result (λ text. string_bytes text ≡ compact_text (shown_with (option_copied uid.entry)
-        (found_data displayed.now call.now found.entry.total (map view_of found.entry.hits.now)
+        (found_data displayed.now call.now found.entry.terms.now found.entry.total (map view_of found.entry.hits.now)
         (option_copied found.entry.facets)))) }
 {
     let names = Names::common(alloc, displayed, &call.retrieve)?;
+    let marks = Marks::new(alloc, &call.formats, found.terms)?;
+    let display = Display { names, marks };
     let mut text = String::from_str(alloc, "{")?;
-    put_found(alloc, &mut text, call.window, &names, found)?;
+    put_found(alloc, &mut text, call.window, &display, found)?;
     let rest = window_text(alloc, uid, call.q.as_str(), call.window, found.total)?;
     text.push_str(&rest)?;
     Ok(text)
 }
 
 // Puts what stands before the window: the number of hits in all, where it stands at the front, the counts, and the hits
-// by the members that `names` shows.
+// as `display` shows them.
 fn put_found(
     alloc: Global,
     text: &mut String,
     window: Window,
-    names: &Names,
+    display: &Display,
     found: Found,
 ) -> Result<(), NoMemory>
     ensures { OnOk result ((rest : Members) → string_bytes text.new ++ members_text true rest
         ≡ string_bytes text.old ++ members_text false (with_estimate window found.entry.total
         (facet_members (option_copied found.entry.facets) (member (codes "hits")
-        (array (items_of (map (hit_by (shows names.now)) (map view_of found.entry.hits.now)))) rest)))) }
+        (array (items_of (map (hit_by (shows display.now.names) display.now.marks.formats display.now.marks.terms)
+        (map view_of found.entry.hits.now)))) rest)))) }
 {
     let later = put_estimate(alloc, text, window, found.total)?;
     let later = put_facets(alloc, text, later, found.facets)?;
     put_comma(text, later)?;
     text.push_str("\"hits\":")?;
-    put_hits(alloc, text, names, found.hits)?;
+    put_hits(alloc, text, display, found.hits)?;
     Ok(())
 }
 

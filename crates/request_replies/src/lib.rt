@@ -2,16 +2,25 @@
 //! is acknowledged.
 //!
 //! Promises that each reply is the answer of its definition in specs/Replies.antt, byte for byte; the one error is want
-//! of memory. Contracts see a `Hit` through `view_of`, and a `ResultText` as its bytes. Stands on `doc_values` for
-//! documents, `index_settings` for settings, `search_call` and `search_base` for searches and costs, `facet_counts` for
-//! counts of values, `http_wire` for replies, and on nothing that keeps documents.
+//! of memory. A hit shows members of its document and what the search adds to them: `_costs`, `_formatted`, which has
+//! these members with their texts marked and cropped, and `_matchesPosition`, which says where matched words stand in
+//! them. Contracts see a `Hit` through `view_of`, and a `ResultText` as its bytes. Stands on `doc_values` for
+//! documents, `index_settings` for settings, `search_call` and `search_base` for searches and costs, `hit_format` for
+//! marked texts, `facet_counts` for counts of values, `http_wire` for replies, and on nothing that keeps documents.
 #![tactic(auto)]
 
+mod added;
 mod costs;
+mod crops;
+mod display;
 mod facets;
+mod formatted;
 mod found;
 mod hit;
+mod marks;
 mod names;
+mod own;
+mod positions;
 mod replies;
 mod result;
 mod several;

@@ -1,16 +1,18 @@
 // Names of members, in which `*` stands for all names.
 ghost use Rattle.std.specs.Prelude.{◌≡◌, ◌&&◌, true, ℕ, List, IfOk};
 ghost use Rattle.std.specs.BTreeSet.{contains_text};
+ghost use Rattle.search_call.specs.SearchView.{names_view};
+ghost use Rattle.request_replies.specs.Formatted.{is_named};
+ghost use Rattle.request_replies.specs.Members.{is_among, is_shown};
 ghost use Rattle.request_replies.specs.Names.{set_shows, shows};
-ghost use Rattle.request_replies.specs.Shown.{is_among, is_shown};
 
 use search_base::{NoMemory, Word};
 use std::alloc::Global;
 use std::collections::BTreeSet;
 
-// The names of a list. It shows them all where `*` is among them.
+/// The names of a list. It shows them all where `*` is among them.
 #[derive(Drop)]
-struct NameSet {
+pub(crate) struct NameSet {
     all: bool,
     names: BTreeSet<String>,
 }
@@ -37,6 +39,19 @@ impl NameSet {
         })
     }
 
+    /// Those of a list that may be given; else none.
+    pub(crate) fn given(alloc: Global, names: &Option<Vec<Word>>) -> Result<NameSet, NoMemory>
+        ensures { IfOk result (λ set. (name : List ℕ) → set_shows set name ≡ is_named (names_view names.now) name) }
+    {
+        match names {
+            Some(names) => NameSet::new(alloc, names.as_slice()),
+            None => Ok(NameSet {
+                all: false,
+                names: BTreeSet::new(alloc),
+            }),
+        }
+    }
+
     // Whether all names are shown.
     fn has_all(&self) -> bool
         ensures { result ≡ true → (name : List ℕ) → set_shows self.now name ≡ true }
@@ -44,8 +59,8 @@ impl NameSet {
         self.all
     }
 
-    // Whether a name is shown.
-    fn has(&self, name: &str) -> bool
+    /// Whether a name is shown.
+    pub(crate) fn has(&self, name: &str) -> bool
         ensures { result ≡ set_shows self.now name.now }
     {
         self.all || self.names.contains(name)

@@ -138,16 +138,16 @@ pub fn document_reply(
     make_reply(alloc, StatusCode::OK, body.into_bytes())
 }
 
-/// The reply to a search, with its hits by the displayed members that the call asks for, and with the counts of values,
-/// where there are some.
+/// The reply to a search, with its hits by the displayed members that the call asks for and what it adds to them, and
+/// with the counts of values, where there are some.
 pub fn hits_reply(
     alloc: Global,
     call: &SearchCall,
     displayed: &[Word],
     found: Found,
 ) -> Result<Reply, NoMemory>
-    ensures { IfOk result (λ reply. IsSentAs reply (hits_answer displayed.now call.now found.entry.total
-        (map view_of found.entry.hits.now) (option_copied found.entry.facets))) }
+    ensures { IfOk result (λ reply. IsSentAs reply (hits_answer displayed.now call.now found.entry.terms.now
+        found.entry.total (map view_of found.entry.hits.now) (option_copied found.entry.facets))) }
 {
     let body = found_text(alloc, None, call, displayed, found)?;
     make_reply(alloc, StatusCode::OK, body.into_bytes())
@@ -162,7 +162,8 @@ pub fn result_text(
     found: Found,
 ) -> Result<ResultText, NoMemory>
     ensures { IfOk result (λ text. text ≡ compact_text (with_uid uid.now (found_data displayed.now call.now
-        found.entry.total (map view_of found.entry.hits.now) (option_copied found.entry.facets)))) }
+        found.entry.terms.now found.entry.total (map view_of found.entry.hits.now)
+        (option_copied found.entry.facets)))) }
 {
     let text = found_text(alloc, Some(uid), call, displayed, found)?;
     Ok(ResultText::new(text))

@@ -1,28 +1,29 @@
-// Documents in the bodies of replies: their kept texts are joined, and read back only where some members are left out
-// or costs come to them.
+// Documents and hits in the bodies of replies: kept texts are joined, and read back only where some members are left
+// out or others come to them.
 ghost use Rattle.std.specs.Prelude.{◌≡◌, ◌++◌, ◌∷◌, IfOk, OnOk, map, string_bytes, false};
 ghost use Rattle.std.specs.Option.{option_copied};
 ghost use Rattle.json.specs.Print.{quoted};
 ghost use Rattle.serde_json.specs.Data.{Members, no_members, member, array, object};
 ghost use Rattle.serde_json.specs.View.{view, items_of, members_view};
-ghost use Rattle.serde_json.specs.Written.{compact_text, has_float, members_text, members_have_float};
+ghost use Rattle.serde_json.specs.Written.{comma_if, compact_text, has_float, members_text, members_have_float};
 ghost use Rattle.doc_values.specs.Walk.{members_in};
-ghost use Rattle.request_replies.specs.Costs.{costs_data};
+ghost use Rattle.request_replies.specs.Added.{members_of, owns, with_waiting, AreInOrder};
+ghost use Rattle.request_replies.specs.Members.{members_by};
 ghost use Rattle.request_replies.specs.Names.{shows};
-ghost use Rattle.request_replies.specs.Shown.{members_by, shown, all_shown, with_costs, view_of, hit_by};
+ghost use Rattle.request_replies.specs.Shown.{shown, all_shown, view_of, hit_by};
 ghost use Rattle.request_replies.specs.Replies.{listing_data};
 
-use crate::costs::put_costs;
+use crate::added::{Added, added_to, put_added};
+use crate::display::Display;
 use crate::hit::Hit;
 use crate::names::Names;
-use crate::text::{put_comma, put_member, quoted_text};
+use crate::own::Own;
+use crate::text::{put_comma, put_name, put_value};
 use doc_values::DocumentText;
 use search_base::{CostKey, NoMemory, Word};
 use serde_json::{Map, Value};
 use std::alloc::Global;
 use std::cmp::Ordering;
-
-const COSTS: &str = "_costs";
 
 /// The body of a list of documents, by the members that `fields` names.
 pub(crate) fn listing_text(
@@ -83,30 +84,43 @@ fn put_documents(
 pub(crate) fn put_hits(
     alloc: Global,
     text: &mut String,
-    names: &Names,
+    display: &Display,
     hits: &[Hit],
 ) -> Result<(), NoMemory>
-    ensures { OnOk result (string_bytes text.new ≡ string_bytes text.old
-        ++ compact_text (array (items_of (map (hit_by (shows names.now)) (map view_of hits.now))))) }
+    ensures { OnOk result (string_bytes text.new ≡ string_bytes text.old ++ compact_text (array (items_of
+        (map (hit_by (shows display.now.names) display.now.marks.formats display.now.marks.terms)
+        (map view_of hits.now))))) }
 {
     text.push_str("[")?;
     let mut later = false;
     for hit in hits {
         put_comma(text, later)?;
-        put_hit(alloc, text, names, hit)?;
+        put_hit(alloc, text, display, hit)?;
         later = true;
     }
     text.push_str("]")?;
     Ok(())
 }
 
-fn put_hit(alloc: Global, text: &mut String, names: &Names, hit: &Hit) -> Result<(), NoMemory>
-    ensures { OnOk result (string_bytes text.new
-        ≡ string_bytes text.old ++ compact_text (hit_by (shows names.now) (view_of hit.now))) }
+fn put_hit(alloc: Global, text: &mut String, display: &Display, hit: &Hit) -> Result<(), NoMemory>
+    ensures { OnOk result (string_bytes text.new ≡ string_bytes text.old ++ compact_text
+        (hit_by (shows display.now.names) display.now.marks.formats display.now.marks.terms (view_of hit.now))) }
+{
+    let costs = costs_of(hit);
+    let added = added_to(alloc, &display.marks, costs)?;
+    if added.is_empty() {
+        put_document(alloc, text, &display.names, hit.document)
+    } else {
+        put_chosen(alloc, text, &display.names, added.as_slice(), hit.document)
+    }
+}
+
+fn costs_of<'a>(hit: &'a Hit) -> Option<&'a [CostKey]>
+    ensures { option_copied result ≡ (view_of hit.now).costs }
 {
     match &hit.costs {
-        Some(costs) => put_chosen(alloc, text, names, Some(costs.as_slice()), hit.document),
-        None => put_document(alloc, text, names, hit.document),
+        Some(costs) => Some(costs.as_slice()),
+        None => None,
     }
 }
 
@@ -124,126 +138,141 @@ fn put_document(
         text.push_str(document.text())?;
         return Ok(());
     }
-    put_chosen(alloc, text, names, None, document)
+    put_chosen(alloc, text, names, &[], document)
 }
 
-// Puts the members of a document that these names show, and its costs, if there are any.
+// Puts the members of a document that these names show, and the added ones.
 fn put_chosen(
     alloc: Global,
     text: &mut String,
     names: &Names,
-    costs: Option<&[CostKey]>,
+    added: &[Added],
     document: &DocumentText,
 ) -> Result<(), NoMemory>
-    ensures { OnOk result (string_bytes text.new ≡ string_bytes text.old
-        ++ compact_text (object (with_costs (option_copied costs.entry)
+    requires { AreInOrder added.now }
+    ensures { OnOk result (string_bytes text.new ≡ string_bytes text.old ++ compact_text (object
+        (with_waiting (members_by (owns names.now added.now) (members_in document.now)) added.now
         (members_by (shows names.now) (members_in document.now))))) }
 {
     let document = document.document(alloc)?;
     match document.as_json() {
-        Value::Object(members) => put_members(alloc, text, names, costs, members),
+        Value::Object(members) => {
+            let own = Own {
+                names,
+                added,
+                members,
+            };
+            put_members(alloc, text, &own)
+        }
         // A document is an object.
         _ => Ok(()),
     }
 }
 
-fn put_members(
-    alloc: Global,
-    text: &mut String,
-    names: &Names,
-    costs: Option<&[CostKey]>,
-    members: &Map<String, Value>,
-) -> Result<(), NoMemory>
-    requires { members_have_float (members_view members.now.entries) ≡ false }
-    ensures { OnOk result (string_bytes text.new ≡ string_bytes text.old
-        ++ compact_text (object (with_costs (option_copied costs.entry)
-        (members_by (shows names.now) (members_view members.now.entries))))) }
+fn put_members(alloc: Global, text: &mut String, own: &Own) -> Result<(), NoMemory>
+    requires whole { members_have_float (members_view own.now.members.now.entries) ≡ false }
+    requires order { AreInOrder own.now.added.now }
+    ensures { OnOk result (string_bytes text.new ≡ string_bytes text.old ++ compact_text (object
+        (with_waiting (members_of own.now) own.now.added.now
+        (members_by (shows own.now.names.now) (members_view own.now.members.now.entries))))) }
 {
     text.push_str("{")?;
     let mut line = Line {
         later: false,
-        costs,
+        waiting: own.added,
     };
-    for (name, value) in members.iter() {
-        line = put_if_shown(alloc, text, line, names, name.as_str(), value)?;
+    for (name, value) in own.members.iter() {
+        if own.names.has(name.as_str()) {
+            line = put_shown(alloc, text, line, own, name.as_str(), value)?;
+        }
     }
-    put_rest(alloc, text, line)
+    put_rest(alloc, text, line, own)
 }
 
-// An object whose members are put one after the other: whether some stand there, and the costs that still wait for
+// An object whose members are put one after the other: whether some stand there, and the added ones that still wait for
 // their place.
 #[derive(Clone, Copy)]
 struct Line<'a> {
     later: bool,
-    costs: Option<&'a [CostKey]>,
+    waiting: &'a [Added<'a>],
 }
 
-// Puts a member where its name is shown, and before it or in its place the costs, where they stand there.
-fn put_if_shown<'a>(
+// Puts a member, and before it or in its place the added ones that stand there.
+fn put_shown<'a>(
     alloc: Global,
     text: &mut String,
     line: Line<'a>,
-    names: &Names,
+    own: &Own,
     name: &str,
     value: &Value,
 ) -> Result<Line<'a>, NoMemory>
-    requires { has_float (view value.now) ≡ false }
-    ensures { IfOk result (λ after. (rest : Members)
-        → string_bytes text.new
-        ++ members_text after.later (with_costs (option_copied after.costs) (members_by (shows names.now) rest))
-        ≡ string_bytes text.old ++ members_text line.entry.later (with_costs (option_copied line.entry.costs)
-        (members_by (shows names.now) (member name.now (view value.now) rest)))) }
+    requires whole { has_float (view value.now) ≡ false }
+    requires all_whole { members_have_float (members_view own.now.members.now.entries) ≡ false }
+    requires order { AreInOrder line.waiting.now }
+    ensures order { IfOk result (λ after. AreInOrder after.waiting.now) }
+    ensures text { IfOk result (λ after. (rest : Members) → string_bytes text.new
+        ++ members_text after.later (with_waiting (members_of own.now) after.waiting.now rest)
+        ≡ string_bytes text.old ++ members_text line.entry.later (with_waiting (members_of own.now)
+        line.entry.waiting.now (member name.now (view value.now) rest))) }
 {
-    if !names.has(name) {
-        return Ok(line);
-    }
-    put_comma(text, line.later)?;
-    let later = true;
-    let costs = match line.costs {
-        Some(costs) => match COSTS.cmp(name) {
-            Ordering::Less => {
-                put_named_costs(alloc, text, COSTS, costs)?;
-                put_comma(text, later)?;
-                None
-            }
-            Ordering::Equal => {
-                put_named_costs(alloc, text, name, costs)?;
-                return Ok(Line { later, costs: None });
-            }
-            Ordering::Greater => line.costs,
-        },
-        None => None,
+    let Some((added, waiting)) = line.waiting.split_first() else {
+        put_member(alloc, text, line.later, name, value)?;
+        return Ok(Line {
+            later: true,
+            waiting: line.waiting,
+        });
     };
-    put_member(alloc, text, name, value)?;
-    Ok(Line { later, costs })
+    let line_after = Line {
+        later: true,
+        waiting,
+    };
+    match added.name().cmp(name) {
+        Ordering::Less => {
+            put_added(alloc, text, line.later, own, added)?;
+            put_shown(alloc, text, line_after, own, name, value)
+        }
+        Ordering::Equal => {
+            put_added(alloc, text, line.later, own, added)?;
+            Ok(line_after)
+        }
+        Ordering::Greater => {
+            put_member(alloc, text, line.later, name, value)?;
+            Ok(Line {
+                later: true,
+                waiting: line.waiting,
+            })
+        }
+    }
 }
 
-// Puts the costs that still wait, and the end of the object.
-fn put_rest(alloc: Global, text: &mut String, line: Line) -> Result<(), NoMemory>
-    ensures { OnOk result (string_bytes text.new
-        ≡ string_bytes text.old
-        ++ members_text line.entry.later (with_costs (option_copied line.entry.costs) no_members)) }
+fn put_member(
+    alloc: Global,
+    text: &mut String,
+    later: bool,
+    name: &str,
+    value: &Value,
+) -> Result<(), NoMemory>
+    requires { has_float (view value.now) ≡ false }
+    ensures { OnOk result (string_bytes text.new ≡ string_bytes text.old
+        ++ (comma_if later ++ (quoted name.now ++ 58 ∷ compact_text (view value.now)))) }
 {
-    if let Some(costs) = line.costs {
-        put_comma(text, line.later)?;
-        put_named_costs(alloc, text, COSTS, costs)?;
+    put_comma(text, later)?;
+    put_name(alloc, text, name)?;
+    put_value(alloc, text, value)
+}
+
+// Puts the added members that still wait, and the end of the object.
+fn put_rest(alloc: Global, text: &mut String, line: Line, own: &Own) -> Result<(), NoMemory>
+    requires whole { members_have_float (members_view own.now.members.now.entries) ≡ false }
+    requires order { AreInOrder line.waiting.now }
+    ensures { OnOk result (string_bytes text.new ≡ string_bytes text.old
+        ++ members_text line.entry.later (with_waiting (members_of own.now) line.entry.waiting.now no_members)) }
+{
+    let mut later = line.later;
+    for added in line.waiting {
+        put_added(alloc, text, later, own, added)?;
+        later = true;
     }
     text.push_str("}")?;
     Ok(())
-}
-
-// Puts a member that has the costs.
-fn put_named_costs(
-    alloc: Global,
-    text: &mut String,
-    name: &str,
-    costs: &[CostKey],
-) -> Result<(), NoMemory>
-    ensures { OnOk result (string_bytes text.new ≡ string_bytes text.old
-        ++ (quoted name.now ++ 58 ∷ compact_text (costs_data costs.now))) }
-{
-    let name = quoted_text(alloc, name)?;
-    text.push_str(&name)?;
-    text.push_str(":")?;
-    put_costs(alloc, text, costs)
 }

@@ -10,7 +10,7 @@ use Rattle.index_core.specs.FacetHits.{facet_found}
 use Rattle.facet_counts.specs.declared.rows.CountRow.{CountRow}
 use Rattle.search_settings.specs.declared.refusal.SearchRefusal.{SearchRefusal}
 use Rattle.request_refusals.specs.declared.refusal.Refusal.{Refusal}
-use Rattle.request_refusals.specs.declared.refusal.Refusal.TheVariants.{NoRoute, MethodNotAllowed, InvalidUid, Unknown, NotBuilt, InvalidSearch, FilterSyntax, FilterTooDeep, FilterNotANumber, NotJson, NotList, NotObject, NumberNotWhole, BadListedId, MissingUid, BadSettings, BadRankingRule, BadQueries, MissingQueryUid, MissingFacetName, InvalidFacetName, InvalidFacetQuery, NoIndex, IndexExists, NoDocument, KeyDiffers, NoCandidate, SeveralCandidates, MissingId, BadId, ChangesSpent, IndexesSpent, IdsSpent, PathsSpent, NoSortRule, NotSortable, NotFilterable, NotFacet}
+use Rattle.request_refusals.specs.declared.refusal.Refusal.TheVariants.{NoRoute, MethodNotAllowed, InvalidUid, Unknown, InvalidSearch, FilterSyntax, FilterTooDeep, FilterNotANumber, NotJson, NotList, NotObject, NumberNotWhole, BadListedId, MissingUid, BadSettings, BadRankingRule, BadQueries, MissingQueryUid, MissingFacetName, InvalidFacetName, InvalidFacetQuery, NoIndex, IndexExists, NoDocument, KeyDiffers, NoCandidate, SeveralCandidates, MissingId, BadId, ChangesSpent, IndexesSpent, IdsSpent, PathsSpent, NoSortRule, NotSortable, NotFilterable, NotFacet}
 use Rattle.request_calls.specs.Refusals.{told_of}
 use Rattle.search_base.specs.Trying.{◌>>=◌, or_refuse, refused_as}
 use Rattle.request_calls.specs.Asked.{ReadData, MultiData, health, indexes, index, documents, document, settings, search, multi, facets, CallData, write, read}
@@ -94,7 +94,6 @@ refusing NoRoute = (λ e. absurd (omega (arith, e)), λ e. absurd (omega (arith,
 refusing MethodNotAllowed = (λ e. absurd (omega (arith, e)), λ e. absurd (omega (arith, e)))
 refusing InvalidUid = (λ e. absurd (omega (arith, e)), λ e. absurd (omega (arith, e)))
 refusing (Unknown name) = (λ e. absurd (omega (arith, e)), λ e. absurd (omega (arith, e)))
-refusing (NotBuilt name) = (λ e. absurd (omega (arith, e)), λ e. absurd (omega (arith, e)))
 refusing (InvalidSearch m) = (λ e. absurd (omega (arith, e)), λ e. absurd (omega (arith, e)))
 refusing (FilterSyntax text place) = (λ e. absurd (omega (arith, e)), λ e. absurd (omega (arith, e)))
 refusing (FilterTooDeep text place) = (λ e. absurd (omega (arith, e)), λ e. absurd (omega (arith, e)))

@@ -19,8 +19,10 @@ use Rattle.search_settings.specs.declared.refusal.SearchRefusal.{SearchRefusal}
 use Rattle.search_settings.specs.SearchFaults.{search_fault}
 use Rattle.index_changes.specs.Index.{Index}
 use Rattle.index_core.specs.Found.{Found, found, found_in}
-use Rattle.index_core.specs.Fetches.{hits_needed}
-use Rattle.index_core.specs.Opened.{opened, opened_in, most_opened, unless_refused}
+use Rattle.index_core.specs.Terms.{terms_in}
+use Rattle.index_core.specs.Fetches.{documents_needed}
+use Rattle.index_core.specs.Looked.{unless_refused}
+use Rattle.index_core.specs.Opened.{opened, opened_in, most_opened}
 use Rattle.request_refusals.specs.declared.refusal.Refusal.{Refusal}
 use Rattle.request_refusals.specs.declared.refusal.Refusal.TheVariants.{NoIndex}
 use Rattle.request_calls.specs.Asked.{MultiData}
@@ -34,16 +36,16 @@ use Rattle.search_routes.proofs.RunLemmas.{PassesAs, Stepped, starved_by, runs-o
 
 -- ---- a search that is refused
 
-none-found : (w : Option SearchRefusal) (f : Found) (shown : Found → Data) (all : List Opening) (n : ℕ)
+none-found : (w : Option SearchRefusal) (f : Found) (shown : Found → Data) (all : List Opening) (m n : ℕ)
     → is_ok (refused_as search_refusal (w >> Ok f) >>= λ f. Ok (shown f)) ≡ false
-    → (hits_needed (w >> Ok f) ≡ 0) × (unless_refused w all [] ≡ []) × (unless_refused w n 0 ≡ 0)
-none-found None f shown all n is = absurd (cc)
-none-found (Some refusal) f shown all n is = (refl, refl, refl)
+    → (unless_refused w m 0 ≡ 0) × (unless_refused w all [] ≡ []) × (unless_refused w n 0 ≡ 0)
+none-found None f shown all m n is = absurd (cc)
+none-found (Some refusal) f shown all m n is = (refl, refl, refl)
 
-none-there : (o : Option Index) (uid : List ℕ) (call : SearchView) → is_ok (or_refuse (NoIndex uid) o >>= λ i. refused_as search_refusal (found i call) >>= λ f. Ok (found_shown call i.settings f)) ≡ false
-    → (there_need o (λ i. hits_needed (found i call)) ≡ 0) × (there_opened o (λ i. opened i call) ≡ []) × (there_need o (λ i. most_opened i call) ≡ 0)
+none-there : (o : Option Index) (uid : List ℕ) (call : SearchView) → is_ok (or_refuse (NoIndex uid) o >>= λ i. refused_as search_refusal (found i call) >>= λ f. Ok (found_shown call i.settings (terms_in i call) f)) ≡ false
+    → (there_need o (λ i. documents_needed i call) ≡ 0) × (there_opened o (λ i. opened i call) ≡ []) × (there_need o (λ i. most_opened i call) ≡ 0)
 none-there None uid call is = (refl, refl, refl)
-none-there (Some i) uid call is = none-found (search_fault i.settings call) (found_in i call) (found_shown call i.settings) (opened_in i call) _ is
+none-there (Some i) uid call is = none-found (search_fault i.settings call) (found_in i call) (found_shown call i.settings (terms_in i call)) (opened_in i call) _ _ is
 
 -- it reads and opens nothing
 none-made : (es : Indexes) (search : MultiData) → is_ok (searched es search.uid search.call) ≡ false

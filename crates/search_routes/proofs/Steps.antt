@@ -32,6 +32,7 @@ use Rattle.index_core.specs.declared.call.Hit.{Hit as HeldFound}
 use Rattle.index_core.specs.Shown.{hit_shown}
 use Rattle.search_routes.specs.Done.{reply_hit, Grows, Steps, Sends, Answers, Answered, Makes, Noted, Performs, held_need, held_most}
 use Rattle.index_core.specs.Found.{Found, found}
+use Rattle.index_core.specs.Terms.{terms_in}
 use Rattle.index_core.specs.FacetHits.{facet_found}
 use Rattle.facet_counts.specs.declared.rows.CountRow.{CountRow}
 use Rattle.serde_json.specs.Data.{Data}
@@ -130,13 +131,13 @@ hits_seen (hit ∷ found) = ap (λ hits. hit_view (hit_shown hit) ∷ hits) (hit
 
 -- what a search of an index that is there shows
 searched_is : (es : Indexes) (uid : List ℕ) (call : SearchView) (i : Index) (f : Found) → index_named uid es ≡ Ok i → found i call ≡ Ok f
-    → searched es uid call ≡ Ok (found_shown call i.settings f)
+    → searched es uid call ≡ Ok (found_shown call i.settings (terms_in i call) f)
 searched_is es uid call i f at is =
-    ap (λ r. r >>= λ i. refused_as search_refusal (found i call) >>= λ f. Ok (found_shown call i.settings f)) at
-    ∙ ap (λ r. refused_as search_refusal r >>= λ f. Ok (found_shown call i.settings f)) is
+    ap (λ r. r >>= λ i. refused_as search_refusal (found i call) >>= λ f. Ok (found_shown call i.settings (terms_in i call) f)) at
+    ∙ ap (λ r. refused_as search_refusal r >>= λ f. Ok (found_shown call i.settings (terms_in i call) f)) is
 
 pub gives_searched : {X : Type 0} (view : X → Data) (es : Indexes) (uid : List ℕ) (call : SearchView) (i : Index) (f : Found) (result : Result X (Fault Refusal))
-    → index_named uid es ≡ Ok i → found i call ≡ Ok f → Gives view result (Ok (found_shown call i.settings f)) → Gives view result (searched es uid call)
+    → index_named uid es ≡ Ok i → found i call ≡ Ok f → Gives view result (Ok (found_shown call i.settings (terms_in i call) f)) → Gives view result (searched es uid call)
 gives_searched view es uid call i f result at is gives = subst (λ a. Gives view result a) (sym (searched_is es uid call i f at is)) gives
 
 -- the reply to a search is what it shows

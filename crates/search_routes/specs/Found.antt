@@ -10,5 +10,5 @@ use Rattle.search_routes.specs.declared.searching.Shown.{Shown}
 -- what a search with this call shows of it
 abbrev pub shown_data : SearchView → Shown → Data
 shown_data call shown =
-    replies.found_data shown.settings.now.displayed_attributes call shown.total (map view_of shown.hits.items)
-    (option_map (λ rows. rows.items) shown.facets)
+    replies.found_data shown.settings.now.displayed_attributes call shown.terms.items shown.total
+    (map view_of shown.hits.items) (option_map (λ rows. rows.items) shown.facets)

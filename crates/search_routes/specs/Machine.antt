@@ -14,6 +14,7 @@ use Rattle.http_wire.specs.Reply.{Answer}
 use Rattle.index_changes.specs.Index.{Index, empty_index, documents as documents_in, document_under}
 use Rattle.index_changes.specs.Plans.{planned, applied}
 use Rattle.index_core.specs.Found.{Found, FoundHit, found}
+use Rattle.index_core.specs.Terms.{terms_in}
 use Rattle.index_core.specs.FacetHits.{facet_found}
 use Rattle.index_changes.specs.declared.refusal.CoreRefusal.{CoreRefusal}
 use Rattle.index_changes.specs.declared.refusal.CoreRefusal.TheVariants as core
@@ -21,6 +22,7 @@ use Rattle.search_settings.specs.declared.refusal.SearchRefusal.{SearchRefusal}
 use Rattle.search_settings.specs.declared.refusal.SearchRefusal.TheVariants as asked
 use Rattle.request_refusals.specs.declared.refusal.Refusal.{Refusal}
 use Rattle.request_refusals.specs.declared.refusal.Refusal.TheVariants.{NoIndex, IndexExists, NoDocument, KeyDiffers, NoCandidate, SeveralCandidates, MissingId, BadId, ChangesSpent, IndexesSpent, IdsSpent, PathsSpent, NoSortRule, NotSortable, NotFilterable, NotFacet, InvalidFacetName}
+use Rattle.search_base.specs.TermView.{TermView}
 use Rattle.search_base.specs.Trying.{◌>>=◌, ◌>>◌, first_of, refuse_if, or_refuse, refused_as}
 use Rattle.request_calls.specs.Refusals.{refused}
 use Rattle.request_calls.specs.Asked.{ReadData, MultiData, health, indexes, index, documents, document, settings, search, multi, facets, CallData, write, read}
@@ -198,9 +200,9 @@ index_rows es = map (λ e. replies.index_data e.0 e.1.key) es
 abbrev pub hit_view : FoundHit → HitView
 hit_view hit = record { document = hit.document; costs = hit.costs }
 
--- a hit shows the members that both the settings and the search name
-abbrev pub found_shown : SearchView → SettingsView → Found → Data
-found_shown call s f = replies.found_data s.displayed_attributes call f.total (map hit_view f.hits) f.facets
+-- a hit shows the members that both the settings and the search name, with these terms marked in their texts
+abbrev pub found_shown : SearchView → SettingsView → List TermView → Found → Data
+found_shown call s terms f = replies.found_data s.displayed_attributes call terms f.total (map hit_view f.hits) f.facets
 
 -- why a search is refused by its index
 abbrev pub search_refusal : SearchRefusal → Refusal
@@ -221,7 +223,7 @@ abbrev pub searched : Indexes → List ℕ → SearchView → Result Data Refusa
 searched es uid call = do
   i ← index_named uid es
   f ← refused_as search_refusal (found i call)
-  Ok (found_shown call i.settings f)
+  Ok (found_shown call i.settings (terms_in i call) f)
 
 -- the same, with the uid of the index
 abbrev pub result_of : Indexes → MultiData → Result Data Refusal

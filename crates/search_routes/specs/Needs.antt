@@ -8,8 +8,7 @@ use Rattle.index_changes.specs.Index.{Index, empty_index, documents as documents
 use Rattle.index_changes.specs.PlanView.{PlanView}
 use Rattle.index_changes.specs.Plans.{planned}
 use Rattle.index_changes.specs.Fetches.{needed}
-use Rattle.index_core.specs.Fetches.{hits_needed}
-use Rattle.index_core.specs.Found.{found}
+use Rattle.index_core.specs.Fetches.{documents_needed}
 use Rattle.index_changes.specs.declared.refusal.CoreRefusal.{CoreRefusal}
 use Rattle.request_refusals.specs.declared.refusal.Refusal.{Refusal}
 use Rattle.request_calls.specs.Asked.{ReadData, MultiData, health, indexes, index, documents, document, settings, search, multi, facets, CallData, write, read}
@@ -74,9 +73,10 @@ abbrev pub one_if_some : Option Data → ℕ
 one_if_some None = 0
 one_if_some (Some d) = 1
 
--- the hits of a search; one that is refused needs none
+-- the hits of a search, and where no two have a value in common those that are looked at for it; one that is refused
+-- needs none
 abbrev pub search_need : Indexes → List ℕ → SearchView → ℕ
-search_need es uid call = there_need (index_at uid es) (λ i. hits_needed (found i call))
+search_need es uid call = there_need (index_at uid es) (λ i. documents_needed i call)
 
 -- of several searches those before the first that is refused
 abbrev pub answered : Indexes → List MultiData → List MultiData

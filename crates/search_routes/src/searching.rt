@@ -22,7 +22,7 @@ use index_core::{Hit as FoundHit, SearchResult};
 use index_settings::Settings;
 use request_refusals::Refusal;
 use request_replies::{Found, Hit, ResultText, hits_reply, result_text};
-use search_base::{Fault, NoMemory, Steps, Word};
+use search_base::{Fault, NoMemory, Steps, Term, Word};
 use search_call::SearchCall;
 use search_settings::SearchRefusal;
 use std::alloc::Global;
@@ -31,6 +31,7 @@ use std::alloc::Global;
 #[derive(Drop)]
 pub(crate) struct Shown<'a> {
     settings: &'a Settings,
+    terms: Vec<Term>,
     total: u64,
     hits: Vec<Hit<'a>>,
     facets: Option<Vec<FacetReply>>,
@@ -68,16 +69,19 @@ fn shown_of<'a>(
     settings: &'a Settings,
     found: SearchResult<'a>,
 ) -> Result<Shown<'a>, Fault<Refusal>>
-    ensures { Gives (shown_data call.now) result (Ok (found_shown call.now settings.now (result_shown found.entry))) }
+    ensures { Gives (shown_data call.now) result
+        (Ok (found_shown call.now settings.now found.entry.terms.items (result_shown found.entry))) }
 {
     let SearchResult {
         hits,
         total,
         facets,
+        terms,
     } = found;
     let hits = reply_hits(alloc, hits)?;
     Ok(Shown {
         settings,
+        terms,
         total,
         hits,
         facets,
@@ -115,11 +119,13 @@ fn found_in<'a>(shown: &'a Shown) -> Found<'a>
     ensures total { result.total ≡ shown.now.total }
     ensures hits { result.hits.now ≡ shown.now.hits.items }
     ensures facets { option_copied result.facets ≡ option_map (λ rows. rows.items) shown.now.facets }
+    ensures terms { result.terms.now ≡ shown.now.terms.items }
 {
     Found {
         total: shown.total,
         hits: shown.hits.as_slice(),
         facets: rows_of(&shown.facets),
+        terms: shown.terms.as_slice(),
     }
 }
 

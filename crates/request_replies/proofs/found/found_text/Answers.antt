@@ -1,10 +1,12 @@
-use Rattle.std.proofs.Common.{◌≡◌, ◌++◌, ℕ, ◌&&◌, true, ◌∙◌, ap, subst, map, string_bytes, List}
+use Rattle.std.proofs.Common.{◌≡◌, ◌++◌, ℕ, ◌&&◌, ◌∙◌, ap, subst, map, string_bytes, List, true}
 use Rattle.std.specs.Option.{option_copied}
 use Rattle.serde_json.specs.Written.{compact_text, members_text}
 use Rattle.search_call.specs.SearchView.{SearchView}
-use Rattle.request_replies.specs.Shown.{HitView, view_of, is_shown, hit_by}
-use Rattle.request_replies.specs.Replies.{found_data, hits_data, shown_with, window_members}
+use Rattle.request_replies.specs.Marks.{MarksView}
+use Rattle.request_replies.specs.Members.{is_shown}
 use Rattle.request_replies.specs.Names.{shows}
+use Rattle.request_replies.specs.Shown.{HitView, view_of, hit_by}
+use Rattle.request_replies.specs.Replies.{found_data, hits_data, shown_with, window_members}
 use Rattle.request_replies.proofs.PrintLemmas.{found_printed}
 use Rattle.request_replies.proofs.ShownLemmas.{hits_alike}
 use Rattle.request_replies.proofs.found.found_text.Goals as goal
@@ -16,12 +18,16 @@ returns c =
     let total = c.args.found.total in
     let hits : List HitView = map view_of c.args.found.hits.now in
     let facets = option_copied c.args.found.facets in
-    let same : (name : List ℕ) → shows c.in_ok-names.names name ≡ (is_shown c.args.displayed.now name && is_shown call.retrieve.items name) =
+    let terms = c.args.found.terms.now in
+    let names = c.in_ok-names.names in
+    let same : (name : List ℕ) → shows names name ≡ (is_shown c.args.displayed.now name && is_shown call.retrieve.items name) =
     λ name. c.in_ok-names.ensures name ∙ ap (λ v. is_shown c.args.displayed.now name && is_shown v name) c.deref.ensures.value in
-    let Is : SearchView → Type 0 = λ v. string_bytes c.push_str.new.self ≡ compact_text (shown_with uid (found_data c.args.displayed.now v total hits facets)) in
+    let Is : SearchView → Type 0 = λ v. string_bytes c.push_str.new.self ≡ compact_text (shown_with uid (found_data c.args.displayed.now v terms total hits facets)) in
+    let by : MarksView → List HitView → List _ = λ marks list. map (hit_by (shows names) marks.formats marks.terms) list in
     subst Is c.call.view_is
-    (found_printed uid call.q call.window total facets (map (hit_by (shows c.in_ok-names.names)) hits) _ _ _ _
+    (found_printed uid call.q call.window total facets (by c.in_ok-marks.marks hits) _ _ _ _
     c.in_ok-text.ensures.ok c.in_ok-put_found.ensures
     (c.in_ok-rest.ensures ∙ ap (λ q. members_text true (window_members uid q call.window total)) c.as_str.ensures)
     (c.in_ok-push_str.ensures.bytes ∙ ap (λ v. string_bytes c.put_found.new.text ++ v) c.deref-2.ensures)
-    ∙ ap (λ ds. compact_text (shown_with uid (hits_data call.q call.window total facets ds))) (hits_alike (shows c.in_ok-names.names) c.args.displayed.now call.retrieve.items same hits))
+    ∙ ap (λ ds. compact_text (shown_with uid (hits_data call.q call.window total facets ds)))
+    (ap (λ marks. by marks hits) c.in_ok-marks.ensures ∙ hits_alike (shows names) c.args.displayed.now call.retrieve.items call.formats terms same hits))

@@ -1,6 +1,6 @@
 use Rattle.std.proofs.Common.{◌≡◌, ℕ, List, take}
 use Rattle.std.specs.BTreeSet.{contains_text}
-use Rattle.request_replies.specs.Shown.{is_among}
+use Rattle.request_replies.specs.Members.{is_among}
 use Rattle.request_replies.proofs.names.distinct.Given as goal
 
 -- the set has the names so far

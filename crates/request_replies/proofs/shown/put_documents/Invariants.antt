@@ -3,7 +3,7 @@ use Rattle.serde_json.specs.View.{items_of}
 use Rattle.serde_json.specs.Written.{items_text}
 use Rattle.serde_json.specs.Data.{object}
 use Rattle.doc_values.specs.Walk.{members_in}
-use Rattle.request_replies.specs.Shown.{members_by}
+use Rattle.request_replies.specs.Members.{members_by}
 use Rattle.request_replies.specs.Names.{shows}
 use Rattle.request_replies.proofs.shown.put_documents.Given as goal
 

@@ -8,5 +8,5 @@ use Rattle.request_replies.proofs.shown.put_hits.Given as goal
 -- the text so far, with the hits that are left, is the text at first with all hits
 abbrev pub invariant-loop-hit : goal.invariant-loop-hit
 invariant-loop-hit l =
-    string_bytes l.text ++ items_text l.later (items_of (map (hit_by (shows l.names)) (map view_of (drop l.hit-index l.hits))))
-    ≡ string_bytes l.initial.text ++ items_text false (items_of (map (hit_by (shows l.names)) (map view_of l.hits)))
+    string_bytes l.text ++ items_text l.later (items_of (map (hit_by (shows l.display.names) l.display.marks.formats l.display.marks.terms) (map view_of (drop l.hit-index l.hits))))
+    ≡ string_bytes l.initial.text ++ items_text false (items_of (map (hit_by (shows l.display.names) l.display.marks.formats l.display.marks.terms) (map view_of l.hits)))

@@ -1,8 +1,8 @@
 use Rattle.std.proofs.Common.{◌≡◌, ◌++◌, string_bytes, false}
-use Rattle.std.specs.Option.{option_copied}
 use Rattle.serde_json.specs.View.{members_view}
 use Rattle.serde_json.specs.Written.{members_text, members_have_float}
-use Rattle.request_replies.specs.Shown.{members_by, with_costs}
+use Rattle.request_replies.specs.Added.{members_of, with_waiting, AreInOrder}
+use Rattle.request_replies.specs.Members.{members_by}
 use Rattle.request_replies.specs.Names.{shows}
 use Rattle.request_replies.proofs.shown.put_members.Given as goal
 
@@ -10,6 +10,7 @@ use Rattle.request_replies.proofs.shown.put_members.Given as goal
 abbrev pub invariant-loop-name : goal.invariant-loop-name
 invariant-loop-name l = record {
   whole : members_have_float (members_view l.name-iterator) ≡ false;
-  text : string_bytes l.text ++ members_text l.line.later (with_costs (option_copied l.line.costs) (members_by (shows l.names) (members_view l.name-iterator)))
-      ≡ string_bytes l.initial.text ++ members_text false (with_costs (option_copied l.costs) (members_by (shows l.names) (members_view l.initial.name-iterator)));
+  order : AreInOrder l.line.waiting.now;
+  text : string_bytes l.text ++ members_text l.line.later (with_waiting (members_of l.own) l.line.waiting.now (members_by (shows l.own.names.now) (members_view l.name-iterator)))
+      ≡ string_bytes l.initial.text ++ members_text false (with_waiting (members_of l.own) l.own.added.now (members_by (shows l.own.names.now) (members_view l.initial.name-iterator)));
 }

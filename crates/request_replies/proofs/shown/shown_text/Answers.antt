@@ -3,7 +3,7 @@ use Rattle.serde_json.specs.Data.{object}
 use Rattle.serde_json.specs.Written.{compact_text}
 use Rattle.doc_values.specs.Walk.{members_in}
 use Rattle.request_replies.specs.Names.{shows}
-use Rattle.request_replies.specs.Shown.{members_by}
+use Rattle.request_replies.specs.Members.{members_by}
 use Rattle.request_replies.proofs.ShownLemmas.{shown_alike}
 use Rattle.request_replies.proofs.shown.shown_text.Goals as goal
 

@@ -4,3 +4,6 @@ use Rattle.search_routes.proofs.reads.read_indexes.Goals as goal
 
 pub returns-in-Facets-clause-opens : goal.returns-in-Facets-clause-opens
 returns-in-Facets-clause-opens g c = rw c.in-Facets.is (opens-none (is_starved c.search_facets.result) _)
+
+pub returns-in-Search-clause-answer : goal.returns-in-Search-clause-answer
+returns-in-Search-clause-answer g c = rw c.in-Search.is c.search.ensures.answer

@@ -1,14 +1,16 @@
-use Rattle.std.proofs.Common.{true, false, Ok, subst}
+use Rattle.std.proofs.Common.{◌≡◌, true, false, map, Ok, subst, ap, ◌∙◌}
 use Rattle.index_core.specs.Found.{found}
+use Rattle.index_core.specs.Terms.{terms_in}
+use Rattle.request_replies.proofs.TermLemmas.{found-alike}
 use Rattle.bucket_sort.specs.Opens.{Opens, log_state, is_starved}
 use Rattle.index_core.specs.Opened.{opened, most_opened}
 use Rattle.index_core.proofs.Opening.{opens-some, opens-either}
 use Rattle.index_core.specs.Shown.{result_shown}
 use Rattle.search_base.specs.Gives.{Gives}
 use Rattle.search_routes.specs.Found.{shown_data}
-use Rattle.search_routes.specs.Machine.{found_shown, index_at}
+use Rattle.search_routes.specs.Machine.{found_shown, hit_view, index_at}
 use Rattle.search_routes.specs.Openings.{there_opened}
-use Rattle.index_core.specs.Fetches.{hits_needed}
+use Rattle.index_core.specs.Fetches.{documents_needed}
 use Rattle.search_routes.proofs.NeedLemmas.{named_most}
 use Rattle.search_routes.proofs.OpenLemmas.{opens-named}
 use Rattle.search_routes.proofs.Steps.{gives_searched}
@@ -17,18 +19,24 @@ use Rattle.search_routes.proofs.searching.search_index.Goals as goal
 pub returns-clause-fetched : goal.returns-clause-fetched
 returns-clause-fetched g c =
     let call = c.args.call.now in
-    named_most c.args.uid.now c.args.indexes.now.entries c.in_ok-index.index.now (λ i. hits_needed (found i call)) c.args.fetches.now c.search.new.fetches c.in_ok-index.ensures c.search.ensures.at_most
+    named_most c.args.uid.now c.args.indexes.now.entries c.in_ok-index.index.now (λ i. documents_needed i call) c.args.fetches.now c.search.new.fetches c.in_ok-index.ensures c.search.ensures.at_most
 
 pub returns-in-Err-NoMemory-clause-fetched : goal.returns-in-Err-NoMemory-clause-fetched
 returns-in-Err-NoMemory-clause-fetched g c =
     let call = c.args.call.now in
-    named_most c.args.uid.now c.args.indexes.now.entries c.in_ok-index.index.now (λ i. hits_needed (found i call)) c.args.fetches.now c.search.new.fetches c.in_ok-index.ensures c.search.ensures.at_most
+    named_most c.args.uid.now c.args.indexes.now.entries c.in_ok-index.index.now (λ i. documents_needed i call) c.args.fetches.now c.search.new.fetches c.in_ok-index.ensures c.search.ensures.at_most
 
 pub returns-clause-answer : goal.returns-clause-answer
 returns-clause-answer g c =
     let call = c.args.call.now in
+    let i = c.in_ok-index.index.now in
+    let terms = c.in-Ok.found.terms.items in
+    let f = result_shown c.in-Ok.found in
+    let same : found_shown call c.settings.result.now terms f ≡ found_shown call i.settings (terms_in i call) f =
+    ap (λ s. found_shown call s terms f) c.settings.ensures
+    ∙ found-alike terms (terms_in i call) c.in-Ok.ensures.terms i.settings.displayed_attributes call f.total (map hit_view f.hits) f.facets in
     gives_searched (shown_data call) c.args.indexes.now.entries c.args.uid.now call c.in_ok-index.index.now (result_shown c.in-Ok.found) c.shown_of.result c.in_ok-index.ensures c.in-Ok.ensures.answer
-    (subst (λ s. Gives (shown_data call) c.shown_of.result (Ok (found_shown call s (result_shown c.in-Ok.found)))) c.settings.ensures c.shown_of.ensures)
+    (subst (λ d. Gives (shown_data call) c.shown_of.result (Ok d)) same c.shown_of.ensures)
 
 pub returns-in-Err-Refused-clause-opens : goal.returns-in-Err-Refused-clause-opens
 returns-in-Err-Refused-clause-opens g c =
