@@ -136,6 +136,12 @@ def first_session():
             "filter": [["price < 100", "colours = oak"], "NOT brand IS NULL"], "sort": ["price:desc"],
             "facets": ["brand", "price"], "page": 1, "hitsPerPage": 2}),
         ask(b"POST", search, {"q": "\"garden chair\" the seat", "matchingStrategy": "all"}),
+        ask(b"POST", search, {
+            "q": "garden seat", "attributesToHighlight": ["*"], "attributesToCrop": ["name:1"], "cropMarker": "...",
+            "highlightPreTag": "<mark class=found>", "showMatchesPosition": True}),
+        ask(b"POST", search, {"distinct": "brand", "offset": 1, "facets": ["brand"], "attributesToRetrieve": ["id"]}),
+        ask(b"POST", search, {"q": "garden", "distinct": "name", "attributesToHighlight": ["name"]}),
+        ask(b"POST", search, {"cropLength": "5"}),
         ask(b"POST", b"/multi-search", {"queries": [
             {"indexUid": "shop", "q": "garden", "facets": ["brand"], "limit": 1},
             {"indexUid": "shop", "filter": "price < 100", "hitsPerPage": 1}]}),
@@ -150,7 +156,7 @@ def first_session():
         ask(b"POST", b"/indexes/films/documents", [{"filmId": "f1", "title": "Amber bridge"}, {"filmId": "f2"}]),
         ask(b"PATCH", shop + b"/settings", {
             "rankingRules": ["words", "price:asc", "exactness"], "searchableAttributes": ["name"],
-            "filterableAttributes": ["size", "price"]}),
+            "filterableAttributes": ["size", "price"], "distinctAttribute": "colours"}),
         ask(b"POST", search, {"q": "garden table", "showCosts": True, "facets": ["*"]}),
         ask(b"GET", shop + b"/settings"),
         ask(b"DELETE", shop + b"/settings"),

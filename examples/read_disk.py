@@ -108,7 +108,7 @@ def is_setting(name, value):
         inner = value.get(COUNTS[name]) if isinstance(value, dict) and len(value) == 1 else None
         return is_number(inner) and 0 <= inner <= 1_000_000
     if name == "distinctAttribute":
-        return value is None
+        return value is None or isinstance(value, str)
     if name == "synonyms":
         return isinstance(value, dict) and all(map(are_texts, value.values()))
     return are_texts(value, TEXTS[name]) and \

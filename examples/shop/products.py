@@ -4,7 +4,8 @@
     examples/shop/products.py > products.json
     examples/shop/products.py --seed 7 --count 50
 
-Nothing is read from outside. Numbers are whole, as the server wants them: prices in cents, ratings in tenths.
+Nothing is read from outside. Numbers are whole, as the server wants them: prices in cents, ratings in tenths. Products
+come in lines, of one brand and one price: each line is one thing in one to four materials and colours.
 """
 import argparse
 import json
@@ -187,32 +188,43 @@ def price(draws, least, most):
     return 100 * euros - draws.one_of([0, 5, 10, 10, 50])
 
 
-def product(draws, number, used):
-    noun, categories, picture, least, most, materials, sentences = KINDS[7 * number % len(KINDS)]
-    material = draws.one_of(materials)
-    of_material, colours = MATERIALS[material]
-    name = f"{draws.one_of(SERIES)} {noun} in {material}"
+def name_of(draws, noun, used):
+    """The name of a line that none before it has."""
+    name = f"{draws.one_of(SERIES)} {noun}"
     while name in used:
-        name = f"{draws.one_of(SERIES)} {noun} in {material}"
+        name = f"{draws.one_of(SERIES)} {noun}"
     used.add(name)
-    parts = [*sentences, of_material, draws.one_of(CLOSINGS)]
-    return {
-        "id": number,
-        "name": name,
-        "brand": draws.one_of(BRANDS[categories[0]]),
-        "categories": categories,
-        "colour": draws.one_of(colours),
-        "description": " ".join(part for part in parts if part),
-        "price": price(draws, least, most),
-        "rating": 50 - (draws.below(21) + draws.below(21)) // 2,
-        "in_stock": draws.below(8) > 0,
-        "picture": picture,
-    }
+    return name
+
+
+def versions(draws, used):
+    """The products of the next line."""
+    noun, categories, picture, least, most, materials, sentences = KINDS[7 * len(used) % len(KINDS)]
+    line, brand = name_of(draws, noun, used), draws.one_of(BRANDS[categories[0]])
+    cents = price(draws, least, most)
+    looks = [(material, colour) for material in materials for colour in MATERIALS[material][1]]
+    for _ in range(min(1 + draws.below(4), len(looks))):
+        material, colour = looks.pop(draws.below(len(looks)))
+        parts = [*sentences, MATERIALS[material][0], draws.one_of(CLOSINGS)]
+        yield {
+            "name": f"{line} in {material}",
+            "line": line,
+            "brand": brand,
+            "categories": categories,
+            "colour": colour,
+            "description": " ".join(part for part in parts if part),
+            "price": cents,
+            "rating": 50 - (draws.below(21) + draws.below(21)) // 2,
+            "in_stock": draws.below(8) > 0,
+            "picture": picture,
+        }
 
 
 def products(count, seed):
-    draws, used = Draws(seed), set()
-    return [product(draws, number, used) for number in range(1, count + 1)]
+    draws, used, rows = Draws(seed), set(), []
+    while len(rows) < count:
+        rows.extend(versions(draws, used))
+    return [{"id": number, **row} for number, row in enumerate(rows[:count], 1)]
 
 
 def main():

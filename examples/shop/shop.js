@@ -1,7 +1,8 @@
 "use strict";
 
 // The page of the example shop. What is wanted stands in one object and in the address of the page; each change of it
-// asks the server anew and shows the reply. A reply to a request that a newer one has overtaken is dropped.
+// asks the server anew and shows the reply. A reply to a request that a newer one has overtaken is dropped. The server
+// marks the words that it found, cuts descriptions down, and, by its settings, gives one product of each line.
 
 const INDEX = "products";
 const SEARCHES = "/multi-search";
@@ -15,7 +16,13 @@ const LONG = 12; // values of a facet above which a box over them asks for those
 const ON_A_PAGE = 24;
 const PAUSE_FOR_WORDS = 120; // milliseconds without a key before a search is sent
 const PAUSE_FOR_PRICES = 400;
-const WORD = /[\p{L}\p{M}\p{N}]+(?:['’][\p{L}\p{M}\p{N}]+)*/gu;
+// What is shown of a text, with characters of private use as tags: no product has them in its texts.
+const TEXTS = {
+  attributesToHighlight: ["name", "brand", "categories", "colour", "description"],
+  highlightPreTag: "\uE000", highlightPostTag: "\uE001",
+  attributesToCrop: ["description"], cropLength: 12,
+};
+const MARKED = /\uE000([^\uE000\uE001]*)\uE001/u;
 const EUROS = new Intl.NumberFormat("en-IE", { style: "currency", currency: "EUR" });
 
 const wanted = nothingWanted();
@@ -95,7 +102,8 @@ async function ask(path, members, signal) {
 }
 
 /**
- * A page of hits with all counts, in one request. The counts of an attribute are those without its own condition, so
+ * A page of hits with all counts, in one request, and one hit more, which tells that there is a next page: totals are
+ * over all products, and hits are one of each line. The counts of an attribute are those without its own condition, so
  * that a second value can be chosen beside the first; they need a search of their own.
  */
 async function answers(matchingStrategy, signal) {
@@ -105,7 +113,7 @@ async function answers(matchingStrategy, signal) {
   if (wanted.least || wanted.most) narrowed.push("price");
   const page = {
     ...common, filter: conditions(), facets: [...names, "price"], sort: wanted.sort ? [wanted.sort] : [],
-    page: wanted.page, hitsPerPage: ON_A_PAGE,
+    offset: (wanted.page - 1) * ON_A_PAGE, limit: ON_A_PAGE + 1, ...TEXTS,
   };
   const counts = narrowed.map((name) => ({ ...common, filter: conditions(name), facets: [name], limit: 0 }));
   const { results: [found, ...others] } = await ask(SEARCHES, { queries: [page, ...counts] }, signal);
@@ -119,7 +127,7 @@ async function answers(matchingStrategy, signal) {
 /** All words are asked for; where nothing has them all, as many as can be had. */
 async function bestAnswers(signal) {
   const found = await answers("all", signal);
-  if (found.totalHits > 0 || (wanted.words.match(WORD) ?? []).length < 2) return found;
+  if (found.estimatedTotalHits > 0 || !wanted.words) return found;
   return { ...await answers("last", signal), dropped: true };
 }
 
@@ -179,28 +187,10 @@ function make(tag, attributes = {}, ...children) {
   return made;
 }
 
-function plain(text) {
-  return text.normalize("NFKD").replace(/\p{M}/gu, "").toLowerCase();
-}
-
-/** The words that were asked for, and the one that may go on, as the server reads them. */
-function askedWords() {
-  const words = (wanted.words.match(WORD) ?? []).map(plain);
-  const open = /[\p{L}\p{M}\p{N}]$/u.test(wanted.words) && wanted.words.split('"').length % 2 === 1;
-  return { whole: new Set(words), start: open ? words.at(-1) : null };
-}
-
-/** The text, with the words in it that were asked for as marks. */
-function marked(text, { whole, start }) {
+/** A text as the server shows it: what it put between tags becomes a mark, and all of it is text and never HTML. */
+function marked(text) {
   const pieces = document.createDocumentFragment();
-  let end = 0;
-  for (const { 0: word, index } of text.matchAll(WORD)) {
-    const own = plain(word);
-    if (!whole.has(own) && !(start && own.startsWith(start))) continue;
-    pieces.append(text.slice(end, index), make("mark", {}, word));
-    end = index + word.length;
-  }
-  pieces.append(text.slice(end));
+  text.split(MARKED).forEach((piece, number) => pieces.append(number % 2 ? make("mark", {}, piece) : piece));
   return pieces;
 }
 
@@ -213,17 +203,17 @@ function picture(name, colour) {
   return make("div", { class: "picture", "data-colour": colour }, drawing);
 }
 
-function card(hit, asked) {
+function card(hit) {
+  const texts = hit._formatted;
   const rating = (hit.rating / 10).toFixed(1);
-  const kind = marked(`${hit.categories.join(", ")} · ${hit.colour}`, asked);
   const facts = make("p", { class: "facts" },
     make("span", { class: "price" }, EUROS.format(hit.price / 100)),
     make("span", { class: "rating", role: "img", "aria-label": `rated ${rating} of 5` }, `★ ${rating}`));
   const parts = [
-    make("p", { class: "brand" }, marked(hit.brand, asked)),
-    make("h2", {}, marked(hit.name, asked)),
-    make("p", { class: "kind" }, kind),
-    make("p", { class: "about" }, marked(hit.description, asked)),
+    make("p", { class: "brand" }, marked(texts.brand)),
+    make("h2", {}, marked(texts.name)),
+    make("p", { class: "kind" }, marked(`${texts.categories.join(", ")} · ${texts.colour}`)),
+    make("p", { class: "about" }, marked(texts.description)),
     facts,
   ];
   if (!hit.in_stock) parts.push(make("p", { class: "gone" }, "Out of stock"));
@@ -323,35 +313,31 @@ function pageButton(text, page, label, current) {
   return button;
 }
 
-function showPages(page, pages) {
+/** The first page and those up to this one; how many more there are is not known, but whether there is a next one. */
+function showPages(page, more) {
   const buttons = [];
   if (page > 1) buttons.push(pageButton("‹ Back", page - 1, "Page before", false));
-  for (let number = 1; number <= pages; number += 1) {
-    const near = Math.abs(number - page) <= 2;
-    if (near || number === 1 || number === pages) {
-      buttons.push(pageButton(String(number), number, `Page ${number}`, number === page));
-    } else if (Math.abs(number - page) === 3) {
-      buttons.push(make("span", { "aria-hidden": "true" }, "…"));
-    }
+  for (const number of new Set([1, page - 2, page - 1, page].filter((number) => number > 0))) {
+    if (number > 2 && number === page - 2) buttons.push(make("span", { "aria-hidden": "true" }, "…"));
+    buttons.push(pageButton(String(number), number, `Page ${number}`, number === page));
   }
-  if (page < pages) buttons.push(pageButton("Next ›", page + 1, "Next page", false));
-  part("pages").replaceChildren(...(pages > 1 ? buttons : []));
+  if (more) buttons.push(pageButton("Next ›", page + 1, "Next page", false));
+  part("pages").replaceChildren(...(page > 1 || more ? buttons : []));
 }
 
 function show(found) {
-  const asked = askedWords();
   matching = found.dropped ? "last" : "all";
-  const total = found.totalHits;
+  const total = found.estimatedTotalHits;
   part("failed").hidden = true;
   part("empty").hidden = total > 0;
   part("count").textContent = total === 1 ? "1 product" : `${total} products`;
   part("hint").hidden = !(found.dropped && total > 0);
   part("hint").textContent = "No product has all of these words. These have some of them.";
-  part("hits").replaceChildren(...found.hits.map((hit) => card(hit, asked)));
+  part("hits").replaceChildren(...found.hits.slice(0, ON_A_PAGE).map(card));
   showCounts(found.facetDistribution);
   showPrices(found.facetStats);
   showChosen();
-  showPages(found.page, found.totalPages);
+  showPages(wanted.page, found.hits.length > ON_A_PAGE);
 }
 
 function showFailure(error) {
