@@ -90,11 +90,7 @@ impl<'a> Marks<'a> {
 fn terms_if<'a>(formats: &FormatCall, terms: &'a [Term]) -> &'a [Term]
     ensures { result.now ≡ terms_if formats.now terms.now }
 {
-    if formats.shows_matches() {
-        terms
-    } else {
-        &[]
-    }
+    if formats.shows_matches() { terms } else { &[] }
 }
 
 // How a text is shown, where it is marked or cropped.

@@ -1,4 +1,4 @@
-use Rattle.std.proofs.Common.{◌≡◌, true, false, map, Ok, subst, ap, ◌∙◌}
+use Rattle.std.proofs.Common.{◌≡◌, true, false, Ok, ap, sym, ◌∙◌}
 use Rattle.index_core.specs.Found.{found}
 use Rattle.index_core.specs.Terms.{terms_in}
 use Rattle.request_replies.proofs.TermLemmas.{found-alike}
@@ -6,7 +6,6 @@ use Rattle.bucket_sort.specs.Opens.{Opens, log_state, is_starved}
 use Rattle.index_core.specs.Opened.{opened, most_opened}
 use Rattle.index_core.proofs.Opening.{opens-some, opens-either}
 use Rattle.search_result.specs.View.{found_view}
-use Rattle.search_base.specs.Gives.{Gives}
 use Rattle.search_routes.specs.Found.{shown_data}
 use Rattle.search_routes.specs.Machine.{found_shown, index_at}
 use Rattle.search_routes.specs.Openings.{there_opened}
@@ -35,7 +34,7 @@ returns-clause-answer g c =
     let same : found_shown call c.settings.result.now terms f ≡ found_shown call i.settings (terms_in i call) f =
     ap (λ s. found_shown call s terms f) c.settings.ensures
     ∙ found-alike terms (terms_in i call) c.in-Ok.ensures.terms i.settings.displayed_attributes call f in
-    gives_searched (shown_data call) c.args.indexes.now.entries c.args.uid.now call c.in_ok-index.index.now (found_view c.in-Ok.found) (Ok (record { settings = c.settings.result; found = c.in-Ok.found })) c.in_ok-index.ensures c.in-Ok.ensures.answer same
+    gives_searched (shown_data call) c.args.indexes.now.entries c.args.uid.now call c.in_ok-index.index.now (found_view c.in-Ok.found) (Ok (record { settings = c.settings.result; found = c.in-Ok.found })) c.in_ok-index.ensures c.in-Ok.ensures.answer (ap Ok (sym same))
 
 pub returns-in-Err-Refused-clause-opens : goal.returns-in-Err-Refused-clause-opens
 returns-in-Err-Refused-clause-opens g c =
