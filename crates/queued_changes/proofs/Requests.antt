@@ -21,7 +21,7 @@ last_is xs x =
     ap (λ (n : ℕ). drop n (xs ++ x ∷ [])) front ∙ behind_all xs x
 
 differs : (n : ℕ) → (n == 202) ≡ false → n ≢ 202
-differs n no e = false≢true (sym no ∙ eq-eqb n 202 e)
+differs n other e = false≢true (sym other ∙ eq-eqb n 202 e)
 
 module _ {C I Q : Type 0} (changed : List ℕ → C → I → Result I ℕ) (step : State C I → Q → Step C I) where
   each_append : (xs ys : List (Task C)) (s : State C I) → run_each changed (xs ++ ys) s ≡ run_each changed ys (run_each changed xs s)
@@ -50,8 +50,8 @@ module _ {C I Q : Type 0} (changed : List ℕ → C → I → Result I ℕ) (ste
   answered_out is s e = by_memory e.starved
     where
       by_status : (b : Bool) → ((step s e.request).status == 202) ≡ b → run_out changed (step s e.request).state ≡ run_each changed (if b then keep_last 1 (step s e.request).state.queue else []) (run_out changed s)
-      by_status true yes = accepts_out s (step s e.request).state ((is s e.request).0 (eqb-true (step s e.request).status 202 yes))
-      by_status false no = ap (run_out changed) ((is s e.request).1 (differs (step s e.request).status no))
+      by_status true done = accepts_out s (step s e.request).state ((is s e.request).0 (eqb-true (step s e.request).status 202 done))
+      by_status false other = ap (run_out changed) ((is s e.request).1 (differs (step s e.request).status other))
 
       by_memory : (b : Bool) → run_out changed (if b then s else (step s e.request).state) ≡ run_each changed (if b then [] else (if (step s e.request).status == 202 then keep_last 1 (step s e.request).state.queue else [])) (run_out changed s)
       by_memory true = refl
@@ -62,8 +62,8 @@ module _ {C I Q : Type 0} (changed : List ℕ → C → I → Result I ℕ) (ste
     where
       by_status : (b : Bool) → ((step s e.request).status == 202) ≡ b
           → run_out changed (if b then (step s e.request).state else settle changed (step s e.request).state) ≡ run_each changed (if b then keep_last 1 (step s e.request).state.queue else []) (run_out changed s)
-      by_status true yes = accepts_out s (step s e.request).state ((is s e.request).0 (eqb-true (step s e.request).status 202 yes))
-      by_status false no = settled_out changed (step s e.request).state ∙ ap (run_out changed) ((is s e.request).1 (differs (step s e.request).status no))
+      by_status true done = accepts_out s (step s e.request).state ((is s e.request).0 (eqb-true (step s e.request).status 202 done))
+      by_status false other = settled_out changed (step s e.request).state ∙ ap (run_out changed) ((is s e.request).1 (differs (step s e.request).status other))
 
       by_memory : (b : Bool) → run_out changed (if b then s else (if (step s e.request).status == 202 then (step s e.request).state else settle changed (step s e.request).state))
           ≡ run_each changed (if b then [] else (if (step s e.request).status == 202 then keep_last 1 (step s e.request).state.queue else [])) (run_out changed s)
@@ -75,9 +75,9 @@ module _ {C I Q : Type 0} (changed : List ℕ → C → I → Result I ℕ) (ste
     where
       by_status : (b : Bool) → ((step s e.request).status == 202) ≡ b
           → accepted (if b then (step s e.request).state else settle changed (step s e.request).state) ≡ accepted s + length (if b then keep_last 1 (step s e.request).state.queue else [])
-      by_status true yes = accepts_counts s (step s e.request).state ((is s e.request).0 (eqb-true (step s e.request).status 202 yes))
-      by_status false no =
-          let same : accepted (step s e.request).state ≡ accepted s = ap accepted ((is s e.request).1 (differs (step s e.request).status no)) in
+      by_status true done = accepts_counts s (step s e.request).state ((is s e.request).0 (eqb-true (step s e.request).status 202 done))
+      by_status false other =
+          let same : accepted (step s e.request).state ≡ accepted s = ap accepted ((is s e.request).1 (differs (step s e.request).status other)) in
           omega (arith, settled_counts changed (step s e.request).state, same)
 
       by_memory : (b : Bool) → accepted (if b then s else (if (step s e.request).status == 202 then (step s e.request).state else settle changed (step s e.request).state))

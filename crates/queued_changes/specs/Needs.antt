@@ -6,7 +6,7 @@ use Rattle.queued_changes.specs.State.{State}
 use Rattle.queued_changes.specs.Machine.{settle, make_room, behind}
 use Rattle.queued_changes.specs.Batches.{batch_in}
 
-module _ {C I : Type 0} (changed : List ℕ → C → I → Result I ℕ) (need : List (Task C) → I → ℕ) where
+module _ {C I : Type 0} (need : List (Task C) → I → ℕ) where
   -- of the oldest batch; none where no task waits
   abbrev pub need_of : List (Task C) → I → ℕ
   need_of [] i = 0
@@ -15,13 +15,15 @@ module _ {C I : Type 0} (changed : List ℕ → C → I → Result I ℕ) (need 
   abbrev pub batch_need : State C I → ℕ
   batch_need s = need_of (batch_in s) s.indexes
 
+  -- to make room
   abbrev pub room_need : State C I → ℕ
   room_need s = if nat_le most_queued (length s.queue) then batch_need s else 0
 
+module _ {C I : Type 0} (changed : List ℕ → C → I → Result I ℕ) (need : List (Task C) → I → ℕ) where
   -- of so many batches
   abbrev pub batches_need : ℕ → State C I → ℕ
   batches_need zero s = 0
-  batches_need (suc n) s = batch_need s + batches_need n (settle changed s)
+  batches_need (suc n) s = batch_need need s + batches_need n (settle changed s)
 
   -- of all tasks that wait: they are no more batches than tasks
   abbrev pub out_need : State C I → ℕ
@@ -30,4 +32,4 @@ module _ {C I : Type 0} (changed : List ℕ → C → I → Result I ℕ) (need 
   -- of opening
   abbrev pub fill_need : List (Task C) → State C I → ℕ
   fill_need [] s = out_need s
-  fill_need (t ∷ ts) s = room_need s + fill_need ts (behind t (make_room changed s))
+  fill_need (t ∷ ts) s = room_need need s + fill_need ts (behind t (make_room changed s))

@@ -65,7 +65,8 @@ impl<C: Drop> TaskQueue<C> {
 
     /// Whether 16 tasks wait.
     pub fn full(&self) -> bool
-        ensures { result ≡ is_full self.now }
+        ensures full { result ≡ is_full self.now }
+        ensures few { length self.now.queued ≤ most_queued }
     {
         self.queued.len() >= MOST_QUEUED
     }
