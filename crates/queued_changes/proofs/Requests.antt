@@ -104,7 +104,7 @@ module _ {C I Q : Type 0} (changed : List ℕ → C → I → Result I ℕ) (ste
   ends is false s events t e = ap (run_out changed) e ∙ runs is s events
   ends is true s events t (front, last, split, e) =
       let all : tasks_in changed step s events ≡ tasks_in changed step s front ++ brought changed step (after changed step s front) last =
-          ap (tasks_in changed step s) split ∙ in_order s front (last ∷ []) ∙ ap (λ (l : List (Task C)). tasks_in changed step s front ++ l) (append-nil (brought changed step (after changed step s front) last)) in
+      ap (tasks_in changed step s) split ∙ in_order s front (last ∷ []) ∙ ap (λ (l : List (Task C)). tasks_in changed step s front ++ l) (append-nil (brought changed step (after changed step s front) last)) in
       ap (run_out changed) e ∙ answered_out is (after changed step s front) last
       ∙ ap (run_each changed (brought changed step (after changed step s front) last)) (runs is s front)
       ∙ sym (each_append (tasks_in changed step s front) (brought changed step (after changed step s front) last) (run_out changed s))

@@ -1,11 +1,12 @@
 -- A batch that a worker has made.
-use Rattle.std.proofs.Common.{◌≡◌, ◌≢◌, ℕ, suc, zero, ◌+◌, ◌<◌, ◌≤◌, Bool, true, false, List, [], ◌∷◌, length, take, refl, sym, ◌∙◌, ap, subst, arith}
+use Rattle.std.proofs.Common.{◌≡◌, ◌≢◌, ℕ, suc, zero, ◌+◌, ◌<◌, ◌≤◌, Bool, true, false, List, [], ◌∷◌, length, map, take, refl, sym, ◌∙◌, ap, subst, arith}
 use Rattle.std.specs.Prelude.{Result, IsTrue, ◌↔◌, nat_le}
 use Rattle.std.specs.List.{AllByRecursion}
-use Rattle.std.proofs.lemmas.List.{length-take-le}
+use Rattle.std.proofs.lemmas.List.{length-map, length-take-le}
 use Rattle.std.proofs.lemmas.Bool.{leb-true}
+use Rattle.task_queue.specs.declared.outcome.Outcome.{Outcome}
 use Rattle.task_queue.specs.declared.task.Task.{Task}
-use Rattle.task_queue.specs.Queue.{Tasks, batch_len, all_done, one_done, is_joined, most_queued}
+use Rattle.task_queue.specs.Queue.{Tasks, batch_len, row_of, all_done, one_done, is_joined, most_queued}
 use Rattle.task_queue.specs.Laws.{IsLike}
 use Rattle.task_queue.proofs.Batches.{longest}
 use Rattle.queued_changes.specs.State.{State, accepted}
@@ -35,7 +36,7 @@ module _ {C : Type 0} where
   is_batch [] some = absurd (some refl)
   is_batch (t ∷ ts) some = front_is (batch_len (t ∷ ts)) t ts (longest t ts).some (longest t ts).alike (longest t ts).alone
 
-  pub done_keeps : (P : Task C → Type 0) (rows : List ℕ) (q : Tasks C) → AllByRecursion P q.queued → AllByRecursion P (all_done rows q).queued
+  done_keeps : (P : Task C → Type 0) (rows : List ℕ) (q : Tasks C) → AllByRecursion P q.queued → AllByRecursion P (all_done rows q).queued
   done_keeps P [] q all = all
   done_keeps P (row ∷ rows) q all = done_keeps P rows (one_done row q) (one_keeps q.queued all)
     where
@@ -70,19 +71,23 @@ module _ {C I : Type 0} (changed : List ℕ → C → I → Result I ℕ) where
   first_done (suc n) [] s e = ap (λ (q : List (Task C)). record { finished = s.finished; queue = q; outcomes = s.outcomes; indexes = s.indexes }) (sym e)
   first_done (suc n) (t ∷ ts) s e = first_done n ts (run changed t ts s) refl
 
-  module _ (q new : Tasks C) (w left : I) (slice : List (Task C)) (n : ℕ) (rows : List ℕ) (tasks : slice ≡ q.queued) (count : n ≡ batch_len q.queued)
-      (each : rows ≡ rows_of changed (take n slice) w) where
-    pub rows_within : length rows ≤ length q.queued
-    rows_within =
-        let many : length rows ≡ n = ap length each ∙ rows_many (take n slice) w ∙ sym (whole_slice q.queued slice n tasks count) in
-        omega (arith, many, within q.queued slice n tasks count)
+  -- `slice` are the tasks that wait, `n` of them the oldest batch, and `made` their outcomes
+  module _ (q : Tasks C) (w : I) (slice : List (Task C)) (n : ℕ) (made : List Outcome) (tasks : slice ≡ q.queued) (count : n ≡ batch_len q.queued)
+      (each : map row_of made ≡ rows_of changed (take n slice) w) where
+    pub made_within : length made ≤ length q.queued
+    made_within =
+        let many : length (map row_of made) ≡ n = ap length each ∙ rows_many (take n slice) w ∙ sym (whole_slice q.queued slice n tasks count) in
+        omega (arith, many, length-map made row_of, within q.queued slice n tasks count)
 
-    module _ (s : State C I) (view : state_in q w ≡ s) (applied : left ≡ after_each changed (take n slice) w) (done : new ≡ all_done rows q) where
+    -- `given` are the outcomes that are handed on, `new` and `left` what is there after that
+    module _ (new : Tasks C) (left : I) (given : List Outcome) (s : State C I) (view : state_in q w ≡ s) (applied : left ≡ after_each changed (take n slice) w)
+        (same : given ≡ made) (done : new ≡ all_done (map row_of given) q) where
       pub settles : state_in new left ≡ settle changed s
       settles =
-          let rows_are : rows ≡ rows_of changed (take (batch_len q.queued) q.queued) w = each ∙ ap (λ (ts : List (Task C)). rows_of changed ts w) (batch_at q.queued slice n tasks count) in
+          let rows : map row_of given ≡ rows_of changed (take (batch_len q.queued) q.queued) w =
+          ap (map row_of) same ∙ each ∙ ap (λ (ts : List (Task C)). rows_of changed ts w) (batch_at q.queued slice n tasks count) in
           let left_is : left ≡ after_each changed (take (batch_len q.queued) q.queued) w = applied ∙ ap (λ (ts : List (Task C)). after_each changed ts w) (batch_at q.queued slice n tasks count) in
-          ap (λ (t : Tasks C). state_in t left) (done ∙ ap (λ (l : List ℕ). all_done l q) rows_are)
+          ap (λ (t : Tasks C). state_in t left) (done ∙ ap (λ (l : List ℕ). all_done l q) rows)
           ∙ ap (state_in (all_done (rows_of changed (take (batch_len q.queued) q.queued) w) q)) left_is
           ∙ first_done (batch_len q.queued) q.queued (state_in q w) refl
           ∙ ap (settle changed) view
@@ -94,3 +99,6 @@ module _ {C I : Type 0} (changed : List ℕ → C → I → Result I ℕ) where
 
       pub settles_counts : accepted (state_in new left) ≡ accepted s
       settles_counts = ap accepted settles ∙ settled_counts changed s
+
+      pub settles_keeps : (P : Task C → Type 0) → AllByRecursion P q.queued → AllByRecursion P new.queued
+      settles_keeps P all = subst (λ (t : Tasks C). AllByRecursion P t.queued) (sym done) (done_keeps P (map row_of given) q all)

@@ -1,4 +1,5 @@
 ghost use Rattle.std.specs.Prelude.{◌≡◌, ◌≢◌, ◌+◌, ◌-◌, ◌^◌, ◌<◌, ◌≤◌, ◌↔◌, [], IsTrue, nat_le, length, IfOk, OnOk, OnErr};
+ghost use Rattle.std.specs.List.{AllByRecursion};
 ghost use Rattle.std.specs.Option.{option_map};
 ghost use Rattle.task_queue.specs.Queue.{AreNumbered, found, shown, most_queued};
 ghost use Rattle.queued_changes.specs.State.{accepted, idle, tasks_of};
@@ -25,10 +26,10 @@ impl<C: Drop, W: Worker<C>> Model for Queued<C, W> {
     ghost Value = { State C W };
 
     ghost view = { λ q. record {
-        finished = q.queue.finished;
-        queue = q.queue.queued;
-        outcomes = q.queue.outcomes;
-        indexes = q.worker;
+      finished = q.queue.finished;
+      queue = q.queue.queued;
+      outcomes = q.queue.outcomes;
+      indexes = q.worker;
     } };
 
     ghost invariant = { λ q. AllByRecursion (λ t. W.accepts t.uid t.change) q.queue.queued };
@@ -87,6 +88,7 @@ impl<C: Drop, W: Worker<C>> Queued<C, W> {
     /// The tasks that wait, in order.
     pub fn waiting(&self) -> &[Task<C>]
         ensures tasks { result.now ≡ self.now.queue }
+        ensures accepted { AllByRecursion (λ t. W.accepts t.uid t.change) self.now.queue }
         ensures numbered { AreNumbered self.now.finished self.now.queue }
         ensures few { length self.now.queue ≤ most_queued }
     {
