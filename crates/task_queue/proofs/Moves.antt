@@ -4,14 +4,15 @@ use Rattle.std.specs.Prelude.{Some, None, Result, Ok, Err, IsOk, is_ok, false, s
 use Rattle.std.proofs.lemmas.Bool.{leb-false, false≢true}
 use Rattle.circular_buffer.specs.Buffer.{Buffer}
 use Rattle.search_base.specs.declared.outcome.OutcomeRow.{OutcomeRow}
-use Rattle.task_queue.specs.Queue.{TaskData, Tasks, AreNumbered, keep_last, is_full}
+use Rattle.task_queue.specs.declared.task.Task.{Task}
+use Rattle.task_queue.specs.Queue.{Tasks, AreNumbered, keep_last, is_full}
 use Rattle.task_queue.specs.Rooms.{HasRoom}
 
-pub numbered_more : (from : ℕ) (ts : List TaskData) (t : TaskData) → AreNumbered from ts → t.number ≡ from + length ts → AreNumbered from (ts ++ t ∷ [])
+pub numbered_more : {C : Type 0} (from : ℕ) (ts : List (Task C)) (t : Task C) → AreNumbered from ts → t.number ≡ from + length ts → AreNumbered from (ts ++ t ∷ [])
 numbered_more from [] t are e = (omega arith, tt)
 numbered_more from (s ∷ ts) t are e = (are.0, numbered_more (from + 1) ts t are.1 (omega arith))
 
-pub numbered_fewer : (from : ℕ) (t : TaskData) (ts : List TaskData) → AreNumbered from (t ∷ ts) → AreNumbered (from + 1) ts
+pub numbered_fewer : {C : Type 0} (from : ℕ) (t : Task C) (ts : List (Task C)) → AreNumbered from (t ∷ ts) → AreNumbered (from + 1) ts
 numbered_fewer from t ts are = are.1
 
 pub kept_within : {A : Type 0} (n : ℕ) (xs : List A) → length (keep_last n xs) ≤ n
@@ -28,7 +29,7 @@ pub if_ok : {T E X : Type 0} (r : Result T E) (x y z : X) → IsOk r → z ≡ (
 if_ok (Ok v) x y z ok e = e
 if_ok (Err v) x y z ok e = absurd (false≢true ok)
 
-pub push_keeps : (t : TaskData) (s : Tasks) (finished : ℕ) (queued more : List TaskData) (outcomes : Buffer OutcomeRow) (old new : ℕ) → HasRoom finished queued outcomes old
+pub push_keeps : {C : Type 0} (t : Task C) (s : Tasks C) (finished : ℕ) (queued more : List (Task C)) (outcomes : Buffer OutcomeRow) (old new : ℕ) → HasRoom finished queued outcomes old
     → s.finished ≡ finished → s.queued ≡ queued → is_full s ≡ false → t.number ≡ s.finished + length s.queued → t.number < 2 ^ 64 - 1 → more ≡ queued ++ t ∷ [] → old ≤ new
     → HasRoom finished more outcomes new
 push_keeps t s finished queued more outcomes old new has same_finished same_queued full next last is wider =

@@ -2,8 +2,8 @@
 //!
 //! A queue holds at most 16 tasks, numbered without a gap, and the outcomes of the last 1,000 tasks that have finished.
 //! The oldest tasks of one index and one kind among storing, updating and removing documents are a batch. After `new`
-//! or `restore` nothing takes memory but `outcomes`. Contracts see a `TaskQueue` as a `Tasks`: the number of finished
-//! tasks and two lists, oldest first. Stands on `search_base` for words, and on `circular_buffer`, in which the outcomes
+//! or `restore` nothing takes memory but `outcomes`. What a change is, is the caller's: of it only the byte of its kind
+//! counts. Contracts see a `TaskQueue` as a `Tasks`: the number of finished tasks and two lists, oldest first. Stands on `search_base` for words, and on `circular_buffer`, in which the outcomes
 //! go round.
 #![tactic(auto)]
 

@@ -1,6 +1,6 @@
 ghost use Rattle.std.specs.Prelude.{◌≡◌, ◌+◌, ◌-◌, ◌^◌, ◌<◌, ◌≤◌, ◌∷◌, [], false, ℕ, length, map, IfOk};
 ghost use Rattle.std.specs.Option.{option_map};
-ghost use Rattle.task_queue.specs.Queue.{Tasks, AreNumbered, task_data, most_queued, is_full, no_tasks, joined, batch_len as batch_of, run_of, is_joined as joins_kind, joins as joins_first, row_of, one_done, all_done, found, shown, state_of as state_in, queued_shown, outcome_shown};
+ghost use Rattle.task_queue.specs.Queue.{Tasks, AreNumbered, most_queued, is_full, no_tasks, joined, batch_len as batch_of, run_of, is_joined as joins_kind, joins as joins_first, row_of, one_done, all_done, found, shown, state_of as state_in, queued_shown, outcome_shown};
 
 use crate::{Outcome, Task, TaskState, TaskView};
 use circular_buffer::HeapCircularBuffer;
@@ -14,28 +14,27 @@ const MOST_OUTCOMES: usize = 1_000;
 
 /// The tasks that wait, in order, and the outcomes of the last tasks that finished.
 #[derive(Drop)]
-pub struct TaskQueue {
+pub struct TaskQueue<C> {
     finished: u64,
-    queued: Vec<Task>,
+    queued: Vec<Task<C>>,
     outcomes: HeapCircularBuffer<OutcomeRow>,
 }
 
-impl Model for TaskQueue {
-    ghost use Rattle.std.specs.Prelude.{map};
-    ghost use Rattle.task_queue.specs.Queue.{Tasks, task_data};
+impl<C> Model for TaskQueue<C> {
+    ghost use Rattle.task_queue.specs.Queue.{Tasks};
     ghost use Rattle.task_queue.specs.Rooms.{HasRoom};
     ghost use Rattle.std.specs.Vec.{vec_capacity};
 
-    ghost Value = { Tasks };
+    ghost Value = { Tasks C };
 
-    ghost view = { λ q. record { finished = q.finished; queued = map task_data q.queued.items; outcomes = q.outcomes.items } };
+    ghost view = { λ q. record { finished = q.finished; queued = q.queued.items; outcomes = q.outcomes.items } };
 
-    ghost invariant = { λ q. HasRoom q.finished (map task_data q.queued.items) q.outcomes (vec_capacity q.queued) };
+    ghost invariant = { λ q. HasRoom q.finished q.queued.items q.outcomes (vec_capacity q.queued) };
 }
 
-impl TaskQueue {
+impl<C: Drop> TaskQueue<C> {
     /// No tasks, where so many have finished before. Takes all room that the queue will ever need.
-    pub fn new(alloc: Global, finished: u64) -> Result<TaskQueue, NoMemory>
+    pub fn new(alloc: Global, finished: u64) -> Result<TaskQueue<C>, NoMemory>
         ensures { IfOk result (λ q. q ≡ no_tasks finished) }
     {
         Ok(TaskQueue {
@@ -50,7 +49,7 @@ impl TaskQueue {
         alloc: Global,
         finished: u64,
         outcomes: Vec<OutcomeRow>,
-    ) -> Result<TaskQueue, NoMemory>
+    ) -> Result<TaskQueue<C>, NoMemory>
         requires few { length outcomes.items ≤ 1000 }
         requires within { length outcomes.items ≤ finished }
         ensures { IfOk result (λ q. q ≡ record { finished = finished; queued = []; outcomes = outcomes.items }) }
@@ -66,17 +65,18 @@ impl TaskQueue {
 
     /// Whether 16 tasks wait.
     pub fn full(&self) -> bool
-        ensures { result ≡ is_full self.now }
+        ensures full { result ≡ is_full self.now }
+        ensures few { length self.now.queued ≤ most_queued }
     {
         self.queued.len() >= MOST_QUEUED
     }
 
     /// Puts a task behind the others, which has the next number.
-    pub fn push(&mut self, task: Task)
+    pub fn push(&mut self, task: Task<C>)
         requires room { is_full self.old ≡ false }
         requires next { task.number ≡ self.old.finished + length self.old.queued }
         requires last { task.number < 2 ^ 64 - 1 }
-        ensures { self.new ≡ joined (task_data task) self.old }
+        ensures { self.new ≡ joined task self.old }
     {
         match self.queued.push(task) {
             Ok(()) => {}
@@ -85,8 +85,8 @@ impl TaskQueue {
     }
 
     /// The tasks that wait, in order.
-    pub fn queued(&self) -> &[Task]
-        ensures tasks { map task_data result.now ≡ self.now.queued }
+    pub fn queued(&self) -> &[Task<C>]
+        ensures tasks { result.now ≡ self.now.queued }
         ensures numbered { AreNumbered self.now.finished self.now.queued }
         ensures few { length self.now.queued ≤ most_queued }
     {
@@ -212,8 +212,8 @@ fn state_of(row: u8) -> TaskState
 }
 
 // How many tasks the first one and those behind it are.
-fn batch_from(first: &Task, rest: &[Task]) -> usize
-    ensures { result ≡ batch_of (task_data first.now ∷ map task_data rest.now) }
+fn batch_from<C>(first: &Task<C>, rest: &[Task<C>]) -> usize
+    ensures { result ≡ batch_of (first.now ∷ rest.now) }
 {
     if joins_kind(first.kind) {
         1 + run_len(first, rest)
@@ -230,8 +230,8 @@ fn joins_kind(kind: u8) -> bool
 }
 
 // How many tasks follow the first one in its batch.
-fn run_len(first: &Task, rest: &[Task]) -> usize
-    ensures count { result ≡ run_of (task_data first.now) (map task_data rest.now) }
+fn run_len<C>(first: &Task<C>, rest: &[Task<C>]) -> usize
+    ensures count { result ≡ run_of first.now rest.now }
     ensures within { result ≤ length rest.now }
 {
     let mut count = 0;
@@ -244,8 +244,8 @@ fn run_len(first: &Task, rest: &[Task]) -> usize
     count
 }
 
-fn joins(first: &Task, task: &Task) -> bool
-    ensures { result ≡ joins_first (task_data first.now) (task_data task.now) }
+fn joins<C>(first: &Task<C>, task: &Task<C>) -> bool
+    ensures { result ≡ joins_first first.now task.now }
 {
     task.uid == first.uid && task.kind == first.kind
 }

@@ -8,19 +8,19 @@ fn word(rt: &impl Abort, alloc: Global, text: &str) -> Word {
 }
 
 // Puts a task behind the others, under the next number.
-fn put(rt: &impl Abort, alloc: Global, queue: &mut TaskQueue, uid: &str, kind: u8) {
+fn put(rt: &impl Abort, alloc: Global, queue: &mut TaskQueue<()>, uid: &str, kind: u8) {
     let number = queue.accepted();
     assert!(rt; number < 1_000_000 && !queue.full(), "room for a task");
     queue.push(Task {
         number,
         uid: word(rt, alloc, uid),
         kind,
-        payload: Vec::new(alloc),
+        change: (),
     });
 }
 
 // Moves the oldest tasks to those that have finished.
-fn end(rt: &impl Abort, queue: &mut TaskQueue, outcomes: &[Outcome]) {
+fn end(rt: &impl Abort, queue: &mut TaskQueue<()>, outcomes: &[Outcome]) {
     assert!(rt; outcomes.len() <= queue.queued().len(), "tasks that wait");
     queue.finish(outcomes);
 }
@@ -41,7 +41,14 @@ fn add(rt: &impl Abort, alloc: Global, told: &mut String, view: Option<TaskView<
 }
 
 // What is told of the ten numbers from one on is this, and the oldest batch has so many tasks.
-fn check(rt: &impl Abort, alloc: Global, queue: &TaskQueue, batch: usize, from: u64, wanted: &str) {
+fn check(
+    rt: &impl Abort,
+    alloc: Global,
+    queue: &TaskQueue<()>,
+    batch: usize,
+    from: u64,
+    wanted: &str,
+) {
     let mut told = String::new(alloc);
     for number in 0..10 {
         add(

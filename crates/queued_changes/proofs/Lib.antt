@@ -1,0 +1,4 @@
+pub mod Runs
+pub mod Requests
+pub mod Settling
+pub mod Needing

@@ -1,0 +1,16 @@
+use Rattle.std.proofs.Common.{◌∙◌, ◌<◌, ◌+◌, ◌≤◌, length, sym, ap, subst, arith}
+use Rattle.queued_changes.specs.Machine.{run_out}
+use Rattle.queued_changes.specs.Needs.{out_need}
+use Rattle.queued_changes.proofs.Runs.{settled_out}
+use Rattle.queued_changes.proofs.Needing.{batch_more}
+use Rattle.queued_changes.proofs.queued.Queued.settle_all.Goals as goal
+
+pub loop-preserved : goal.loop-preserved
+loop-preserved g c =
+    let settled = c.in_ok-settle.ensures.settled in
+    let less = subst (λ s. length s.queue < length c.loop.self.queue) settled (c.in_ok-settle.ensures.shorter c.if-branch.true) in
+    record {
+      out = ap (run_out g.W.Worker.changed) settled ∙ settled_out g.W.Worker.changed c.loop.self ∙ c.loop.invariant.out;
+      counted = c.settle.ensures.counted ∙ c.loop.invariant.counted;
+      fetched = omega (arith, c.settle.ensures.fetched, c.loop.invariant.fetched, batch_more g.W.Worker.changed g.W.Worker.need c.loop.self less, ap (out_need g.W.Worker.changed g.W.Worker.need) settled);
+    }

@@ -1,0 +1,15 @@
+use Rattle.std.proofs.Common.{◌≡◌, ◌+◌, ◌≤◌, length}
+use Rattle.queued_changes.specs.State.{accepted}
+use Rattle.queued_changes.specs.Machine.{run_out}
+use Rattle.queued_changes.specs.Needs.{out_need}
+use Rattle.queued_changes.proofs.queued.Queued.settle_all.Given as goal
+
+abbrev pub invariant-loop : goal.invariant-loop
+invariant-loop g l = record {
+  out : run_out g.W.Worker.changed l.self ≡ run_out g.W.Worker.changed l.fn.self;
+  counted : accepted l.self ≡ accepted l.fn.self;
+  fetched : l.fetches + out_need g.W.Worker.changed g.W.Worker.need l.self ≤ l.fn.fetches + out_need g.W.Worker.changed g.W.Worker.need l.fn.self;
+}
+
+abbrev pub decreases-loop : goal.decreases-loop
+decreases-loop g l = length l.self.queue
