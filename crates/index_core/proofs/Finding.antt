@@ -1,6 +1,6 @@
 -- What a search finds: hits that are read by their ids, and the matches of an index among its documents.
 use Rattle.std.proofs.Common.{◌≡◌, ℕ, suc, ◌+◌, ◌-◌, ◌^◌, ◌<◌, ◌≤◌, ◌⊎◌, inl, inr, min, Bool, true, false, cond, List, [], ◌∷◌, ◌++◌, length, map, take, slice_index_or, Option, None, Some, Ok, refl, sym, ap, ap₂, ◌∙◌, arith}
-use Rattle.std.specs.Prelude.{◌&&◌}
+use Rattle.std.specs.Prelude.{◌&&◌, bytes_eq, position}
 use Rattle.std.specs.Option.{option_map, is_some}
 use Rattle.std.specs.List.{AllByRecursion, filter_map, cons_option}
 use Rattle.std.proofs.lemmas.Bool.{cond-true, cond-false}
@@ -24,7 +24,7 @@ use Rattle.facet_counts.specs.FacetView.{FacetView}
 use Rattle.facet_counts.specs.declared.rows.CountRow.{CountRow}
 use Rattle.search_base.specs.declared.document.PathId.{PathId}
 use Rattle.search_base.specs.Trying.{◌>>◌}
-use Rattle.search_settings.specs.Rules.{path_named}
+use Rattle.search_settings.specs.Rules.{path_id, path_named}
 use Rattle.search_settings.specs.SearchFaults.{facet_search_fault}
 use Rattle.index_core.specs.FacetHits.{facet_found, facet_hits, hits_under}
 use Rattle.facet_counts.specs.Counts.{counted, text_of}
@@ -212,6 +212,11 @@ filter-mapped f h (x ∷ xs) = ap (cons_option (h (f x))) (filter-mapped f h xs)
 pub length-map : {X Y : Type 0} (f : X → Y) (xs : List X) → length (map f xs) ≡ length xs
 length-map f [] = refl
 length-map f (x ∷ xs) = ap suc (length-map f xs)
+
+-- the number of a name in the registry is that of its path
+pub path-found : (paths : List (List ℕ)) (name : List ℕ) (path : Option PathId) → option_map (λ (id : PathId). id.0) path ≡ position (λ p. bytes_eq p name) paths → path_named paths name ≡ path
+path-found paths name None h = ap (option_map path_id) (sym h)
+path-found paths name (Some id) h = ap (option_map path_id) (sym h)
 
 -- what is found, by its parts
 pub found-same : (f : Found) (hits : List HitView) (total : ℕ) (facets : Option (List FacetView)) → hits ≡ f.hits → total ≡ f.total → facets ≡ f.facets

@@ -62,8 +62,8 @@ use search_base::{DocId, NoMemory, PathId, Steps, Word};
 use search_call::{FacetCall, SearchCall};
 use search_result::{Hit, SearchResult};
 use search_settings::{
-    QueryWords, SearchFault, asked_paths, check_facet_search, check_search, path_named,
-    ranks_are_low, rules_of, window_end, window_start,
+    QueryWords, SearchFault, asked_paths, check_facet_search, check_search, ranks_are_low,
+    rules_of, window_end, window_start,
 };
 use std::alloc::Global;
 use std::marker::Model;
@@ -435,7 +435,7 @@ impl IndexCore {
     fn kept_path(&self, attribute: &Word) -> Option<PathId>
         ensures { IfSome result (λ path. IsKeptPath self.now attribute.now path) }
     {
-        let path = path_named(self.store.paths(), attribute)?;
+        let path = self.store.path_id(attribute)?;
         let path_use = self.kept.uses.get(path.0 as usize)?;
         if path_use.faceted { Some(path) } else { None }
     }
@@ -505,7 +505,7 @@ impl IndexCore {
         ensures { Gives (λ rows. rows.items) result (facet_found self.now call.now) }
     {
         check_facet_search(alloc, &self.settings, call)?;
-        match path_named(self.store.paths(), &call.name) {
+        match self.store.path_id(&call.name) {
             Some(path) => {
                 let rows = self.values(alloc, call, path)?;
                 Ok(rows)
