@@ -12,6 +12,7 @@ use Rattle.change_journal.proofs.Grow.{opened_as}
 use Rattle.change_journal.specs.Opens.{behind, Stands}
 use Rattle.change_journal.specs.declared.opening.StoredChange.{StoredChange}
 use Rattle.change_journal.proofs.Walks.{walk_step, walk_skip, walk_shut}
+use Rattle.change_journal.proofs.Looks.{looks}
 
 pub behind_push : (changes : List StoredChange) (change : StoredChange) (w : Walk) → behind (changes ++ change ∷ []) w ≡ behind changes (entry change.place change.payload.items w)
 behind_push [] change w = refl
@@ -79,23 +80,23 @@ module _ (o : Opened) (d g l : ℕ) (s : ImageData) (xs : List ℕ) (e : look xs
   ends : end_of (walk 0 (24 + l) s.changes (drop (24 + l) xs)) ≡ Ok o.journal.gate
   ends = ap end_of w ∙ end_behind o.changes.items (shut o.journal.gate)
 
-  pub opens : o.active ≡ d → option_map image_view o.image ≡ Some s → o.image_at ≡ 24 → Stands o (active_of d g l xs)
-  opens active rows at = subst (λ r. Stands o r) (sym (opened_as d g l xs s o.journal.gate image ends)) (record {
+  pub opens : o.active ≡ d → option_map image_view o.image ≡ Some s → o.image_at ≡ 24 → 24 + l + o.journal.grown ≡ o.journal.gate + 1 → Stands o (active_of d g l xs)
+  opens active rows at grown = subst (λ r. Stands o r) (sym (opened_as d g l xs s o.journal.gate image ends)) (record {
     stored = record { active = d; generation = g; image = take l (drop 24 xs); state = s; records = walk 0 (24 + l) s.changes (drop (24 + l) xs); gate = o.journal.gate };
     is = refl;
     active = active;
     image = rows;
     image_at = at;
     changes = sym w;
+    grown = let long = looks xs g l e in omega (arith, grown, length-take l (drop 24 xs), length-drop 24 xs, long.fits, long.size);
   })
 
-  pub opens_holds : o.journal.generation ≡ g → o.journal.count ≡ s.changes + length o.changes.items → o.journal.gate + 1 ≡ 24 + l + o.journal.size → Holds o.journal xs
-  opens_holds same count long = record {
+  pub opens_holds : o.journal.generation ≡ g → o.journal.count ≡ s.changes + length o.changes.items → Holds o.journal xs
+  opens_holds same count = record {
     size = l;
     state = s;
     looks = e ∙ ap (λ (k : ℕ). opened k l) (sym same);
     image = image;
     ends = ends;
     counts = omega (arith, count, ap (λ (v : Walk). length (payloads v)) w, count_behind o.changes.items o.journal.gate);
-    long = long;
   }

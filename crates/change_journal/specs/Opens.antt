@@ -70,6 +70,8 @@ pub record Opens (o : Opened) (r : Result (Option Stored) Spot) : Type 0 where
   pub image : option_map image_view o.image ≡ Some stored.state
   pub image_at : o.image_at ≡ 24
   pub changes : behind o.changes.items (shut o.journal.gate) ≡ stored.records
+  -- what is found counts as growth: all of the journal, its gates included
+  pub grown : 24 + length stored.image + o.journal.grown ≡ o.journal.gate + 1
 
 -- no disk is open
 pub record OpensNone (o : Opened) : Type 0 where
@@ -129,4 +131,4 @@ IsReadAs f state bytes xs = (look xs ≡ opened f.generation f.size) × (state_a
 
 -- the journal goes on at this disk
 abbrev pub GoesOn : Side → ℕ → Opened → Type 0
-GoesOn side g o = (o.journal.active ≡ Some side) × (o.journal.generation ≡ g) × (o.journal.gate + 1 < 2 ^ 64) × (o.journal.size ≤ o.journal.gate + 1) × IsReady o
+GoesOn side g o = (o.journal.active ≡ Some side) × (o.journal.generation ≡ g) × (o.journal.gate + 1 < 2 ^ 64) × (o.journal.grown ≤ o.journal.gate + 1) × IsReady o

@@ -2,16 +2,17 @@ ghost use Rattle.std.specs.Prelude.{◌≡◌, ◌≢◌, ◌⊎◌, ◌+◌, �
 ghost use Rattle.outside_io.specs.Faults.{HasCause, Rose};
 ghost use Rattle.outside_io.specs.Disks.{Contents, Told, fresh, LeavesOnly};
 ghost use Rattle.change_journal.specs.Format.{stored_pair, pair_in, look};
+ghost use Rattle.change_journal.specs.First.{journal_bytes, AreShort};
 ghost use Rattle.change_journal.specs.Fits.{IsSettled, Holds, Fits, IsDue, next_side, disk_on, HasCount, alone, Grows, grown, IsBeforeOrAfter, PairsOnly, IsOlder, IsOldOrImage, image_pair, StandsFor};
 ghost use Rattle.change_journal.specs.Opens.{number_of};
 ghost use Rattle.change_journal.specs.Shut.{Remade, image_disk, is_told};
 
-use crate::Record;
 use crate::add::add;
 use crate::remake::remake;
+use crate::{FirstJournal, Record};
 use outside_io::{Disk, Failed};
 
-// The length of a journal above which a checkpoint is due.
+// How much a journal may grow before a checkpoint is due.
 const LONG: u64 = 16_777_216;
 
 /// One of the two disks: `A` is number 0, `B` is number 1.
@@ -34,15 +35,16 @@ impl Side {
 }
 
 /// Where the journal of two disks goes on: which disk is active, its generation, the place of its
-/// shut gate, the count of changes held, and the bytes of the journal, its gates included. Made by
-/// `open`; after a `Failed` of its calls the disks are opened again.
+/// shut gate, the count of changes held, and the bytes by which the journal has grown since the last
+/// checkpoint, one gate included: what that wrote besides does not count, but all that `open` found
+/// does. Made by `open`; after a `Failed` of its calls the disks are opened again.
 #[derive(Drop)]
 pub struct Journal {
     pub(crate) active: Option<Side>,
     pub(crate) generation: u64,
     pub(crate) gate: u64,
     pub(crate) count: u64,
-    pub(crate) size: u64,
+    pub(crate) grown: u64,
 }
 
 impl Journal {
@@ -70,7 +72,7 @@ impl Journal {
             → StandsFor (K.contents disk_a.new) (K.contents disk_b.new) (grown entry.payload (stored_pair a b))) }
         ensures fits { OnOk result (Fits self.new (K.contents disk_a.new) (K.contents disk_b.new)) }
         ensures count { OnOk result (self.new.count ≡ self.old.count + 1) }
-        ensures size { OnOk result (self.new.size ≡ self.old.size + length entry.payload + 13) }
+        ensures grown { OnOk result (self.new.grown ≡ self.old.grown + length entry.payload + 13) }
         ensures active { self.new.active ≡ self.old.active }
         ensures generation { self.new.generation ≡ self.old.generation }
         ensures told_a { is_told (K.contents disk_a.new) ≡ is_told (K.contents disk_a.old) }
@@ -89,12 +91,13 @@ impl Journal {
         }
     }
 
-    /// Makes the disk that is not active anew, `A` where none is, with an image and no change behind
+    /// Makes the disk that is not active anew, `A` where none is, with an image and these changes behind
     /// it, and takes it as the active one, one generation up; it takes no memory, and the disk that was
-    /// active stays as it was. The image is that of a state which counts the changes held. At generation
-    /// 2^64 - 1 nothing is done, and the answer is `Ok`.
+    /// active stays as it was. The image is that of a state which counts the changes before the first of
+    /// these, and with them it has all the changes held. At generation 2^64 - 1 nothing is done, and the
+    /// answer is `Ok`.
     ///
-    /// A crash while the call runs or behind it leaves the pair that was stored, or the image without
+    /// A crash while the call runs or behind it leaves the pair that was stored, or the image with these
     /// changes; behind `Ok` always the latter, and nothing is pending.
     /// `Failed`: a disk's count of faults rose, and the journal stays as it was.
     pub fn checkpoint<K: Disk>(
@@ -102,25 +105,28 @@ impl Journal {
         disk_a: &mut K,
         disk_b: &mut K,
         image: &[u8],
+        first: &FirstJournal,
     ) -> Result<(), Failed>
         requires fits { Fits self.old (K.contents disk_a.old) (K.contents disk_b.old) }
-        requires image { HasCount image.now self.old.count }
+        requires image { HasCount image.now first.now.number }
+        requires held { self.old.count ≡ first.now.number + length first.now.payloads }
         ensures any_moment { (a b : List ℕ) → K.contents disk_a.old ≡ Some (fresh a) → K.contents disk_b.old ≡ Some (fresh b)
             → PairsOnly K.moment K.left_since disk_a.old disk_b.old disk_a.new disk_b.new
-            (λ c d. IsOldOrImage image.now (stored_pair a b) (stored_pair c d)) }
+            (λ c d. IsOldOrImage image.now first.now.payloads (stored_pair a b) (stored_pair c d)) }
         ensures now { OnOk result (self.old.generation < 2 ^ 64 - 1
             → (a b : List ℕ) → K.contents disk_a.old ≡ Some (fresh a) → K.contents disk_b.old ≡ Some (fresh b)
-            → StandsFor (K.contents disk_a.new) (K.contents disk_b.new) (Ok (image_pair image.now))) }
+            → StandsFor (K.contents disk_a.new) (K.contents disk_b.new) (Ok (image_pair image.now first.now.payloads))) }
         ensures last { 2 ^ 64 - 1 ≤ self.old.generation → (result ≡ Ok tt) × (self.new ≡ self.old) × (disk_a.new ≡ disk_a.old) × (disk_b.new ≡ disk_b.old) }
         ensures fits { OnOk result (Fits self.new (K.contents disk_a.new) (K.contents disk_b.new)) }
         ensures active { OnOk result (self.old.generation < 2 ^ 64 - 1 → self.new.active ≡ Some (next_side self.old.active)) }
         ensures generation { OnOk result (self.old.generation < 2 ^ 64 - 1 → self.new.generation ≡ self.old.generation + 1) }
         ensures made { OnOk result (self.old.generation < 2 ^ 64 - 1
             → (ys : List ℕ) → K.contents (disk_on (next_side self.old.active) disk_a.old disk_b.old) ≡ Some (fresh ys)
-            → K.contents (disk_on (next_side self.old.active) disk_a.new disk_b.new) ≡ Some (fresh (1 ∷ image_disk (self.old.generation + 1) image.now))) }
+            → K.contents (disk_on (next_side self.old.active) disk_a.new disk_b.new) ≡ Some (fresh (1 ∷ image_disk (self.old.generation + 1) image.now (journal_bytes first.now.number first.now.payloads)))) }
         ensures other { disk_on (next_side self.old.active) disk_b.new disk_a.new ≡ disk_on (next_side self.old.active) disk_b.old disk_a.old }
         ensures count { self.new.count ≡ self.old.count }
-        ensures size { OnOk result (self.old.generation < 2 ^ 64 - 1 → self.new.size ≡ 1) }
+        // Of what is written here one gate counts as growth, whatever payloads stand behind the image.
+        ensures grown { OnOk result (self.old.generation < 2 ^ 64 - 1 → self.new.grown ≡ 1) }
         ensures told_a { is_told (K.contents disk_a.new) ≡ is_told (K.contents disk_a.old) }
         ensures told_b { is_told (K.contents disk_b.new) ≡ is_told (K.contents disk_b.old) }
         ensures settled_a { OnOk result (IsSettled (K.contents disk_a.old) → IsSettled (K.contents disk_a.new)) }
@@ -134,9 +140,9 @@ impl Journal {
             return Ok(());
         }
         match self.active {
-            Some(Side::A) => self.checkpoint_on(disk_b, Side::B, image),
-            Some(Side::B) => self.checkpoint_on(disk_a, Side::A, image),
-            None => self.checkpoint_on(disk_a, Side::A, image),
+            Some(Side::A) => self.checkpoint_on(disk_b, Side::B, image, first),
+            Some(Side::B) => self.checkpoint_on(disk_a, Side::A, image, first),
+            None => self.checkpoint_on(disk_a, Side::A, image, first),
         }
     }
 
@@ -147,12 +153,12 @@ impl Journal {
         self.count
     }
 
-    /// Whether a checkpoint is due: the journal is longer than 16,777,216 bytes, and the generation
-    /// is not the last.
+    /// Whether a checkpoint is due: the journal has grown by more than 16,777,216 bytes since the last
+    /// one, what was found at opening counting as growth, and the generation is not the last.
     pub fn due(&self) -> bool
         ensures { IsTrue result ↔ IsDue self.now }
     {
-        self.size > LONG && self.generation < u64::MAX
+        self.grown > LONG && self.generation < u64::MAX
     }
 
     // The same on the disk that is not active, where there is a generation left.
@@ -161,38 +167,43 @@ impl Journal {
         disk: &mut K,
         side: Side,
         image: &[u8],
+        first: &FirstJournal,
     ) -> Result<(), Failed>
         requires few { self.old.generation < 2 ^ 64 - 1 }
         requires older { Told (K.contents disk.old) (λ ys. IsOlder self.old.generation (look ys)) }
-        requires image { HasCount image.now self.old.count }
+        requires image { HasCount image.now first.now.number }
+        requires held { self.old.count ≡ first.now.number + length first.now.payloads }
         ensures any_moment { (ys : List ℕ) → K.contents disk.old ≡ Some (fresh ys)
-            → LeavesOnly K.moment K.left_since disk.old disk.new (Remade self.old.generation (self.old.generation + 1) image.now) }
-        ensures now { OnOk result ((ys : List ℕ) → K.contents disk.old ≡ Some (fresh ys) → K.contents disk.new ≡ Some (fresh (1 ∷ image_disk (self.old.generation + 1) image.now))) }
+            → LeavesOnly K.moment K.left_since disk.old disk.new (Remade self.old.generation (self.old.generation + 1) image.now (journal_bytes first.now.number first.now.payloads)) }
+        ensures now { OnOk result ((ys : List ℕ) → K.contents disk.old ≡ Some (fresh ys) → K.contents disk.new ≡ Some (fresh (1 ∷ image_disk (self.old.generation + 1) image.now (journal_bytes first.now.number first.now.payloads)))) }
         ensures holds { OnOk result (Told (K.contents disk.new) (Holds self.new)) }
         ensures room { OnOk result (self.new.gate + 1 < 2 ^ 64) }
-        ensures within { OnOk result (self.new.size ≤ self.new.gate + 1) }
-        ensures size { OnOk result (self.new.size ≡ 1) }
+        ensures within { OnOk result (self.new.grown ≤ self.new.gate + 1) }
+        ensures grown { OnOk result (self.new.grown ≡ 1) }
         ensures count { self.new.count ≡ self.old.count }
         ensures active { OnOk result (self.new.active ≡ Some side) }
         ensures generation { OnOk result (self.new.generation ≡ self.old.generation + 1) }
         ensures told { is_told (K.contents disk.new) ≡ is_told (K.contents disk.old) }
+        ensures short { AreShort first.now.payloads }
+        ensures small { first.now.number + length first.now.payloads ≤ 2 ^ 64 }
         ensures settled { OnOk result (IsSettled (K.contents disk.old) → IsSettled (K.contents disk.new)) }
         ensures stays { OnErr result (self.new ≡ self.old) }
         ensures cause { HasCause (K.disk_faults disk.old) (K.disk_faults disk.new) result }
     {
         let next = self.generation + 1;
-        remake(disk, self.generation, next, image)?;
+        let journal = first.bytes();
+        remake(disk, self.generation, next, image, journal)?;
         self.active = Some(side);
         self.generation = next;
-        self.gate = 24 + image.len() as u64;
-        self.size = 1;
+        self.gate = 24 + image.len() as u64 + journal.len() as u64 - 1;
+        self.grown = 1;
         Ok(())
     }
 
     // An addition to the active disk.
     fn append_on<K: Disk>(&mut self, disk: &mut K, entry: &Record) -> Result<(), Failed>
         requires room { self.old.gate + 1 < 2 ^ 64 }
-        requires within { self.old.size ≤ self.old.gate + 1 }
+        requires within { self.old.grown ≤ self.old.gate + 1 }
         requires holds { Told (K.contents disk.old) (Holds self.old) }
         requires number { entry.now.number ≡ self.old.count }
         requires few { entry.now.number + 1 < 2 ^ 64 }
@@ -202,9 +213,9 @@ impl Journal {
         ensures now { OnOk result ((xs : List ℕ) → K.contents disk.old ≡ Some (fresh xs) → (c : List ℕ) × (K.contents disk.new ≡ Some (fresh c)) × (look c ≡ look xs)
             × ((d : ℕ) → pair_in (alone d c) ≡ grown entry.now.payload (pair_in (alone d xs)))) }
         ensures room { OnOk result (self.new.gate + 1 < 2 ^ 64) }
-        ensures within { OnOk result (self.new.size ≤ self.new.gate + 1) }
+        ensures within { OnOk result (self.new.grown ≤ self.new.gate + 1) }
         ensures count { OnOk result (self.new.count ≡ self.old.count + 1) }
-        ensures size { OnOk result (self.new.size ≡ self.old.size + length entry.now.payload + 13) }
+        ensures grown { OnOk result (self.new.grown ≡ self.old.grown + length entry.now.payload + 13) }
         ensures active { self.new.active ≡ self.old.active }
         ensures generation { self.new.generation ≡ self.old.generation }
         ensures told { is_told (K.contents disk.new) ≡ is_told (K.contents disk.old) }
@@ -216,7 +227,7 @@ impl Journal {
         add(disk, self.gate, piece)?;
         let more = piece.len() as u64;
         self.gate += more;
-        self.size += more;
+        self.grown += more;
         self.count += 1;
         Ok(())
     }

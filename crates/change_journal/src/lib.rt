@@ -10,15 +10,15 @@
 
 mod add;
 mod entry;
+mod first;
 mod journal;
 mod making;
 mod opening;
 mod remake;
-#[cfg(test)]
-mod tests;
 mod through;
 
 pub use entry::Record;
+pub use first::FirstJournal;
 pub use journal::{Journal, Side};
 pub use making::record;
 pub use opening::{JournalFault, Opened, StoredChange, open};

@@ -1,4 +1,4 @@
-ghost use Rattle.std.specs.Prelude.{◌≡◌, ◌+◌, ◌^◌, ◌<◌, length, IfOk};
+ghost use Rattle.std.specs.Prelude.{◌≡◌, ◌+◌, ◌^◌, ◌<◌, ◌++◌, length, IfOk, OnOk, OnErr};
 ghost use Rattle.change_journal.specs.Format.{entry_bytes};
 
 use crate::Record;
@@ -11,20 +11,21 @@ pub fn record(alloc: Global, number: u64, payload: &[u8]) -> Result<Record, NoMe
     requires { length payload.now < 2 ^ 32 }
     ensures { IfOk result (λ r. r ≡ record { number = number; payload = payload.now }) }
 {
-    match bytes_of(alloc, number, payload) {
-        Ok(bytes) => Ok(Record { number, bytes }),
-        Err(_) => Err(NoMemory),
-    }
+    let mut bytes = Vec::with_capacity(alloc, payload.len() + 13)?;
+    put_record(&mut bytes, number, payload)?;
+    Ok(Record { number, bytes })
 }
 
-fn bytes_of(alloc: Global, number: u64, payload: &[u8]) -> Result<Vec<u8>, AllocError>
+// Puts the bytes of a record, and a shut gate, behind what is there. On an error all is as it was.
+pub(crate) fn put_record(bytes: &mut Vec<u8>, number: u64, payload: &[u8]) -> Result<(), AllocError>
     requires { length payload.now < 2 ^ 32 }
-    ensures { IfOk result (λ bytes. bytes.items ≡ entry_bytes number payload.now) }
+    ensures put { OnOk result (bytes.new.items ≡ bytes.old.items ++ entry_bytes number payload.now) }
+    ensures stays { OnErr result (bytes.new.items ≡ bytes.old.items) }
 {
-    let mut bytes = Vec::with_capacity(alloc, payload.len() + 13)?;
+    bytes.reserve(payload.len() + 13)?;
     bytes.extend_from_slice(&number.to_le_bytes())?;
     bytes.extend_from_slice(&(payload.len() as u32).to_le_bytes())?;
     bytes.extend_from_slice(payload)?;
     bytes.push(0)?;
-    Ok(bytes)
+    Ok(())
 }

@@ -385,7 +385,7 @@ fn opened_with(
         generation: front.generation,
         gate,
         count: image.changes + changes.len() as u64,
-        size: gate + 1 - start,
+        grown: gate + 1 - start,
     };
     Ok(Opened {
         journal,
@@ -428,7 +428,7 @@ fn open_active<K: Disk>(
 // What two disks hold of which none is open.
 fn none_opened(alloc: Global) -> Opened
     ensures none { OpensNone result }
-    ensures journal { result.journal ≡ record { active = None; generation = 0; gate = 0; count = 0; size = 0 } }
+    ensures journal { result.journal ≡ record { active = None; generation = 0; gate = 0; count = 0; grown = 0 } }
 {
     Opened {
         journal: Journal {
@@ -436,7 +436,7 @@ fn none_opened(alloc: Global) -> Opened
             generation: 0,
             gate: 0,
             count: 0,
-            size: 0,
+            grown: 0,
         },
         active: 0,
         image: None,

@@ -40,36 +40,36 @@ pub returns-clause-stored : goal.returns-clause-stored
 returns-clause-stored c = λ xs (looks, image, bytes).
     let start = 24 + c.args.front.size in
     let rows = c.args.image in
+    let t : TailWithin (Shut c.in-Shut.gate) start (start + length c.args.bytes.now) = subst (λ v. TailWithin v start (start + length c.args.bytes.now)) c.in-Shut.is c.in-Ok.ensures.within in
     let tail : tail_of c.in-Ok.read.1 ≡ shut c.in-Shut.gate = ap tail_of c.in-Shut.is in
     let w : walk 0 start rows.changes (drop start xs) ≡ behind c.in-Ok.read.0.items (shut c.in-Shut.gate) =
     ap (λ (l : List ℕ). walk 0 start rows.changes l) (sym bytes) ∙ c.in-Ok.ensures.walk ∙ ap (λ (v : Walk). behind c.in-Ok.read.0.items v) tail in
     let o : Opened = record {
-      journal = record { active = Some c.args.side; generation = c.args.front.generation; gate = c.in-Shut.gate; count = rows.changes + c.len.result; size = c.in-Shut.gate + 1 - start };
+      journal = record { active = Some c.args.side; generation = c.args.front.generation; gate = c.in-Shut.gate; count = rows.changes + c.len.result; grown = c.in-Shut.gate + 1 - start };
       active = c.number-2.result;
       image = Some rows;
       image_at = 24;
       changes = c.in-Ok.read.0;
     } in
-    opens o (number_of c.args.side) c.args.front.generation c.args.front.size (image_view rows) xs looks image w c.number-2.ensures refl refl
+    opens o (number_of c.args.side) c.args.front.generation c.args.front.size (image_view rows) xs looks image w c.number-2.ensures refl refl (omega (arith, t.0))
 
 pub returns-clause-holds : goal.returns-clause-holds
 returns-clause-holds c = λ xs (looks, image, bytes).
     let start = 24 + c.args.front.size in
     let rows = c.args.image in
-    let t : TailWithin (Shut c.in-Shut.gate) start (start + length c.args.bytes.now) = subst (λ v. TailWithin v start (start + length c.args.bytes.now)) c.in-Shut.is c.in-Ok.ensures.within in
     let tail : tail_of c.in-Ok.read.1 ≡ shut c.in-Shut.gate = ap tail_of c.in-Shut.is in
     let w : walk 0 start rows.changes (drop start xs) ≡ behind c.in-Ok.read.0.items (shut c.in-Shut.gate) =
     ap (λ (l : List ℕ). walk 0 start rows.changes l) (sym bytes) ∙ c.in-Ok.ensures.walk ∙ ap (λ (v : Walk). behind c.in-Ok.read.0.items v) tail in
     let count : c.len.result ≡ length c.in-Ok.read.0.items = search rules in
     let counts = ap (λ (k : ℕ). rows.changes + k) count in
     let o : Opened = record {
-      journal = record { active = Some c.args.side; generation = c.args.front.generation; gate = c.in-Shut.gate; count = rows.changes + c.len.result; size = c.in-Shut.gate + 1 - start };
+      journal = record { active = Some c.args.side; generation = c.args.front.generation; gate = c.in-Shut.gate; count = rows.changes + c.len.result; grown = c.in-Shut.gate + 1 - start };
       active = c.number-2.result;
       image = Some rows;
       image_at = 24;
       changes = c.in-Ok.read.0;
     } in
-    opens_holds o (number_of c.args.side) c.args.front.generation c.args.front.size (image_view rows) xs looks image w refl counts (omega (arith, t.0))
+    opens_holds o (number_of c.args.side) c.args.front.generation c.args.front.size (image_view rows) xs looks image w refl counts
 
 pub returns-clause-goes_on : goal.returns-clause-goes_on
 returns-clause-goes_on c =
