@@ -6,7 +6,7 @@ use Rattle.std.proofs.lemmas.Bool.{eqb-true, eq-eqb, false≢true}
 use Rattle.task_queue.specs.declared.task.Task.{Task}
 use Rattle.task_queue.specs.Queue.{keep_last}
 use Rattle.queued_changes.specs.State.{State, accepted}
-use Rattle.queued_changes.specs.Machine.{run, settle, run_out, make_room, behind, task_of, enqueued, run_each}
+use Rattle.queued_changes.specs.Machine.{run, settle, run_out, make_room, task_of, run_each}
 use Rattle.queued_changes.specs.Run.{Step, Event, answered, followed, after, EndsIn, brought, tasks_in, Accepts, IsStep}
 use Rattle.queued_changes.proofs.Runs.{settled_out, settled_counts, accepted_out, accepted_counts}
 

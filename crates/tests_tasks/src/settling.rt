@@ -1,5 +1,3 @@
-ghost use Rattle.std.specs.Prelude.{◌≡◌, []};
-
 use crate::counter::Counter;
 use queued_changes::Queued;
 use search_base::{Steps, Word};
