@@ -1,8 +1,7 @@
 -- How many documents the batches of a queue need.
-use Rattle.std.proofs.Common.{◌≡◌, ◌≢◌, ℕ, suc, zero, ◌+◌, ◌-◌, ◌<◌, ◌≤◌, List, [], ◌∷◌, length, refl, sym, ◌∙◌, ap, subst, arith}
+use Rattle.std.proofs.Common.{◌≡◌, ◌≢◌, ℕ, suc, zero, ◌+◌, ◌<◌, ◌≤◌, List, [], ◌∷◌, length, refl, sym, ap, arith}
 use Rattle.std.specs.Prelude.{Result}
 use Rattle.task_queue.specs.declared.task.Task.{Task}
-use Rattle.task_queue.specs.Queue.{batch_len}
 use Rattle.queued_changes.specs.State.{State}
 use Rattle.queued_changes.specs.Machine.{run_first, settle, run_out}
 use Rattle.queued_changes.specs.Batches.{batch_in}

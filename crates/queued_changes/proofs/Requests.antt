@@ -6,7 +6,7 @@ use Rattle.std.proofs.lemmas.Bool.{eqb-true, eq-eqb, false≢true}
 use Rattle.task_queue.specs.declared.task.Task.{Task}
 use Rattle.task_queue.specs.Queue.{keep_last}
 use Rattle.queued_changes.specs.State.{State, accepted}
-use Rattle.queued_changes.specs.Machine.{run, settle, run_out, make_room, behind, task_of, enqueued, run_each}
+use Rattle.queued_changes.specs.Machine.{run, settle, run_out, make_room, task_of, run_each}
 use Rattle.queued_changes.specs.Run.{Step, Event, answered, followed, after, EndsIn, brought, tasks_in, Accepts, IsStep}
 use Rattle.queued_changes.proofs.Runs.{settled_out, settled_counts, accepted_out, accepted_counts}
 
@@ -31,8 +31,8 @@ module _ {C I Q : Type 0} (changed : List ℕ → C → I → Result I ℕ) (ste
   pub in_order : (s : State C I) (front back : List (Event Q)) → tasks_in changed step s (front ++ back) ≡ tasks_in changed step s front ++ tasks_in changed step (after changed step s front) back
   in_order s [] back = refl
   in_order s (e ∷ front) back =
-      ap (λ (l : List (Task C)). brought changed step s e ++ l) (in_order (followed changed step s e) front back)
-      ∙ sym (append_assoc (brought changed step s e) (tasks_in changed step (followed changed step s e) front) (tasks_in changed step (after changed step (followed changed step s e) front) back))
+      ap (λ (l : List (Task C)). brought changed step s e.request e.starved ++ l) (in_order (followed changed step s e.request e.starved) front back)
+      ∙ sym (append_assoc (brought changed step s e.request e.starved) (tasks_in changed step (followed changed step s e.request e.starved) front) (tasks_in changed step (after changed step (followed changed step s e.request e.starved) front) back))
 
   -- what a reply 202 leaves
   accepts_out : (s new : State C I) → Accepts changed step s new → run_out changed new ≡ run_each changed (keep_last 1 new.queue) (run_out changed s)
@@ -46,66 +46,66 @@ module _ {C I Q : Type 0} (changed : List ℕ → C → I → Result I ℕ) (ste
       let more : accepted new ≡ accepted s + 1 = ap accepted e ∙ accepted_counts changed uid kind change s in
       omega (arith, more, ap length one)
 
-  answered_out : IsStep changed step → (s : State C I) (e : Event Q) → run_out changed (answered changed step s e) ≡ run_each changed (brought changed step s e) (run_out changed s)
-  answered_out is s e = by_memory e.starved
+  answered_out : IsStep changed step → (s : State C I) (q : Q) (starved : Bool) → run_out changed (answered changed step s q starved) ≡ run_each changed (brought changed step s q starved) (run_out changed s)
+  answered_out is s q starved = by_memory starved
     where
-      by_status : (b : Bool) → ((step s e.request).status == 202) ≡ b → run_out changed (step s e.request).state ≡ run_each changed (if b then keep_last 1 (step s e.request).state.queue else []) (run_out changed s)
-      by_status true done = accepts_out s (step s e.request).state ((is s e.request).0 (eqb-true (step s e.request).status 202 done))
-      by_status false other = ap (run_out changed) ((is s e.request).1 (differs (step s e.request).status other))
+      by_status : (b : Bool) → ((step s q).status == 202) ≡ b → run_out changed (step s q).state ≡ run_each changed (if b then keep_last 1 (step s q).state.queue else []) (run_out changed s)
+      by_status true done = accepts_out s (step s q).state ((is s q).0 (eqb-true (step s q).status 202 done))
+      by_status false other = ap (run_out changed) ((is s q).1 (differs (step s q).status other))
 
-      by_memory : (b : Bool) → run_out changed (if b then s else (step s e.request).state) ≡ run_each changed (if b then [] else (if (step s e.request).status == 202 then keep_last 1 (step s e.request).state.queue else [])) (run_out changed s)
+      by_memory : (b : Bool) → run_out changed (if b then s else (step s q).state) ≡ run_each changed (if b then [] else (if (step s q).status == 202 then keep_last 1 (step s q).state.queue else [])) (run_out changed s)
       by_memory true = refl
-      by_memory false = by_status ((step s e.request).status == 202) refl
+      by_memory false = by_status ((step s q).status == 202) refl
 
-  followed_out : IsStep changed step → (s : State C I) (e : Event Q) → run_out changed (followed changed step s e) ≡ run_each changed (brought changed step s e) (run_out changed s)
-  followed_out is s e = by_memory e.starved
+  followed_out : IsStep changed step → (s : State C I) (q : Q) (starved : Bool) → run_out changed (followed changed step s q starved) ≡ run_each changed (brought changed step s q starved) (run_out changed s)
+  followed_out is s q starved = by_memory starved
     where
-      by_status : (b : Bool) → ((step s e.request).status == 202) ≡ b
-          → run_out changed (if b then (step s e.request).state else settle changed (step s e.request).state) ≡ run_each changed (if b then keep_last 1 (step s e.request).state.queue else []) (run_out changed s)
-      by_status true done = accepts_out s (step s e.request).state ((is s e.request).0 (eqb-true (step s e.request).status 202 done))
-      by_status false other = settled_out changed (step s e.request).state ∙ ap (run_out changed) ((is s e.request).1 (differs (step s e.request).status other))
+      by_status : (b : Bool) → ((step s q).status == 202) ≡ b
+          → run_out changed (if b then (step s q).state else settle changed (step s q).state) ≡ run_each changed (if b then keep_last 1 (step s q).state.queue else []) (run_out changed s)
+      by_status true done = accepts_out s (step s q).state ((is s q).0 (eqb-true (step s q).status 202 done))
+      by_status false other = settled_out changed (step s q).state ∙ ap (run_out changed) ((is s q).1 (differs (step s q).status other))
 
-      by_memory : (b : Bool) → run_out changed (if b then s else (if (step s e.request).status == 202 then (step s e.request).state else settle changed (step s e.request).state))
-          ≡ run_each changed (if b then [] else (if (step s e.request).status == 202 then keep_last 1 (step s e.request).state.queue else [])) (run_out changed s)
+      by_memory : (b : Bool) → run_out changed (if b then s else (if (step s q).status == 202 then (step s q).state else settle changed (step s q).state))
+          ≡ run_each changed (if b then [] else (if (step s q).status == 202 then keep_last 1 (step s q).state.queue else [])) (run_out changed s)
       by_memory true = refl
-      by_memory false = by_status ((step s e.request).status == 202) refl
+      by_memory false = by_status ((step s q).status == 202) refl
 
-  followed_counts : IsStep changed step → (s : State C I) (e : Event Q) → accepted (followed changed step s e) ≡ accepted s + length (brought changed step s e)
-  followed_counts is s e = by_memory e.starved
+  followed_counts : IsStep changed step → (s : State C I) (q : Q) (starved : Bool) → accepted (followed changed step s q starved) ≡ accepted s + length (brought changed step s q starved)
+  followed_counts is s q starved = by_memory starved
     where
-      by_status : (b : Bool) → ((step s e.request).status == 202) ≡ b
-          → accepted (if b then (step s e.request).state else settle changed (step s e.request).state) ≡ accepted s + length (if b then keep_last 1 (step s e.request).state.queue else [])
-      by_status true done = accepts_counts s (step s e.request).state ((is s e.request).0 (eqb-true (step s e.request).status 202 done))
+      by_status : (b : Bool) → ((step s q).status == 202) ≡ b
+          → accepted (if b then (step s q).state else settle changed (step s q).state) ≡ accepted s + length (if b then keep_last 1 (step s q).state.queue else [])
+      by_status true done = accepts_counts s (step s q).state ((is s q).0 (eqb-true (step s q).status 202 done))
       by_status false other =
-          let same : accepted (step s e.request).state ≡ accepted s = ap accepted ((is s e.request).1 (differs (step s e.request).status other)) in
-          omega (arith, settled_counts changed (step s e.request).state, same)
+          let same : accepted (step s q).state ≡ accepted s = ap accepted ((is s q).1 (differs (step s q).status other)) in
+          omega (arith, settled_counts changed (step s q).state, same)
 
-      by_memory : (b : Bool) → accepted (if b then s else (if (step s e.request).status == 202 then (step s e.request).state else settle changed (step s e.request).state))
-          ≡ accepted s + length (if b then [] else (if (step s e.request).status == 202 then keep_last 1 (step s e.request).state.queue else []))
+      by_memory : (b : Bool) → accepted (if b then s else (if (step s q).status == 202 then (step s q).state else settle changed (step s q).state))
+          ≡ accepted s + length (if b then [] else (if (step s q).status == 202 then keep_last 1 (step s q).state.queue else []))
       by_memory true = omega arith
-      by_memory false = by_status ((step s e.request).status == 202) refl
+      by_memory false = by_status ((step s q).status == 202) refl
 
   pub runs : IsStep changed step → (s : State C I) (events : List (Event Q)) → run_out changed (after changed step s events) ≡ run_each changed (tasks_in changed step s events) (run_out changed s)
   runs is s [] = refl
   runs is s (e ∷ events) =
-      runs is (followed changed step s e) events
-      ∙ ap (run_each changed (tasks_in changed step (followed changed step s e) events)) (followed_out is s e)
-      ∙ sym (each_append (brought changed step s e) (tasks_in changed step (followed changed step s e) events) (run_out changed s))
+      runs is (followed changed step s e.request e.starved) events
+      ∙ ap (run_each changed (tasks_in changed step (followed changed step s e.request e.starved) events)) (followed_out is s e.request e.starved)
+      ∙ sym (each_append (brought changed step s e.request e.starved) (tasks_in changed step (followed changed step s e.request e.starved) events) (run_out changed s))
 
   pub counts : IsStep changed step → (s : State C I) (events : List (Event Q)) → accepted (after changed step s events) ≡ accepted s + length (tasks_in changed step s events)
   counts is s [] = omega arith
   counts is s (e ∷ events) =
-      let rest = counts is (followed changed step s e) events in
-      let one = followed_counts is s e in
-      omega (arith, rest, one, length-append (brought changed step s e) (tasks_in changed step (followed changed step s e) events))
+      let rest = counts is (followed changed step s e.request e.starved) events in
+      let one = followed_counts is s e.request e.starved in
+      omega (arith, rest, one, length-append (brought changed step s e.request e.starved) (tasks_in changed step (followed changed step s e.request e.starved) events))
 
   pub ends : IsStep changed step → (mark : Bool) (s : State C I) (events : List (Event Q)) (t : State C I) → EndsIn changed step mark s events t
       → run_out changed t ≡ run_each changed (tasks_in changed step s events) (run_out changed s)
   ends is false s events t e = ap (run_out changed) e ∙ runs is s events
   ends is true s events t (front, last, split, e) =
-      let all : tasks_in changed step s events ≡ tasks_in changed step s front ++ brought changed step (after changed step s front) last =
-      ap (tasks_in changed step s) split ∙ in_order s front (last ∷ []) ∙ ap (λ (l : List (Task C)). tasks_in changed step s front ++ l) (append-nil (brought changed step (after changed step s front) last)) in
-      ap (run_out changed) e ∙ answered_out is (after changed step s front) last
-      ∙ ap (run_each changed (brought changed step (after changed step s front) last)) (runs is s front)
-      ∙ sym (each_append (tasks_in changed step s front) (brought changed step (after changed step s front) last) (run_out changed s))
+      let all : tasks_in changed step s events ≡ tasks_in changed step s front ++ brought changed step (after changed step s front) last.request last.starved =
+      ap (tasks_in changed step s) split ∙ in_order s front (last ∷ []) ∙ ap (λ (l : List (Task C)). tasks_in changed step s front ++ l) (append-nil (brought changed step (after changed step s front) last.request last.starved)) in
+      ap (run_out changed) e ∙ answered_out is (after changed step s front) last.request last.starved
+      ∙ ap (run_each changed (brought changed step (after changed step s front) last.request last.starved)) (runs is s front)
+      ∙ sym (each_append (tasks_in changed step s front) (brought changed step (after changed step s front) last.request last.starved) (run_out changed s))
       ∙ ap (λ (l : List (Task C)). run_each changed l (run_out changed s)) (sym all)

@@ -1,15 +1,21 @@
 -- Tasks one after the other.
-use Rattle.std.proofs.Common.{◌≡◌, ℕ, suc, zero, ◌+◌, ◌-◌, ◌<◌, ◌≤◌, Bool, true, false, List, [], ◌∷◌, ◌++◌, length, drop, refl, sym, ◌∙◌, ap, arith, length-append, length-drop}
-use Rattle.std.specs.Prelude.{Result, nat_le, if◌then◌else◌}
+use Rattle.std.proofs.Common.{◌≡◌, ℕ, suc, zero, ◌+◌, ◌-◌, ◌<◌, ◌≤◌, Bool, true, false, List, [], ◌∷◌, ◌++◌, length, drop, refl, ◌∙◌, ap, arith, length-append, length-drop}
+use Rattle.std.specs.Prelude.{◌≢◌, ◌↔◌, Result, Ok, Err, IsOk, nat_le, if◌then◌else◌}
+use Rattle.std.proofs.lemmas.Bool.{false≢true}
 use Rattle.task_queue.specs.declared.task.Task.{Task}
 use Rattle.task_queue.specs.Queue.{batch_len, most_queued}
 use Rattle.task_queue.proofs.Batches.{longest}
 use Rattle.queued_changes.specs.State.{State, accepted}
-use Rattle.queued_changes.specs.Machine.{run, run_first, settle, run_out, make_room, behind, task_of, enqueued, run_each, filled, reopened}
+use Rattle.queued_changes.specs.Machine.{row_in, run, run_first, settle, run_out, make_room, behind, task_of, enqueued, run_each, filled, reopened}
 
 pub batch_most : {C : Type 0} (ts : List (Task C)) → batch_len ts ≤ length ts
 batch_most [] = omega arith
 batch_most (t ∷ ts) = (longest t ts).within
+
+-- a refusal whose number is not 0 is told
+pub told : {I : Type 0} (r : Result I ℕ) → r ≢ Err 0 → (row_in r ≡ 0) ↔ IsOk r
+told (Ok i) some = (λ e. refl, λ ok. refl)
+told (Err row) some = (λ e. absurd (some (ap Err e)), λ ok. absurd (false≢true ok))
 
 module _ {C I : Type 0} (changed : List ℕ → C → I → Result I ℕ) where
   -- some of them first, and then the rest

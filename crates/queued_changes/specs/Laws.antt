@@ -1,11 +1,16 @@
 -- What users of the machine rely on, whatever changes do.
-use Rattle.std.specs.Prelude.{◌≡◌, ℕ, ◌+◌, List, [], ◌++◌, length, Bool, Result}
+use Rattle.std.specs.Prelude.{◌≡◌, ◌↔◌, ℕ, ◌+◌, List, [], ◌++◌, length, Bool, Result, IsOk}
 use Rattle.task_queue.specs.declared.task.Task.{Task}
 use Rattle.queued_changes.specs.State.{State, accepted}
-use Rattle.queued_changes.specs.Machine.{run, settle, run_out, make_room, enqueued, behind, task_of, run_each, reopened}
+use Rattle.queued_changes.specs.Machine.{row_in, run, settle, run_out, make_room, enqueued, behind, task_of, run_each, reopened}
 use Rattle.queued_changes.specs.Run.{Step, Event, after, EndsIn, tasks_in, IsStep}
 
 module _ {C I : Type 0} (changed : List ℕ → C → I → Result I ℕ) where
+  -- an outcome is that of a success exactly where the change was made
+  abbrev pub OutcomesTell : (List ℕ → C → Type 0) → Type 0
+  OutcomesTell accepts = (uid : List ℕ) (change : C) (i : I) → accepts uid change
+      → (row_in (changed uid change i) ≡ 0) ↔ IsOk (changed uid change i)
+
   abbrev pub SettlingIsRunning : Type 0
   SettlingIsRunning = (s : State C I) → run_out changed (settle changed s) ≡ run_out changed s
 

@@ -1,6 +1,11 @@
-ghost use Rattle.queued_changes.specs.Laws.{SettlingIsRunning, RoomIsRunning, AcceptedRunsLast, AcceptedIsCounted, WaitingIsAccepting, OpeningRunsEach, TasksRunInOrder, EndRunsInOrder, TasksAreInOrder, TasksAreCounted};
+ghost use Rattle.queued_changes.specs.Laws.{OutcomesTell, SettlingIsRunning, RoomIsRunning, AcceptedRunsLast, AcceptedIsCounted, WaitingIsAccepting, OpeningRunsEach, TasksRunInOrder, EndRunsInOrder, TasksAreInOrder, TasksAreCounted};
 
 use crate::Worker;
+
+/// The outcome of a task is that of a success exactly where its change was made.
+pub fn outcomes_tell_what_was_made<C, W: Worker<C>>()
+    ensures { OutcomesTell W.changed W.accepts }
+{}
 
 /// To run the oldest batch, or to make room, changes nothing of what all tasks leave once they have run; and a change
 /// that is accepted is the last of them, and is counted.

@@ -12,7 +12,7 @@ mod queued;
 mod worker;
 
 pub use laws::{
-    opening_runs_each_task, requests_run_their_tasks_in_order,
+    opening_runs_each_task, outcomes_tell_what_was_made, requests_run_their_tasks_in_order,
     running_in_batches_is_running_in_order,
 };
 pub use queued::Queued;

@@ -1,4 +1,4 @@
-ghost use Rattle.std.specs.Prelude.{◌≡◌, ◌+◌, ◌≤◌, ℕ, List, map, Result, IfOk, OnOk, OnErr};
+ghost use Rattle.std.specs.Prelude.{◌≡◌, ◌≢◌, ◌+◌, ◌≤◌, ℕ, List, map, Result, Err, IfOk, OnOk, OnErr};
 ghost use Rattle.std.specs.List.{AllByRecursion};
 ghost use Rattle.task_queue.specs.declared.task.Task.{Task};
 ghost use Rattle.task_queue.specs.Queue.{row_of};
@@ -20,8 +20,8 @@ pub trait Worker<C>: Drop {
     ghost need: { List (Task C) → Self → ℕ };
 
     /// Makes the changes of a batch. What is held then is what they leave one by one, where one that is refused changes
-    /// nothing, and the outcomes are theirs, in order; no refusal has the number 0. `fetches` counts the stored
-    /// documents that are read. For want of memory nothing changes.
+    /// nothing, and the outcomes are theirs, in order. `fetches` counts the stored documents that are read. For want
+    /// of memory nothing changes.
     fn apply<F>(
         &mut self,
         alloc: Global,
@@ -34,4 +34,8 @@ pub trait Worker<C>: Drop {
         ensures outcomes { IfOk result (λ outcomes. map row_of outcomes.items ≡ rows_of changed batch.now self.old) }
         ensures stays { OnErr result (self.new ≡ self.old) }
         ensures fetched { fetches.new ≤ fetches.old + need batch.now self.old };
+
+    // No refusal has the number 0, which stands for a change that was made.
+    ghost numbered: { (uid : List ℕ) (change : C) (worker : Self)
+        → accepts uid change → changed uid change worker ≢ Err 0 };
 }

@@ -1,6 +1,6 @@
 // A worker that keeps the amounts that changes bring, and tells how it was asked for them.
 ghost use Rattle.std.specs.Prelude.{◌≡◌, [], map, IfOk};
-ghost use Rattle.tests_tasks.specs.Counter.{counted, outcome_of, amounts_of};
+ghost use Rattle.tests_tasks.specs.Counter.{counted, outcome_of, amounts_of, has_number};
 
 use queued_changes::Worker;
 use search_base::{NoMemory, Steps};
@@ -61,6 +61,8 @@ impl Worker<u8> for Counter {
         self.kept.append(&mut more)?;
         Ok(outcomes)
     }
+
+    ghost numbered = { λ uid amount kept accepted. has_number uid amount kept };
 }
 
 // The amounts that are kept of tasks, in order.

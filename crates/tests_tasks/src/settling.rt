@@ -1,5 +1,3 @@
-ghost use Rattle.std.specs.Prelude.{◌≡◌, []};
-
 use crate::counter::Counter;
 use queued_changes::Queued;
 use search_base::{Steps, Word};
@@ -48,49 +46,30 @@ fn told(rt: &impl Abort, alloc: Global, queued: &Queued<u8, Counter>) -> String 
     told
 }
 
+// Changes of two indexes and three kinds: five batches.
+const CUT: [Write; 7] = [
+    ("a", 3, 1),
+    ("a", 3, 2),
+    ("a", 4, 3),
+    ("b", 4, 4),
+    ("b", 4, 5),
+    ("b", 7, 6),
+    ("b", 7, 7),
+];
+
 // Changes, how often memory is wanting, how many batches are then settled, and what is told after that.
 type Row = (&'static [Write], u64, usize, &'static str);
 
-const ROWS: [Row; 8] = [
+const ROWS: [Row; 7] = [
     (&[], 0, 1, "0 wait, batches [], kept [], -"),
     (
-        &[
-            ("a", 3, 1),
-            ("a", 3, 2),
-            ("a", 4, 3),
-            ("b", 4, 4),
-            ("b", 4, 5),
-            ("b", 7, 6),
-            ("b", 7, 7),
-        ],
-        0,
-        0,
-        "7 wait, batches [], kept [], ???????-",
-    ),
-    (
-        &[
-            ("a", 3, 1),
-            ("a", 3, 2),
-            ("a", 4, 3),
-            ("b", 4, 4),
-            ("b", 4, 5),
-            ("b", 7, 6),
-            ("b", 7, 7),
-        ],
+        &CUT,
         0,
         2,
         "4 wait, batches [2, 1], kept [1, 2, 3], +++????-",
     ),
     (
-        &[
-            ("a", 3, 1),
-            ("a", 3, 2),
-            ("a", 4, 3),
-            ("b", 4, 4),
-            ("b", 4, 5),
-            ("b", 7, 6),
-            ("b", 7, 7),
-        ],
+        &CUT,
         0,
         5,
         "0 wait, batches [2, 1, 2, 1, 1], kept [1, 2, 3, 4, 5, 6, 7], +++++++-",
@@ -100,6 +79,12 @@ const ROWS: [Row; 8] = [
         0,
         1,
         "0 wait, batches [3], kept [1, 2], +27+-",
+    ),
+    (
+        &[("a", 3, 0), ("b", 3, 3)],
+        0,
+        3,
+        "0 wait, batches [1, 1], kept [3], 27+-",
     ),
     (
         &[("a", 3, 1), ("a", 3, 2), ("b", 3, 3)],
@@ -112,12 +97,6 @@ const ROWS: [Row; 8] = [
         1,
         2,
         "1 wait, batches [2], kept [1, 2], ++?-",
-    ),
-    (
-        &[("a", 3, 0), ("b", 3, 3)],
-        0,
-        3,
-        "0 wait, batches [1, 1], kept [3], 27+-",
     ),
 ];
 

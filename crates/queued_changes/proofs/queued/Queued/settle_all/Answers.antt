@@ -1,4 +1,4 @@
-use Rattle.std.proofs.Common.{◌∙◌, ◌<◌, ◌+◌, ◌≤◌, length, sym, ap, subst, arith}
+use Rattle.std.proofs.Common.{◌∙◌, ◌<◌, length, ap, subst, arith}
 use Rattle.queued_changes.specs.Machine.{run_out}
 use Rattle.queued_changes.specs.Needs.{out_need}
 use Rattle.queued_changes.proofs.Runs.{settled_out}
