@@ -1,4 +1,3 @@
 pub mod ApartLemmas
 pub mod PathLemmas
 pub mod StartLemmas
-pub mod ValueLemmas

@@ -1,5 +1,4 @@
 -- What a search sees of a document.
 pub mod Texts
-pub mod Grouped
 pub mod Facets
 pub mod Rows

@@ -9,10 +9,9 @@ use Rattle.search_base.specs.declared.document.Place.{Place}
 use Rattle.search_base.specs.declared.token.Token.{Token}
 use Rattle.search_base.specs.RowsView.{RowsView}
 use Rattle.token_words.specs.Tokens.{tokens}
-use Rattle.doc_values.specs.Leaves.{said_of}
-use Rattle.doc_values.specs.Walk.{flat_rows}
+use Rattle.doc_values.specs.Leaves.{found_at}
+use Rattle.doc_values.specs.Walk.{Visit, walk}
 use Rattle.doc_values.specs.declared.rows.Flat.{Flat}
-use Rattle.doc_values.specs.declared.rows.FlatRow.{FlatRow}
 use Rattle.doc_rows.specs.declared.path_use.PathUse.{PathUse}
 use Rattle.doc_rows.specs.Facets.{leaves_of_path, marks_of_path}
 use Rattle.doc_rows.specs.Texts.{leaf_text}
@@ -93,13 +92,13 @@ path_rows number path_use values = record {
   marks = marks_at number path_use.faceted values;
 }
 
--- what a search sees of each path, of which the first has this number, in a document that has these values
-abbrev pub rows_from : ℕ → List FlatRow → List (List ℕ) → List PathUse → RowsView
-rows_from number values [] uses = no_rows
-rows_from number values (path ∷ paths) [] = no_rows
-rows_from number values (path ∷ paths) (path_use ∷ uses) =
-    and_rows (path_rows number path_use (said_of path values)) (rows_from (number + 1) values paths uses)
+-- what a search sees of each path, of which the first has this number, in a document whose walk visits these members
+abbrev pub rows_from : ℕ → List Visit → List (List ℕ) → List PathUse → RowsView
+rows_from number visits [] uses = no_rows
+rows_from number visits (path ∷ paths) [] = no_rows
+rows_from number visits (path ∷ paths) (path_use ∷ uses) =
+    and_rows (path_rows number path_use (found_at path visits)) (rows_from (number + 1) visits paths uses)
 
 -- the rows of a document in an index with these paths, where each has its use
 abbrev pub rows_of : Data → List (List ℕ) → List PathUse → RowsView
-rows_of document paths uses = rows_from 0 (flat_rows document) paths uses
+rows_of document paths uses = rows_from 0 (walk document) paths uses

@@ -3,9 +3,9 @@ ghost use Rattle.doc_rows.specs.Rows.{and_rows, path_rows, rows_of};
 
 use crate::path_facets::{add_leaves, add_marks};
 use crate::path_use::PathUse;
-use crate::path_values::{values_at, values_by_path};
+use crate::path_values::values_at;
 use crate::path_words::add_places;
-use doc_values::{Document, Flat, flatten};
+use doc_values::{Document, Flat, values_by_path};
 use search_base::{DocRows, NoMemory, Word};
 use std::alloc::Global;
 
@@ -30,7 +30,7 @@ pub fn rows(
     requires uses { length uses.now ≡ length paths.now }
     ensures { IfOk result (λ rows. rows ≡ rows_of document.now paths.now uses.now) }
 {
-    let values = values_by_path(alloc, flatten(alloc, document)?)?;
+    let values = values_by_path(alloc, document)?;
     let mut rows = DocRows {
         places: Vec::new(alloc),
         leaves: Vec::new(alloc),

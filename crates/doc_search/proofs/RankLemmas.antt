@@ -5,9 +5,8 @@ use Rattle.std.specs.List.{AllByRecursion, filter, filter_map}
 use Rattle.search_base.specs.declared.document.Place.{Place}
 use Rattle.search_base.specs.declared.token.Token.{Token}
 use Rattle.token_words.specs.Tokens.{tokens}
-use Rattle.doc_values.specs.Leaves.{said_of}
-use Rattle.doc_values.specs.Walk.{flat_rows}
-use Rattle.doc_values.specs.declared.rows.FlatRow.{FlatRow}
+use Rattle.doc_values.specs.Leaves.{found_at}
+use Rattle.doc_values.specs.Walk.{Visit, walk}
 use Rattle.doc_rows.specs.declared.path_use.PathUse.{PathUse}
 use Rattle.doc_rows.specs.Rows.{place_of, next_start, all_places, places_of, places_at, is_searched, rows_from}
 use Rattle.doc_rows.specs.Texts.{leaf_text}
@@ -56,13 +55,13 @@ HoldFrom P number (path_use ∷ uses) = IfSome path_use.rank (λ rank. (position
 abbrev OfPlace : (ℕ → ℕ → List ℕ → ℕ → Type 0) → Place → Type 0
 OfPlace P place = P place.path.0 place.position place.word place.rank
 
-all-rows : (P : ℕ → ℕ → List ℕ → ℕ → Type 0) (number : ℕ) (values : List FlatRow) (paths : List (List ℕ)) (uses : List PathUse) → HoldFrom P number uses
-    → Have (OfPlace P) (rows_from number values paths uses).places
-all-rows P number values [] uses h = tt
-all-rows P number values (path ∷ paths) [] h = tt
-all-rows P number values (path ∷ paths) (path_use ∷ uses) h =
-    have-both (OfPlace P) (places_at number path_use.rank (filter_map leaf_text (said_of path values))) (rows_from (number + 1) values paths uses).places
-    (by path_use.rank (filter_map leaf_text (said_of path values)) h.0) (all-rows P (number + 1) values paths uses h.1)
+all-rows : (P : ℕ → ℕ → List ℕ → ℕ → Type 0) (number : ℕ) (visits : List Visit) (paths : List (List ℕ)) (uses : List PathUse) → HoldFrom P number uses
+    → Have (OfPlace P) (rows_from number visits paths uses).places
+all-rows P number visits [] uses h = tt
+all-rows P number visits (path ∷ paths) [] h = tt
+all-rows P number visits (path ∷ paths) (path_use ∷ uses) h =
+    have-both (OfPlace P) (places_at number path_use.rank (filter_map leaf_text (found_at path visits))) (rows_from (number + 1) visits paths uses).places
+    (by path_use.rank (filter_map leaf_text (found_at path visits)) h.0) (all-rows P (number + 1) visits paths uses h.1)
   where
     by : (rank : Option ℕ) (texts : List (List ℕ)) → IfSome rank (λ rank. (position : ℕ) (word : List ℕ) → P number position word rank) → Have (OfPlace P) (places_at number rank texts)
     by None texts h = tt
@@ -106,11 +105,11 @@ below-from bound number (path_use ∷ uses) h = (by path_use.rank h.0, below-fro
 
 pub have-ranks : (paths : List (List ℕ)) (uses : List PathUse) (rows : List Row) → HaveRanks (ranks_of uses) (map placed (documents_of paths uses rows))
 have-ranks paths uses [] = tt
-have-ranks paths uses (r ∷ rows) = (all-rows (RankIs uses) 0 (flat_rows r.document) paths uses (ranks-from [] uses), have-ranks paths uses rows)
+have-ranks paths uses (r ∷ rows) = (all-rows (RankIs uses) 0 (walk r.document) paths uses (ranks-from [] uses), have-ranks paths uses rows)
 
 pub are-ranked : (bound : ℕ) (paths : List (List ℕ)) (uses : List PathUse) (rows : List Row) → RankedBelow bound uses → AreRanked bound (documents_of paths uses rows)
 are-ranked bound paths uses [] h = tt
-are-ranked bound paths uses (r ∷ rows) h = (all-rows (λ path position word rank. rank < bound) 0 (flat_rows r.document) paths uses (below-from bound 0 uses h), are-ranked bound paths uses rows h)
+are-ranked bound paths uses (r ∷ rows) h = (all-rows (λ path position word rank. rank < bound) 0 (walk r.document) paths uses (below-from bound 0 uses h), are-ranked bound paths uses rows h)
 
 -- ---- the greatest rank
 pub below-more : (bound more : ℕ) (uses : List PathUse) → bound ≤ more → RankedBelow bound uses → RankedBelow more uses

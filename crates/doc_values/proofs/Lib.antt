@@ -4,3 +4,4 @@ pub mod Candidates
 pub mod Documents
 pub mod Broken
 pub mod Leaves
+pub mod Grouped

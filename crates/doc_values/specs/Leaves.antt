@@ -1,12 +1,11 @@
--- What a path holds, read off the walk, and what the rows of a document say of it.
-use Rattle.std.specs.Prelude.{◌≡◌, ℕ, List, [], ◌∷◌, ◌++◌, if◌then◌else◌, bytes_eq, Option, Some, None}
+-- What a path holds, read off the walk.
+use Rattle.std.specs.Prelude.{ℕ, List, [], ◌∷◌, ◌++◌, if◌then◌else◌, bytes_eq, Option, Some, None}
 use Rattle.serde_json.specs.Data.{Data, null, boolean, number, string, array, object, Items, no_items, item}
 use Rattle.search_base.specs.declared.document.MarkKind.{MarkKind}
 use Rattle.search_base.specs.declared.document.MarkKind.TheVariants.{Exists}
-use Rattle.doc_values.specs.declared.rows.FlatRow.{FlatRow}
 use Rattle.doc_values.specs.declared.rows.Flat.{Flat}
 use Rattle.doc_values.specs.declared.rows.Flat.TheVariants.{Text, Number, Bool as Truth, Mark}
-use Rattle.doc_values.specs.Walk.{Visit, walk, flat_rows, mark_of, whole_number}
+use Rattle.doc_values.specs.Walk.{Visit, mark_of, whole_number}
 
 -- the texts, numbers and truth values of a value, with arrays opened at any nesting; an object has none
 abbrev mutual
@@ -36,12 +35,3 @@ found_at path [] = []
 found_at path (visit ∷ later) =
     if bytes_eq path visit.path then marks_of visit.value ++ (leaves_of visit.value ++ found_at path later)
     else found_at path later
-
--- what rows say of a path
-abbrev pub said_of : List ℕ → List FlatRow → List Flat
-said_of path [] = []
-said_of path (r ∷ rows) = if bytes_eq path r.path then r.value ∷ said_of path rows else said_of path rows
-
--- the rows of a document say of each path what its walk finds there, and in that order
-abbrev pub RowsSayTheWalk : Type 0
-RowsSayTheWalk = (d : Data) (path : List ℕ) → said_of path (flat_rows d) ≡ found_at path (walk d)

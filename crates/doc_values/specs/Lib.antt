@@ -7,3 +7,4 @@ pub mod Bodies
 pub mod Changes
 pub mod Texts
 pub mod Leaves
+pub mod Grouped

@@ -1,12 +1,11 @@
--- The walk of a document, and what is read off it: its paths, its first number that is not whole, and its rows.
-use Rattle.std.specs.Prelude.{ℕ, ℤ, pos, List, [], ◌∷◌, ◌++◌, map, Bool, false, ◌||◌, if◌then◌else◌, Option, Some, None, Result, Ok, Err}
+-- The walk of a document, and what is read off it: its paths, its first number that is not whole, and the second mark
+-- of a value.
+use Rattle.std.specs.Prelude.{ℕ, ℤ, pos, List, [], ◌∷◌, ◌++◌, map, Bool, false, ◌||◌, if◌then◌else◌, Option, Some, None, Result, Ok, Err, get_or}
+use Rattle.std.specs.Option.{option_map}
 use Rattle.serde_json.specs.Data.{Num, unsigned, negative, float, Data, null, boolean, number, string, array, object, Items, no_items, item, Members, no_members, member}
 use Rattle.serde_json.specs.Find.{is_float}
 use Rattle.search_base.specs.declared.document.MarkKind.{MarkKind}
-use Rattle.search_base.specs.declared.document.MarkKind.TheVariants.{Exists, Null, Empty}
-use Rattle.doc_values.specs.declared.rows.FlatRow.{FlatRow}
-use Rattle.doc_values.specs.declared.rows.Flat.{Flat}
-use Rattle.doc_values.specs.declared.rows.Flat.TheVariants.{Text, Number, Bool as Truth, Mark}
+use Rattle.search_base.specs.declared.document.MarkKind.TheVariants.{Null, Empty}
 use Rattle.search_base.specs.Trying.{◌>>◌}
 use Rattle.doc_values.specs.declared.document.DocumentRefusal.{DocumentRefusal}
 use Rattle.doc_values.specs.declared.document.DocumentRefusal.TheVariants.{NotObject, NumberNotWhole}
@@ -63,6 +62,10 @@ visited visits = map (λ visit. visit.path) visits
 abbrev pub paths_of : Data → List (List ℕ)
 paths_of d = visited (walk d)
 
+-- the path at a place among paths, which may be none
+abbrev pub path_at : List (List ℕ) → Option ℕ → Option (List ℕ)
+path_at paths place = option_map (λ place. get_or paths place []) place
+
 -- ---- numbers that are not whole
 
 -- whether a value holds a number that is not whole directly: through arrays, and not through objects
@@ -93,10 +96,7 @@ document_of (string s) = Err NotObject
 document_of (array ds) = Err NotObject
 document_of (object ms) = first_broken (walk_of_members None ms) >> Ok (object ms)
 
--- ---- rows
-
-abbrev pub row : List ℕ → Flat → FlatRow
-row path value = record { path = path; value = value }
+-- ---- what a value is at its path
 
 -- the mark that holds of a value beside `Exists`
 abbrev pub mark_of : Data → Option MarkKind
@@ -110,38 +110,8 @@ mark_of (array (item d ds)) = None
 mark_of (object no_members) = Some Empty
 mark_of (object (member k d ms)) = None
 
-abbrev pub second_row : List ℕ → Option MarkKind → List FlatRow
-second_row path None = []
-second_row path (Some kind) = row path (Mark kind) ∷ []
-
-abbrev pub mark_rows : List ℕ → Data → List FlatRow
-mark_rows path d = row path (Mark Exists) ∷ second_row path (mark_of d)
-
 -- a document holds whole numbers alone
 abbrev pub whole_number : Num → ℤ
 whole_number (unsigned n) = pos n
 whole_number (negative z) = z
 whole_number (float x) = pos 0
-
--- The leaves of a value at a path and the rows of the members in it, as they stand in the value.
-abbrev mutual
-  pub rows_in : List ℕ → Data → List FlatRow
-  rows_in path null = []
-  rows_in path (boolean b) = row path (Truth b) ∷ []
-  rows_in path (number n) = row path (Number (whole_number n)) ∷ []
-  rows_in path (string s) = row path (Text s) ∷ []
-  rows_in path (array ds) = rows_in_items path ds
-  rows_in path (object ms) = rows_of_members (Some path) ms
-
-  pub rows_in_items : List ℕ → Items → List FlatRow
-  rows_in_items path no_items = []
-  rows_in_items path (item d ds) = rows_in path d ++ rows_in_items path ds
-
-  pub rows_of_members : Option (List ℕ) → Members → List FlatRow
-  rows_of_members above no_members = []
-  rows_of_members above (member name d ms) =
-      let path = path_of above name in mark_rows path d ++ (rows_in path d ++ rows_of_members above ms)
-
--- the rows of a document
-abbrev pub flat_rows : Data → List FlatRow
-flat_rows d = rows_of_members None (members_in d)

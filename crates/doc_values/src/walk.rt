@@ -1,7 +1,8 @@
-ghost use Rattle.std.specs.Prelude.{◌≡◌, ◌++◌, IfOk, OnOk, map};
-ghost use Rattle.std.specs.Option.{option_copied};
+ghost use Rattle.std.specs.Prelude.{◌≡◌, ◌<◌, [], ◌++◌, length, get_or, Some, IfOk, OnOk};
+ghost use Rattle.std.specs.Option.{option_copied, IfSome};
 ghost use Rattle.serde_json.specs.View.{view, items_view, members_view};
-ghost use Rattle.doc_values.specs.Walk.{path_of, paths_of, visited, walk_of_members, walk_inside, walk_inside_items};
+ghost use Rattle.doc_values.specs.Walk.{path_of, paths_of, path_at as at_place, visited};
+ghost use Rattle.doc_values.specs.Walk.{walk_of_members, walk_inside, walk_inside_items};
 
 use crate::document::Document;
 use search_base::{NoMemory, Word};
@@ -28,46 +29,57 @@ pub(crate) fn member_path(alloc: Global, above: Option<&Word>, name: &str) -> Re
 {
     match above {
         None => Word::new(alloc, name),
-        Some(above) => {
-            let path = format!(in alloc; "{}.{}", above.as_str(), name)?;
-            Word::new(alloc, path.as_str())
-        }
+        Some(above) => Word::from_string(format!(in alloc; "{}.{}", above.as_str(), name)?),
     }
 }
 
-// The members of an object, and those inside them.
+// The path at a place among paths, which may be none.
+fn path_at(paths: &[Word], place: Option<usize>) -> Option<&Word>
+    requires { IfSome place (λ place. place < length paths.now) }
+    ensures { option_copied result ≡ at_place paths.now place }
+{
+    match place {
+        None => None,
+        Some(place) => Some(&paths[place]),
+    }
+}
+
+// The members of an object, and those inside them. The path of the member above them stands among the paths.
 #[cycle(add)]
 fn add_members(
     alloc: Global,
-    above: Option<&Word>,
+    above: Option<usize>,
     members: &Map<String, Value>,
     paths: &mut Vec<Word>,
 ) -> Result<(), NoMemory>
+    requires { IfSome above (λ place. place < length paths.old.items) }
     ensures { OnOk result (paths.new.items ≡ paths.old.items
-        ++ visited (walk_of_members (option_copied above.entry) (members_view members.now.entries))) }
+        ++ visited (walk_of_members (at_place paths.old.items above) (members_view members.now.entries))) }
 {
     for (name, member) in members.iter() {
-        let path = member_path(alloc, above, name.as_str())?;
-        paths.push(path.clone()?)?;
-        add_inside(alloc, &path, member, paths)?;
+        let path = member_path(alloc, path_at(paths, above), name.as_str())?;
+        let place = paths.len();
+        paths.push(path)?;
+        add_inside(alloc, place, member, paths)?;
     }
     Ok(())
 }
 
-// The members inside a value.
+// The members inside a value, whose path stands at this place among the paths.
 #[cycle(add)]
 fn add_inside(
     alloc: Global,
-    path: &Word,
+    place: usize,
     value: &Value,
     paths: &mut Vec<Word>,
 ) -> Result<(), NoMemory>
-    ensures { OnOk result (paths.new.items
-        ≡ paths.old.items ++ visited (walk_inside path.now (view value.now))) }
+    requires { place < length paths.old.items }
+    ensures { OnOk result (paths.new.items ≡ paths.old.items
+        ++ visited (walk_inside (get_or paths.old.items place []) (view value.now))) }
 {
     match value {
-        Value::Array(items) => add_inside_items(alloc, path, items, paths),
-        Value::Object(members) => add_members(alloc, Some(path), members, paths),
+        Value::Array(items) => add_inside_items(alloc, place, items, paths),
+        Value::Object(members) => add_members(alloc, Some(place), members, paths),
         _ => Ok(()),
     }
 }
@@ -75,15 +87,16 @@ fn add_inside(
 #[cycle(add)]
 fn add_inside_items(
     alloc: Global,
-    path: &Word,
+    place: usize,
     items: &Vec<Value>,
     paths: &mut Vec<Word>,
 ) -> Result<(), NoMemory>
-    ensures { OnOk result (paths.new.items
-        ≡ paths.old.items ++ visited (walk_inside_items path.now (items_view items.now.items))) }
+    requires { place < length paths.old.items }
+    ensures { OnOk result (paths.new.items ≡ paths.old.items
+        ++ visited (walk_inside_items (get_or paths.old.items place []) (items_view items.now.items))) }
 {
     for item in items {
-        add_inside(alloc, path, item, paths)?;
+        add_inside(alloc, place, item, paths)?;
     }
     Ok(())
 }

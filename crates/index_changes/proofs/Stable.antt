@@ -4,13 +4,12 @@ use Rattle.std.specs.Prelude.{bytes_eq}
 use Rattle.std.proofs.lemmas.Bool.{cond-false, true≢false}
 use Rattle.serde_json.specs.Data.{Data}
 use Rattle.search_base.specs.RowsView.{RowsView}
-use Rattle.doc_values.specs.Walk.{Visit, walk, visited, paths_of, members_in, flat_rows}
-use Rattle.doc_values.specs.Leaves.{found_at, said_of}
+use Rattle.doc_values.specs.Walk.{Visit, walk, visited, paths_of}
+use Rattle.doc_values.specs.Leaves.{found_at}
 use Rattle.doc_rows.specs.declared.path_use.PathUse.{PathUse}
 use Rattle.doc_rows.specs.Rows.{no_rows, and_rows, path_rows, rows_from, rows_of}
 use Rattle.index_settings.specs.View.{SettingsView}
 use Rattle.search_settings.specs.Uses.{use_of, uses_from}
-use Rattle.doc_values.proofs.Leaves.{members_say}
 use Rattle.doc_store.proofs.NameLemmas.{same_bytes, bytes_eq-turned}
 use Rattle.doc_store.specs.Paths.{has_path}
 use Rattle.doc_store.specs.Store.{Row}
@@ -31,9 +30,6 @@ found-none path paths (visit ∷ visits) absent h = by (bytes_eq path visit.path
     by true e rest = absurd (true≢false (sym (ap (λ p. has_path p paths) (same_bytes path visit.path e) ∙ h.0) ∙ absent))
     by false e rest = cond-false _ _ _ e ∙ rest
 
-values-none : (path : List ℕ) (paths : List (List ℕ)) (d : Data) → has_path path paths ≡ false → AreRegistered (paths_of d) paths → said_of path (flat_rows d) ≡ []
-values-none path paths d absent h = members_say path None (members_in d) ∙ found-none path paths (walk d) absent h
-
 -- each of these paths is not among the others
 abbrev AreAbsent : List (List ℕ) → List (List ℕ) → Type 0
 AreAbsent [] paths = Unit {0}
@@ -48,17 +44,17 @@ no-values number path_use = by path_use.rank path_use.faceted
     by (Some rank) true = refl
     by (Some rank) false = refl
 
-rows-none : (st : SettingsView) (number : ℕ) (d : Data) (more paths : List (List ℕ)) → AreAbsent more paths → AreRegistered (paths_of d) paths → rows_from number (flat_rows d) more (uses_from st number more) ≡ no_rows
+rows-none : (st : SettingsView) (number : ℕ) (d : Data) (more paths : List (List ℕ)) → AreAbsent more paths → AreRegistered (paths_of d) paths → rows_from number (walk d) more (uses_from st number more) ≡ no_rows
 rows-none st number d [] paths absent h = refl
 rows-none st number d (path ∷ more) paths absent h =
-    let later = rows_from (number + 1) (flat_rows d) more (uses_from st (number + 1) more) in
-    ap (λ values. and_rows (path_rows number (use_of st path number) values) later) (values-none path paths d absent.0 h)
+    let later = rows_from (number + 1) (walk d) more (uses_from st (number + 1) more) in
+    ap (λ values. and_rows (path_rows number (use_of st path number) values) later) (found-none path paths (walk d) absent.0 h)
     ∙ ap (λ v. and_rows v later) (no-values number (use_of st path number)) ∙ rows-none st (number + 1) d more paths absent.1 h
 
 rows-append : (st : SettingsView) (number : ℕ) (d : Data) (more paths before : List (List ℕ)) → AreAbsent more before → AreRegistered (paths_of d) before
-    → rows_from number (flat_rows d) (paths ++ more) (uses_from st number (paths ++ more)) ≡ rows_from number (flat_rows d) paths (uses_from st number paths)
+    → rows_from number (walk d) (paths ++ more) (uses_from st number (paths ++ more)) ≡ rows_from number (walk d) paths (uses_from st number paths)
 rows-append st number d more [] before absent h = rows-none st number d more before absent h
-rows-append st number d more (path ∷ paths) before absent h = ap (and_rows (path_rows number (use_of st path number) (said_of path (flat_rows d)))) (rows-append st (number + 1) d more paths before absent h)
+rows-append st number d more (path ∷ paths) before absent h = ap (and_rows (path_rows number (use_of st path number) (found_at path (walk d)))) (rows-append st (number + 1) d more paths before absent h)
 
 rows-stay : (st : SettingsView) (d : Data) (paths more : List (List ℕ)) → AreAbsent more paths → AreRegistered (paths_of d) paths → rows_with st (paths ++ more) d ≡ rows_with st paths d
 rows-stay st d paths more absent h = rows-append st 0 d more paths paths absent h

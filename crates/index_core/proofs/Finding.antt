@@ -44,7 +44,8 @@ use Rattle.index_core.specs.Among.{IsFound, IsSearchOf, compared_found, ids_foun
 use Rattle.index_core.specs.Distinct.{distinct_attribute_in}
 use Rattle.index_core.specs.Fetches.{compared_of}
 use Rattle.index_core.specs.Looked.{looked_under}
-use Rattle.index_core.specs.Found.{Found, FoundHit, hit_of, asked, asked_of, slice_of, in_order, texts_of, most_hits, window_end, window_size, counts_of}
+use Rattle.search_result.specs.View.{Found, HitView}
+use Rattle.index_core.specs.Found.{hit_of, asked, asked_of, slice_of, in_order, texts_of, most_hits, window_end, window_size, counts_of}
 use Rattle.search_settings.specs.Asked.{paths_asked}
 use Rattle.doc_rows.specs.Rows.{rows_of}
 use Rattle.index_core.specs.declared.ranking.Ranking.{Ranking}
@@ -213,11 +214,11 @@ length-map f [] = refl
 length-map f (x ∷ xs) = ap suc (length-map f xs)
 
 -- what is found, by its parts
-pub found-same : (f : Found) (hits : List FoundHit) (total : ℕ) (facets : Option (List FacetView)) → hits ≡ f.hits → total ≡ f.total → facets ≡ f.facets
+pub found-same : (f : Found) (hits : List HitView) (total : ℕ) (facets : Option (List FacetView)) → hits ≡ f.hits → total ≡ f.total → facets ≡ f.facets
     → record { hits = hits; total = total; facets = facets } ≡ f
 found-same f hits total facets e1 e2 e3 = ap (λ v. made v total facets) e1 ∙ ap (λ v. made f.hits v facets) e2 ∙ ap (λ v. made f.hits f.total v) e3
   where
-    made : List FoundHit → ℕ → Option (List FacetView) → Found
+    made : List HitView → ℕ → Option (List FacetView) → Found
     made a b c = record { hits = a; total = b; facets = c }
 
 -- a window whose offset is cut at some number at least as great as its end

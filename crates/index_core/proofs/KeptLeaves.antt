@@ -10,10 +10,9 @@ use Rattle.std.proofs.lemmas.Slice.Eq.{bytes_eq-Decides}
 use Rattle.search_base.specs.declared.document.Leaf.{Leaf}
 use Rattle.search_base.specs.declared.document.PathId.{PathId}
 use Rattle.search_base.specs.SortKeys.{leaves_under}
-use Rattle.doc_values.specs.Leaves.{said_of}
-use Rattle.doc_values.specs.Walk.{flat_rows}
+use Rattle.doc_values.specs.Leaves.{found_at}
+use Rattle.doc_values.specs.Walk.{Visit, walk}
 use Rattle.doc_values.specs.declared.rows.Flat.{Flat}
-use Rattle.doc_values.specs.declared.rows.FlatRow.{FlatRow}
 use Rattle.doc_rows.specs.declared.path_use.PathUse.{PathUse}
 use Rattle.doc_rows.specs.Facets.{leaf_at, leaves_of_path}
 use Rattle.doc_rows.specs.Rows.{rows_from, rows_of, leaves_at}
@@ -78,39 +77,39 @@ lower-at m n false vs less = refl
 
 -- ---- the leaves of a document, path by path
 
-abbrev all_leaves : ℕ → List FlatRow → List (List ℕ) → List PathUse → List Leaf
-all_leaves number values paths uses = (rows_from number values paths uses).leaves
+abbrev all_leaves : ℕ → List Visit → List (List ℕ) → List PathUse → List Leaf
+all_leaves number visits paths uses = (rows_from number visits paths uses).leaves
 
 -- no leaf has a path of a lower number than the first
-none-before : (m number : ℕ) (values : List FlatRow) (paths : List (List ℕ)) (uses : List PathUse) → m < number → leaves_under m (all_leaves number values paths uses) ≡ []
-none-before m number values [] uses less = refl
-none-before m number values (path ∷ paths) [] less = refl
-none-before m number values (path ∷ paths) (u ∷ uses) less =
-    filter-append (λ leaf. leaf.path.0 == m) (leaves_at number u.faceted (said_of path values)) (all_leaves (number + 1) values paths uses)
-    ∙ ap₂ (λ v w. v ++ w) (other-at m number u.faceted (said_of path values) less) (none-before m (number + 1) values paths uses (omega arith))
+none-before : (m number : ℕ) (visits : List Visit) (paths : List (List ℕ)) (uses : List PathUse) → m < number → leaves_under m (all_leaves number visits paths uses) ≡ []
+none-before m number visits [] uses less = refl
+none-before m number visits (path ∷ paths) [] less = refl
+none-before m number visits (path ∷ paths) (u ∷ uses) less =
+    filter-append (λ leaf. leaf.path.0 == m) (leaves_at number u.faceted (found_at path visits)) (all_leaves (number + 1) visits paths uses)
+    ∙ ap₂ (λ v w. v ++ w) (other-at m number u.faceted (found_at path visits) less) (none-before m (number + 1) visits paths uses (omega arith))
 
-leaves-there : (k number : ℕ) (values : List FlatRow) (paths : List (List ℕ)) (uses : List PathUse) → k < length paths → option_map (λ path_use. path_use.faceted) (slice_get uses k) ≡ Some true
-    → leaves_under (number + k) (all_leaves number values paths uses) ≡ leaves_of_path (number + k) (said_of (get_or paths k []) values)
-leaves-there k number values [] uses less kept = absurd (omega arith)
-leaves-there k number values (path ∷ paths) [] less kept = absurd (cc)
-leaves-there zero number values (path ∷ paths) (u ∷ uses) less kept =
+leaves-there : (k number : ℕ) (visits : List Visit) (paths : List (List ℕ)) (uses : List PathUse) → k < length paths → option_map (λ path_use. path_use.faceted) (slice_get uses k) ≡ Some true
+    → leaves_under (number + k) (all_leaves number visits paths uses) ≡ leaves_of_path (number + k) (found_at (get_or paths k []) visits)
+leaves-there k number visits [] uses less kept = absurd (omega arith)
+leaves-there k number visits (path ∷ paths) [] less kept = absurd (cc)
+leaves-there zero number visits (path ∷ paths) (u ∷ uses) less kept =
     let faceted : u.faceted ≡ true = some-same u.faceted true kept in
-    let own = said_of path values in
+    let own = found_at path visits in
     let same : number + 0 ≡ number = omega arith in
-    ap (λ n. leaves_under n (leaves_at number u.faceted own ++ all_leaves (number + 1) values paths uses)) same
-    ∙ filter-append (λ leaf. leaf.path.0 == number) (leaves_at number u.faceted own) (all_leaves (number + 1) values paths uses)
-    ∙ ap₂ (λ v w. v ++ w) (ap (λ b. leaves_under number (leaves_at number b own)) faceted ∙ own-leaves number own) (none-before number (number + 1) values paths uses (omega arith))
+    ap (λ n. leaves_under n (leaves_at number u.faceted own ++ all_leaves (number + 1) visits paths uses)) same
+    ∙ filter-append (λ leaf. leaf.path.0 == number) (leaves_at number u.faceted own) (all_leaves (number + 1) visits paths uses)
+    ∙ ap₂ (λ v w. v ++ w) (ap (λ b. leaves_under number (leaves_at number b own)) faceted ∙ own-leaves number own) (none-before number (number + 1) visits paths uses (omega arith))
     ∙ append-nil (leaves_of_path number own) ∙ ap (λ n. leaves_of_path n own) (sym same)
   where
     some-same : (a b : Bool) → Some a ≡ Some b → a ≡ b
     some-same a b h = cc
-leaves-there (suc k) number values (path ∷ paths) (u ∷ uses) less kept =
+leaves-there (suc k) number visits (path ∷ paths) (u ∷ uses) less kept =
     let same : number + suc k ≡ (number + 1) + k = omega arith in
-    let there : leaves_under ((number + 1) + k) (all_leaves (number + 1) values paths uses) ≡ leaves_of_path ((number + 1) + k) (said_of (get_or paths k []) values) =
-    leaves-there k (number + 1) values paths uses (omega arith) kept in
-    filter-append (λ leaf. leaf.path.0 == number + suc k) (leaves_at number u.faceted (said_of path values)) (all_leaves (number + 1) values paths uses)
-    ∙ ap₂ (λ v w. v ++ w) (lower-at (number + suc k) number u.faceted (said_of path values) (omega arith)) (ap (λ n. leaves_under n (all_leaves (number + 1) values paths uses)) same)
-    ∙ there ∙ ap (λ n. leaves_of_path n (said_of (get_or paths k []) values)) (sym same)
+    let there : leaves_under ((number + 1) + k) (all_leaves (number + 1) visits paths uses) ≡ leaves_of_path ((number + 1) + k) (found_at (get_or paths k []) visits) =
+    leaves-there k (number + 1) visits paths uses (omega arith) kept in
+    filter-append (λ leaf. leaf.path.0 == number + suc k) (leaves_at number u.faceted (found_at path visits)) (all_leaves (number + 1) visits paths uses)
+    ∙ ap₂ (λ v w. v ++ w) (lower-at (number + suc k) number u.faceted (found_at path visits) (omega arith)) (ap (λ n. leaves_under n (all_leaves (number + 1) visits paths uses)) same)
+    ∙ there ∙ ap (λ n. leaves_of_path n (found_at (get_or paths k []) visits)) (sym same)
 
 -- ---- the documents of an index
 
@@ -143,12 +142,12 @@ module _ (index_is : Index) (attribute : List ℕ) (path : PathId) (is : IsKeptP
       let zero_plus : 0 + path.0 ≡ path.0 = omega arith in
       let found = position-Some (λ p. bytes_eq p attribute) paths path.0 [] named in
       let same : get_or paths path.0 [] ≡ attribute = (bytes_eq-Decides (get_or paths path.0 []) attribute).0 found.1 in
-      let there : leaves_under (0 + path.0) (rows_of document paths (uses_in index_is)).leaves ≡ leaves_of_path (0 + path.0) (said_of (get_or paths path.0 []) (flat_rows document)) =
-      leaves-there path.0 0 (flat_rows document) paths (uses_in index_is) found.0 is.kept in
+      let there : leaves_under (0 + path.0) (rows_of document paths (uses_in index_is)).leaves ≡ leaves_of_path (0 + path.0) (found_at (get_or paths path.0 []) (walk document)) =
+      leaves-there path.0 0 (walk document) paths (uses_in index_is) found.0 is.kept in
       ap (λ n. map (λ leaf. leaf.value) (leaves_under n (rows_of document paths (uses_in index_is)).leaves)) (sym zero_plus)
       ∙ ap (map (λ leaf. leaf.value)) there
-      ∙ ap (λ p. map (λ leaf. leaf.value) (leaves_of_path (0 + path.0) (said_of p (flat_rows document)))) same
-      ∙ values-any (0 + path.0) 0 (said_of attribute (flat_rows document))
+      ∙ ap (λ p. map (λ leaf. leaf.value) (leaves_of_path (0 + path.0) (found_at p (walk document)))) same
+      ∙ values-any (0 + path.0) 0 (found_at attribute (walk document))
 
   document-at : (d : ℕ) (rs : List Row) → document_at d (documents_of paths (uses_in index_is) rs) ≡ option_map (document_of paths (uses_in index_is)) (row_at d rs)
   document-at d [] = refl

@@ -5,8 +5,8 @@ use Rattle.std.specs.Option.{option_map}
 use Rattle.serde_json.specs.Data.{Data}
 use Rattle.search_base.specs.declared.document.PathId.{PathId}
 use Rattle.search_base.specs.declared.value.FacetValue.{FacetValue}
-use Rattle.doc_values.specs.Leaves.{said_of}
-use Rattle.doc_values.specs.Walk.{flat_rows}
+use Rattle.doc_values.specs.Leaves.{found_at}
+use Rattle.doc_values.specs.Walk.{walk}
 use Rattle.doc_rows.specs.Facets.{leaves_of_path}
 use Rattle.doc_rows.specs.Rows.{rows_of}
 use Rattle.doc_search.specs.Searched.{DocumentsView, documents_in}
@@ -21,7 +21,7 @@ use Rattle.index_core.proofs.KeptLeaves.{kept-values}
 -- a document as the only path is used sees it
 pub one-path : (attribute : List ℕ) (document : Data)
     → map (λ leaf. leaf.value) (rows_of document (attribute ∷ []) (record { rank = None; faceted = true } ∷ [])).leaves ≡ values_under attribute document
-one-path attribute document = ap (map (λ leaf. leaf.value)) (append-nil (leaves_of_path 0 (said_of attribute (flat_rows document))))
+one-path attribute document = ap (map (λ leaf. leaf.value)) (append-nil (leaves_of_path 0 (found_at attribute (walk document))))
 
 -- a document that was read
 pub stored-some : (attribute : List ℕ) (o : Option Row) (document : Data) (values : List FacetValue) → Some document ≡ option_map (λ r. r.document) o → values ≡ values_under attribute document

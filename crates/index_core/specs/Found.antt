@@ -11,6 +11,7 @@ use Rattle.search_call.specs.SearchView.{SearchView}
 use Rattle.search_call.specs.Windows.{offset_of, limit_of}
 use Rattle.facet_counts.specs.FacetView.{FacetView}
 use Rattle.facet_counts.specs.Counts.{counted}
+use Rattle.search_result.specs.View.{HitView, Found}
 use Rattle.search_settings.specs.declared.refusal.SearchRefusal.{SearchRefusal}
 use Rattle.index_changes.specs.Index.{Index}
 use Rattle.distinct_hits.specs.Kept.{kept}
@@ -19,17 +20,6 @@ use Rattle.index_core.specs.Distinct.{distinct_attribute_in, texts_under}
 use Rattle.index_core.specs.Matching.{Matching, matching, rows_matching}
 use Rattle.search_settings.specs.Asked.{facet_paths}
 use Rattle.search_settings.specs.SearchFaults.{search_fault}
-
--- a document that is found, and the costs by which it stands where it stands, where they are asked for
-pub record FoundHit : Type 0 where
-  pub document : Data
-  pub costs : Option (List CostKey)
-
--- the hits, the number of matches, and the counts where they are asked for
-pub record Found : Type 0 where
-  pub hits : List FoundHit
-  pub total : ℕ
-  pub facets : Option (List FacetView)
 
 -- ---- hits
 
@@ -45,7 +35,7 @@ window_end most call = min (offset_of call.window + limit_of call.window) most
 abbrev pub window_size : ℕ → SearchView → ℕ
 window_size most call = window_end most call - offset_of call.window
 
-abbrev pub hit_of : SearchView → Matching → FoundHit
+abbrev pub hit_of : SearchView → Matching → HitView
 hit_of call m = record { document = m.row.document; costs = if call.costs then Some m.costs else None }
 
 -- of documents that match those from a place on, of which there are at most as many as the limit says, in their order

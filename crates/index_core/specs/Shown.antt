@@ -8,14 +8,10 @@ use Rattle.search_base.specs.Query.{tuple_under}
 use Rattle.doc_store.specs.Store.{Row, row_at}
 use Rattle.facet_counts.specs.FacetView.{FacetView}
 use Rattle.search_call.specs.SearchView.{SearchView}
-use Rattle.index_core.specs.declared.call.Hit.{Hit}
-use Rattle.index_core.specs.declared.call.SearchResult.{SearchResult}
+use Rattle.search_result.specs.View.{HitView}
 use Rattle.index_changes.specs.Index.{Index}
-use Rattle.index_core.specs.Found.{FoundHit, Found, found_in}
+use Rattle.index_core.specs.Found.{found_in}
 use Rattle.index_core.specs.Matching.{rows_in, query_in, rules_in}
-
-abbrev pub hit_shown : Hit → FoundHit
-hit_shown hit = record { document = hit.document.now; costs = option_map (λ costs. costs.items) hit.costs }
 
 -- the costs of a document under a search, where it asks for them
 abbrev pub costs_shown : Index → SearchView → Data → Option (List CostKey)
@@ -23,20 +19,12 @@ costs_shown index call document =
     if call.costs then tuple_under (rows_in index document) (query_in index call) (rules_in index call) else None
 
 -- a stored document as a hit of a search
-abbrev pub hit_under : Index → SearchView → Row → FoundHit
+abbrev pub hit_under : Index → SearchView → Row → HitView
 hit_under index call row = record { document = row.document; costs = costs_shown index call row.document }
 
 -- the document with an internal id as a hit, where there is one
-abbrev pub hit_at : Index → SearchView → ℕ → Option FoundHit
+abbrev pub hit_at : Index → SearchView → ℕ → Option HitView
 hit_at index call id = option_map (hit_under index call) (row_at id index.store.rows)
-
--- what a search found, as the code holds it
-abbrev pub result_shown : SearchResult → Found
-result_shown result = record {
-  hits = map hit_shown result.hits.items;
-  total = result.total;
-  facets = option_map (λ facets. facets.items) result.facets;
-}
 
 -- these are the internal ids of the hits, and the numbers and counts that the search finds, before a document is read
 pub record Finds (index : Index) (call : SearchView) (ids : List ℕ) (matches : ℕ) (counts : Option (List FacetView))

@@ -34,9 +34,10 @@ ghost use Rattle.doc_search.specs.Searched.{documents_in as documents_searched};
 ghost use Rattle.bucket_sort.specs.Opens.{log_state, Opens, is_starved};
 ghost use Rattle.index_core.specs.Opened.{opened, opened_in, most_opened};
 ghost use Rattle.index_core.specs.Ranking.{IsRankingOf};
-ghost use Rattle.index_core.specs.Shown.{result_shown, hit_shown, hit_at, Finds};
+ghost use Rattle.index_core.specs.Shown.{hit_at, Finds};
+ghost use Rattle.search_result.specs.View.{found_view, hit_view};
 
-use crate::call::{Hit, Listing, SearchResult};
+use crate::call::Listing;
 use crate::distinct::search_stored;
 use crate::findings::{Findings, if_asked};
 use crate::ranking::{Ranking, costs_of};
@@ -64,6 +65,7 @@ use row_index::RowIndex;
 use rule_buckets::HitWindow;
 use search_base::{DocId, NoMemory, PathId, Steps, Word};
 use search_call::{FacetCall, SearchCall};
+use search_result::{Hit, SearchResult};
 use search_settings::{
     QueryWords, SearchFault, asked_paths, check_facet_search, check_search, path_named,
     ranks_are_low, rules_of, window_end, window_start,
@@ -396,7 +398,7 @@ impl IndexCore {
         openings: &mut Steps<G>,
     ) -> Result<SearchResult, SearchFault>
         requires { Unit {0} }
-        ensures answer { Gives result_shown result (found self.now call.now) }
+        ensures answer { Gives found_view result (found self.now call.now) }
         ensures terms { IfOk result (λ found. HaveSame found.terms.items (terms_in self.now call.now)) }
         ensures full { IfOk result (λ found. length found.hits.items ≡ min (window_size (most_hits self.now) call.now)
             (length (candidates self.now call.now) - offset_of call.now.window)) }
@@ -577,7 +579,7 @@ impl IndexCore {
         fetches: &mut Steps<F>,
     ) -> Result<Vec<Hit>, NoMemory>
         requires { IsRankingOf ranking.now self.now call.now }
-        ensures hits { IfOk result (λ hits. map hit_shown hits.items
+        ensures hits { IfOk result (λ hits. map hit_view hits.items
             ≡ filter_map (λ id. hit_at self.now call.now id.0) ids.now) }
         ensures fetches { OnOk result (fetches.new ≡ fetches.old + length ids.now) }
         ensures at_most { fetches.new ≤ fetches.old + length ids.now }
@@ -601,7 +603,7 @@ impl IndexCore {
         fetches: &mut Steps<F>,
     ) -> Result<Option<Hit>, NoMemory>
         requires { IsRankingOf ranking.now self.now call.now }
-        ensures hit { IfOk result (λ hit. option_map hit_shown hit ≡ hit_at self.now call.now id.0) }
+        ensures hit { IfOk result (λ hit. option_map hit_view hit ≡ hit_at self.now call.now id.0) }
         ensures step { fetches.new ≡ fetches.old + 1 }
     {
         let Some(document) = self.store.fetch(id, fetches) else {

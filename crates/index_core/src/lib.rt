@@ -27,7 +27,7 @@ mod read;
 mod terms;
 mod values;
 
-pub use call::{Hit, Listing, SearchResult};
+pub use call::Listing;
 pub use index::IndexCore;
 pub use index_changes::{
     CoreFault, CoreRefusal, Plan, changes_keep_key_paths_and_ids, documents_stay_under_their_ids,

@@ -1,7 +1,6 @@
 ghost use Rattle.std.specs.Prelude.{◌≡◌, [], IfOk, if◌then◌else◌};
-ghost use Rattle.std.specs.Option.{option_map};
 ghost use Rattle.search_base.specs.Terms.{terms_of};
-ghost use Rattle.search_call.specs.FormatView.{is_given as is_list_given, shows_matches as shows_which};
+ghost use Rattle.search_call.specs.FormatView.{shows_matches};
 
 use hit_format::terms;
 use search_base::{Graph, NoMemory, Term};
@@ -14,28 +13,11 @@ pub(crate) fn terms_shown(
     formats: &FormatCall,
     query: &Graph,
 ) -> Result<Vec<Term>, NoMemory>
-    ensures { IfOk result (λ shown. shown.items ≡ if shows_which formats.now then terms_of query.now else []) }
+    ensures { IfOk result (λ shown. shown.items ≡ if shows_matches formats.now then terms_of query.now else []) }
 {
-    if shows_matches(formats) {
+    if formats.shows_matches() {
         terms(alloc, query)
     } else {
         Ok(Vec::new(alloc))
-    }
-}
-
-// Whether hits show which words are matched.
-fn shows_matches(formats: &FormatCall) -> bool
-    ensures { result ≡ shows_which formats.now }
-{
-    is_given(&formats.highlight) || is_given(&formats.crop) || formats.positions
-}
-
-// Whether there is a list that is not empty.
-fn is_given<T>(list: &Option<Vec<T>>) -> bool
-    ensures { result ≡ is_list_given (option_map (λ list. list.items) list.now) }
-{
-    match list {
-        Some(list) => !list.is_empty(),
-        None => false,
     }
 }

@@ -17,7 +17,8 @@ use Rattle.request_replies.specs.Marks.{terms_if}
 use Rattle.request_replies.specs.Members.{is_among, is_shown, members_by, shown_members}
 use Rattle.request_replies.specs.Names.{shows}
 use Rattle.request_replies.specs.Positions.{positions_data}
-use Rattle.request_replies.specs.Shown.{shown, all_shown, HitView, added_names, own_members, with_costs, with_added, hit_by}
+use Rattle.search_result.specs.View.{HitView}
+use Rattle.request_replies.specs.Shown.{shown, all_shown, added_names, own_members, with_costs, with_added, hit_by}
 
 -- tests that agree show the same members
 members_same : (p q : List ℕ → Bool) → ((name : List ℕ) → p name ≡ q name) → (ms : Members) → members_by p ms ≡ members_by q ms

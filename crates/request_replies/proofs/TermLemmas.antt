@@ -7,13 +7,13 @@ use Rattle.search_base.specs.declared.cost_key.CostKey.{CostKey}
 use Rattle.search_call.specs.FormatView.{FormatView, formats_texts}
 use Rattle.search_call.specs.SearchView.{SearchView}
 use Rattle.doc_values.specs.Walk.{members_in}
-use Rattle.facet_counts.specs.FacetView.{FacetView}
 use Rattle.hit_format.specs.declared.asked.Format.{Format}
 use Rattle.hit_format.proofs.TermLemmas.{shows-alike}
 use Rattle.request_replies.specs.Formatted.{format_for, formatted, formatted_members, with_texts, items_with_texts, members_with_texts}
 use Rattle.request_replies.specs.Positions.{texts_in, place_of, places_from, with_places, position_members}
 use Rattle.request_replies.specs.Members.{shown_members}
-use Rattle.request_replies.specs.Shown.{HitView, own_members, with_costs, with_added, hit_shown}
+use Rattle.search_result.specs.View.{Found, HitView}
+use Rattle.request_replies.specs.Shown.{own_members, with_costs, with_added, hit_shown}
 use Rattle.request_replies.specs.Replies.{hits_data, found_data}
 
 module _ (terms other : List TermView) (same : HaveSame terms other) where
@@ -70,6 +70,5 @@ module _ (terms other : List TermView) (same : HaveSame terms other) where
   hits_by_terms displayed call [] = refl
   hits_by_terms displayed call (hit ∷ hits) = ap₂ (λ x xs. x ∷ xs) (hit_by_terms displayed call hit) (hits_by_terms displayed call hits)
 
-  pub found-alike : (displayed : List (List ℕ)) (call : SearchView) (total : ℕ) (found : List HitView) (facets : Option (List FacetView))
-      → found_data displayed call terms total found facets ≡ found_data displayed call other total found facets
-  found-alike displayed call total found facets = ap (hits_data call.q call.window total facets) (hits_by_terms displayed call found)
+  pub found-alike : (displayed : List (List ℕ)) (call : SearchView) (found : Found) → found_data displayed call terms found ≡ found_data displayed call other found
+  found-alike displayed call found = ap (hits_data call.q call.window found.total found.facets) (hits_by_terms displayed call found.hits)

@@ -14,7 +14,8 @@ use Rattle.search_call.specs.declared.Window.TheVariants.{Slice, Page}
 use Rattle.doc_values.specs.Walk.{members_in}
 use Rattle.facet_counts.specs.declared.rows.CountRow.{CountRow}
 use Rattle.facet_counts.specs.FacetView.{FacetView}
-use Rattle.request_replies.specs.Shown.{shown, all_shown, HitView, hit_shown}
+use Rattle.search_result.specs.View.{Found}
+use Rattle.request_replies.specs.Shown.{shown, all_shown, hit_shown}
 use Rattle.request_replies.specs.Facets.{facet_members}
 
 abbrev pub answer : ℕ → Data → Answer
@@ -111,12 +112,12 @@ hits_data q (Page page per) total facets hits =
 
 -- A hit shows the members that both the displayed names and the search name, and what the search adds to it. By these
 -- terms are the matched words of its texts found.
-abbrev pub found_data : List (List ℕ) → SearchView → List TermView → ℕ → List HitView → Option (List FacetView) → Data
-found_data displayed call terms total found facets =
-    hits_data call.q call.window total facets (map (hit_shown displayed call terms) found)
+abbrev pub found_data : List (List ℕ) → SearchView → List TermView → Found → Data
+found_data displayed call terms found =
+    hits_data call.q call.window found.total found.facets (map (hit_shown displayed call terms) found.hits)
 
-abbrev pub hits : List (List ℕ) → SearchView → List TermView → ℕ → List HitView → Option (List FacetView) → Answer
-hits displayed call terms total found facets = answer 200 (found_data displayed call terms total found facets)
+abbrev pub hits : List (List ℕ) → SearchView → List TermView → Found → Answer
+hits displayed call terms found = answer 200 (found_data displayed call terms found)
 
 -- ---- several searches
 

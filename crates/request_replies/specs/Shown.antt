@@ -7,7 +7,7 @@ use Rattle.search_base.specs.TermView.{TermView}
 use Rattle.search_base.specs.declared.cost_key.CostKey.{CostKey}
 use Rattle.search_call.specs.FormatView.{FormatView, formats_texts}
 use Rattle.search_call.specs.SearchView.{SearchView}
-use Rattle.request_replies.specs.declared.hit.Hit.{Hit}
+use Rattle.search_result.specs.View.{HitView}
 use Rattle.request_replies.specs.Costs.{costs_data}
 use Rattle.request_replies.specs.Formatted.{formatted_data}
 use Rattle.request_replies.specs.Members.{is_among, members_by, shown_members}
@@ -21,15 +21,6 @@ abbrev pub all_shown : List (List ℕ) → List Data → List Data
 all_shown names ds = map (shown names) ds
 
 -- ---- hits
-
--- a document that a search found, and the costs by which it stands where it stands, where the hit shows them
-pub record HitView : Type 0 where
-  pub document : Data
-  pub costs : Option (List CostKey)
-
--- a hit as the code holds it
-abbrev pub view_of : Hit → HitView
-view_of hit = record { document = hit.document.now; costs = option_map (λ costs. costs.items) hit.costs }
 
 -- a list of one, where something holds
 abbrev pub one_if : {A : Type 0} → Bool → A → List A

@@ -6,18 +6,19 @@ ghost use Rattle.serde_json.specs.View.{items_of};
 ghost use Rattle.serde_json.specs.Written.{compact_text, members_text};
 ghost use Rattle.request_replies.specs.Facets.{facet_members};
 ghost use Rattle.request_replies.specs.Names.{shows};
-ghost use Rattle.request_replies.specs.Shown.{view_of, hit_by};
+ghost use Rattle.request_replies.specs.Shown.{hit_by};
+ghost use Rattle.search_result.specs.View.{found_view};
 ghost use Rattle.request_replies.specs.Replies.{found_data, shown_with, total_pages as total_pages_of, with_estimate, with_index, window_members};
 
 use crate::display::Display;
 use crate::facets::put_facets;
-use crate::hit::Found;
 use crate::marks::Marks;
 use crate::names::Names;
 use crate::shown::put_hits;
 use crate::text::{put_comma, quoted_text};
 use search_base::{NoMemory, Word};
 use search_call::{SearchCall, Window};
+use search_result::SearchResult;
 use std::alloc::Global;
 
 /// What a search found, with its hits by the displayed members that the call asks for, and with the uid of its index,
@@ -27,14 +28,13 @@ pub(crate) fn found_text(
     uid: Option<&str>,
     call: &SearchCall,
     displayed: &[Word],
-    found: Found,
+    found: &SearchResult,
 ) -> Result<String, NoMemory>
     ensures { IfOk result (λ text. string_bytes text ≡ compact_text (shown_with (option_copied uid.entry)
-        (found_data displayed.now call.now found.entry.terms.now found.entry.total (map view_of found.entry.hits.now)
-        (option_copied found.entry.facets)))) }
+        (found_data displayed.now call.now found.now.terms.items (found_view found.now)))) }
 {
     let names = Names::common(alloc, displayed, &call.retrieve)?;
-    let marks = Marks::new(alloc, &call.formats, found.terms)?;
+    let marks = Marks::new(alloc, &call.formats, found.terms.as_slice())?;
     let display = Display { names, marks };
     let mut text = String::from_str(alloc, "{")?;
     put_found(alloc, &mut text, call.window, &display, found)?;
@@ -50,19 +50,19 @@ fn put_found(
     text: &mut String,
     window: Window,
     display: &Display,
-    found: Found,
+    found: &SearchResult,
 ) -> Result<(), NoMemory>
     ensures { OnOk result ((rest : Members) → string_bytes text.new ++ members_text true rest
-        ≡ string_bytes text.old ++ members_text false (with_estimate window found.entry.total
-        (facet_members (option_copied found.entry.facets) (member (codes "hits")
+        ≡ string_bytes text.old ++ members_text false (with_estimate window found.now.total
+        (facet_members (found_view found.now).facets (member (codes "hits")
         (array (items_of (map (hit_by (shows display.now.names) display.now.marks.formats display.now.marks.terms)
-        (map view_of found.entry.hits.now)))) rest)))) }
+        (found_view found.now).hits))) rest)))) }
 {
     let later = put_estimate(alloc, text, window, found.total)?;
-    let later = put_facets(alloc, text, later, found.facets)?;
+    let later = put_facets(alloc, text, later, found.all_facets())?;
     put_comma(text, later)?;
     text.push_str("\"hits\":")?;
-    put_hits(alloc, text, display, found.hits)?;
+    put_hits(alloc, text, display, found.hits.as_slice())?;
     Ok(())
 }
 

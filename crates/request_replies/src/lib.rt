@@ -4,9 +4,9 @@
 //! Promises that each reply is the answer of its definition in specs/Replies.antt, byte for byte; the one error is want
 //! of memory. A hit shows members of its document and what the search adds to them: `_costs`, `_formatted`, which has
 //! these members with their texts marked and cropped, and `_matchesPosition`, which says where matched words stand in
-//! them. Contracts see a `Hit` through `view_of`, and a `ResultText` as its bytes. Stands on `doc_values` for
-//! documents, `index_settings` for settings, `search_call` and `search_base` for searches and costs, `hit_format` for
-//! marked texts, `facet_counts` for counts of values, `http_wire` for replies, and on nothing that keeps documents.
+//! them. Contracts see a `ResultText` as its bytes. Stands on `doc_values` for documents, `index_settings` for settings,
+//! `search_call` and `search_result` for searches and what they found, `hit_format` for marked texts, `facet_counts` for
+//! counts of values, `http_wire` for replies, and on nothing that keeps documents.
 #![tactic(auto)]
 
 mod added;
@@ -16,7 +16,6 @@ mod display;
 mod facets;
 mod formatted;
 mod found;
-mod hit;
 mod marks;
 mod names;
 mod own;
@@ -27,7 +26,6 @@ mod several;
 mod shown;
 mod text;
 
-pub use hit::{Found, Hit};
 pub use replies::{
     accepted_reply, document_reply, documents_reply, facet_hits_reply, health_reply, hits_reply,
     index_reply, index_value, list_reply, result_text, results_reply, settings_reply,

@@ -1,7 +1,6 @@
 // What the texts of hits are marked by.
 ghost use Rattle.std.specs.Prelude.{◌≡◌, IfOk};
-ghost use Rattle.std.specs.Option.{option_map};
-ghost use Rattle.search_call.specs.FormatView.{formats_texts, is_given as list_is_given};
+ghost use Rattle.search_call.specs.FormatView.{formats_texts};
 ghost use Rattle.request_replies.specs.Formatted.{format_for, format_if};
 ghost use Rattle.request_replies.specs.Marks.{terms_if};
 
@@ -65,7 +64,7 @@ impl<'a> Marks<'a> {
     pub(crate) fn formats_texts(&self) -> bool
         ensures { result ≡ formats_texts self.now.formats }
     {
-        formats_texts(self.formats)
+        self.formats.formats_texts()
     }
 
     /// Whether hits say where matched words stand.
@@ -91,26 +90,7 @@ impl<'a> Marks<'a> {
 fn terms_if<'a>(formats: &FormatCall, terms: &'a [Term]) -> &'a [Term]
     ensures { result.now ≡ terms_if formats.now terms.now }
 {
-    if formats_texts(formats) || formats.positions {
-        terms
-    } else {
-        &[]
-    }
-}
-
-fn formats_texts(formats: &FormatCall) -> bool
-    ensures { result ≡ formats_texts formats.now }
-{
-    is_given(&formats.highlight) || is_given(&formats.crop)
-}
-
-fn is_given<T>(list: &Option<Vec<T>>) -> bool
-    ensures { result ≡ list_is_given (option_map (λ list. list.items) list.now) }
-{
-    match list {
-        Some(list) => !list.is_empty(),
-        None => false,
-    }
+    if formats.shows_matches() { terms } else { &[] }
 }
 
 // How a text is shown, where it is marked or cropped.

@@ -5,11 +5,10 @@ ghost use Rattle.serde_json.specs.Data.{Data};
 ghost use Rattle.serde_json.specs.View.{view};
 ghost use Rattle.serde_json.specs.Written.{compact_text, has_float};
 ghost use Rattle.http_wire.specs.Sent.{IsSentAs};
-ghost use Rattle.request_replies.specs.Shown.{view_of};
+ghost use Rattle.search_result.specs.View.{found_view};
 ghost use Rattle.request_replies.specs.Replies.{answer, accepted, change_data, health, health_data, index_data, one_index, one_document, list_data, documents_listing, facet_hits, found_data, settings as shown_settings, hits as hits_answer, results as all_results, with_uid};
 
 use crate::found::found_text;
-use crate::hit::Found;
 use crate::result::ResultText;
 use crate::several::{facet_hits_text, results_text};
 use crate::shown::{listing_text, shown_text};
@@ -20,6 +19,7 @@ use http_wire::{Reply, make_reply};
 use index_settings::{Settings, to_json};
 use search_base::{NoMemory, Word};
 use search_call::SearchCall;
+use search_result::SearchResult;
 use serde_json::{Value, json};
 use std::alloc::{AllocError, Global};
 
@@ -144,10 +144,10 @@ pub fn hits_reply(
     alloc: Global,
     call: &SearchCall,
     displayed: &[Word],
-    found: Found,
+    found: &SearchResult,
 ) -> Result<Reply, NoMemory>
-    ensures { IfOk result (λ reply. IsSentAs reply (hits_answer displayed.now call.now found.entry.terms.now
-        found.entry.total (map view_of found.entry.hits.now) (option_copied found.entry.facets))) }
+    ensures { IfOk result (λ reply. IsSentAs reply (hits_answer displayed.now call.now found.now.terms.items
+        (found_view found.now))) }
 {
     let body = found_text(alloc, None, call, displayed, found)?;
     make_reply(alloc, StatusCode::OK, body.into_bytes())
@@ -159,11 +159,10 @@ pub fn result_text(
     uid: &str,
     call: &SearchCall,
     displayed: &[Word],
-    found: Found,
+    found: &SearchResult,
 ) -> Result<ResultText, NoMemory>
     ensures { IfOk result (λ text. text ≡ compact_text (with_uid uid.now (found_data displayed.now call.now
-        found.entry.terms.now found.entry.total (map view_of found.entry.hits.now)
-        (option_copied found.entry.facets)))) }
+        found.now.terms.items (found_view found.now)))) }
 {
     let text = found_text(alloc, Some(uid), call, displayed, found)?;
     Ok(ResultText::new(text))

@@ -10,17 +10,18 @@ ghost use Rattle.doc_values.specs.Walk.{members_in};
 ghost use Rattle.request_replies.specs.Added.{members_of, owns, with_waiting, AreInOrder};
 ghost use Rattle.request_replies.specs.Members.{members_by};
 ghost use Rattle.request_replies.specs.Names.{shows};
-ghost use Rattle.request_replies.specs.Shown.{shown, all_shown, view_of, hit_by};
+ghost use Rattle.request_replies.specs.Shown.{shown, all_shown, hit_by};
+ghost use Rattle.search_result.specs.View.{hit_view};
 ghost use Rattle.request_replies.specs.Replies.{listing_data};
 
 use crate::added::{Added, added_to, put_added};
 use crate::display::Display;
-use crate::hit::Hit;
 use crate::names::Names;
 use crate::own::Own;
 use crate::text::{put_comma, put_name, put_value};
 use doc_values::DocumentText;
-use search_base::{CostKey, NoMemory, Word};
+use search_base::{NoMemory, Word};
+use search_result::Hit;
 use serde_json::{Map, Value};
 use std::alloc::Global;
 use std::cmp::Ordering;
@@ -89,7 +90,7 @@ pub(crate) fn put_hits(
 ) -> Result<(), NoMemory>
     ensures { OnOk result (string_bytes text.new ≡ string_bytes text.old ++ compact_text (array (items_of
         (map (hit_by (shows display.now.names) display.now.marks.formats display.now.marks.terms)
-        (map view_of hits.now))))) }
+        (map hit_view hits.now))))) }
 {
     text.push_str("[")?;
     let mut later = false;
@@ -104,23 +105,14 @@ pub(crate) fn put_hits(
 
 fn put_hit(alloc: Global, text: &mut String, display: &Display, hit: &Hit) -> Result<(), NoMemory>
     ensures { OnOk result (string_bytes text.new ≡ string_bytes text.old ++ compact_text
-        (hit_by (shows display.now.names) display.now.marks.formats display.now.marks.terms (view_of hit.now))) }
+        (hit_by (shows display.now.names) display.now.marks.formats display.now.marks.terms (hit_view hit.now))) }
 {
-    let costs = costs_of(hit);
+    let costs = hit.all_costs();
     let added = added_to(alloc, &display.marks, costs)?;
     if added.is_empty() {
         put_document(alloc, text, &display.names, hit.document)
     } else {
         put_chosen(alloc, text, &display.names, added.as_slice(), hit.document)
-    }
-}
-
-fn costs_of<'a>(hit: &'a Hit) -> Option<&'a [CostKey]>
-    ensures { option_copied result ≡ (view_of hit.now).costs }
-{
-    match &hit.costs {
-        Some(costs) => Some(costs.as_slice()),
-        None => None,
     }
 }
 

@@ -6,6 +6,10 @@
 //! that reads requests or keeps documents.
 #![tactic(auto)]
 
+ghost use Rattle.std.specs.Prelude.{◌≡◌};
+ghost use Rattle.std.specs.Option.{option_map};
+ghost use Rattle.search_call.specs.FormatView.{formats_texts, is_given as is_list_given, shows_matches};
+
 use filter_tree::Filter;
 use search_base::{Strategy, Word};
 use std::marker::Model;
@@ -68,6 +72,32 @@ impl Model for FormatCall {
       post = call.post;
       positions = call.positions;
     } };
+}
+
+impl FormatCall {
+    /// Whether hits show which words are matched. It takes no memory.
+    pub fn shows_matches(&self) -> bool
+        ensures { result ≡ shows_matches self.now }
+    {
+        self.formats_texts() || self.positions
+    }
+
+    /// Whether hits show texts otherwise than they are stored: marked or cropped. It takes no memory.
+    pub fn formats_texts(&self) -> bool
+        ensures { result ≡ formats_texts self.now }
+    {
+        is_given(&self.highlight) || is_given(&self.crop)
+    }
+}
+
+// Whether there is a list that is not empty.
+fn is_given<T>(list: &Option<Vec<T>>) -> bool
+    ensures { result ≡ is_list_given (option_map (λ list. list.items) list.now) }
+{
+    match list {
+        Some(list) => !list.is_empty(),
+        None => false,
+    }
 }
 
 /// What is searched for, which hits are asked for, and what they show.

@@ -18,7 +18,8 @@ use Rattle.search_call.specs.SearchView.{SearchView}
 use Rattle.search_settings.specs.declared.refusal.SearchRefusal.{SearchRefusal}
 use Rattle.search_settings.specs.SearchFaults.{search_fault}
 use Rattle.index_changes.specs.Index.{Index}
-use Rattle.index_core.specs.Found.{Found, found, found_in}
+use Rattle.search_result.specs.View.{Found}
+use Rattle.index_core.specs.Found.{found, found_in}
 use Rattle.index_core.specs.Terms.{terms_in}
 use Rattle.index_core.specs.Fetches.{documents_needed}
 use Rattle.index_core.specs.Looked.{unless_refused}

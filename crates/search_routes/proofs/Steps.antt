@@ -28,20 +28,18 @@ use Rattle.request_refusals.specs.declared.refusal.Refusal.TheVariants.{IndexExi
 use Rattle.search_base.specs.Trying.{◌>>=◌, ◌>>◌, refuse_if, refused_as}
 use Rattle.index_changes.specs.PlanView.{PlanView}
 use Rattle.index_changes.specs.Plans.{planned, applied}
-use Rattle.index_core.specs.declared.call.Hit.{Hit as HeldFound}
-use Rattle.index_core.specs.Shown.{hit_shown}
-use Rattle.search_routes.specs.Done.{reply_hit, Grows, Steps, Sends, Answers, Answered, Makes, Noted, Performs, held_need, held_most}
-use Rattle.index_core.specs.Found.{Found, found}
+use Rattle.search_routes.specs.Done.{Grows, Steps, Sends, Answers, Answered, Makes, Noted, Performs, held_need, held_most}
+use Rattle.search_result.specs.View.{Found}
+use Rattle.index_core.specs.Found.{found}
 use Rattle.index_core.specs.Terms.{terms_in}
 use Rattle.index_core.specs.FacetHits.{facet_found}
 use Rattle.facet_counts.specs.declared.rows.CountRow.{CountRow}
 use Rattle.serde_json.specs.Data.{Data}
 use Rattle.search_settings.specs.declared.refusal.SearchRefusal.{SearchRefusal}
 use Rattle.search_call.specs.SearchView.{SearchView, FacetCallView}
-use Rattle.request_replies.specs.Shown.{view_of}
 use Rattle.request_replies.specs.Replies.{accepted, answer, facet_hits, results}
 use Rattle.search_routes.specs.State.{State, Indexes}
-use Rattle.search_routes.specs.Machine.{Step, id_member_for, core_refusal, with_index, index_after, indexes_after, index_at, index_named, type_of, limits, created, hit_view, facet_refusal, found_shown, results_of, search_refusal, searched, changed, filled, emptied, answer_to, outcome, told, is_full, unless_refused, performed, step}
+use Rattle.search_routes.specs.Machine.{Step, id_member_for, core_refusal, with_index, index_after, indexes_after, index_at, index_named, type_of, limits, created, facet_refusal, found_shown, results_of, search_refusal, searched, changed, filled, emptied, answer_to, outcome, told, is_full, unless_refused, performed, step}
 use Rattle.search_routes.specs.Needs.{asked_need, needed_fetches}
 use Rattle.search_routes.specs.Openings.{asked_opened, asked_most, call_opened, opened_by, most_opened_by}
 use Rattle.search_routes.proofs.MapLemmas.{set_value-insert}
@@ -123,11 +121,6 @@ created_new before es uid key full none full_is room =
     ∙ ap (λ o. o >> Ok made) (subst (λ v. limits before v ≡ None) full_is room)
 
 -- ---- a search
-
--- hits as contracts see them
-pub hits_seen : (found : List HeldFound) → map view_of (map reply_hit found) ≡ map hit_view (map hit_shown found)
-hits_seen [] = refl
-hits_seen (hit ∷ found) = ap (λ hits. hit_view (hit_shown hit) ∷ hits) (hits_seen found)
 
 -- what a search of an index that is there shows
 searched_is : (es : Indexes) (uid : List ℕ) (call : SearchView) (i : Index) (f : Found) → index_named uid es ≡ Ok i → found i call ≡ Ok f

@@ -7,9 +7,7 @@ use Rattle.http_wire.specs.Stream.{Request}
 use Rattle.http_wire.specs.Sent.{IsSentAs}
 use Rattle.http_wire.specs.declared.reply.Reply.{Reply}
 use Rattle.http_wire.specs.declared.reply.Reply.TheVariants.{Memory}
-use Rattle.index_core.specs.declared.call.Hit.{Hit as FoundHit}
 use Rattle.bucket_sort.specs.Opens.{LogState, Opens}
-use Rattle.request_replies.specs.declared.hit.Hit.{Hit}
 use Rattle.request_refusals.specs.declared.refusal.Refusal.{Refusal}
 use Rattle.search_base.specs.declared.fault.Fault.{Fault}
 use Rattle.search_base.specs.declared.fault.Fault.TheVariants as fault
@@ -85,7 +83,3 @@ abbrev pub Answers : Result Reply (Fault Refusal) → Reply → Type 0
 Answers (Ok given) reply = reply ≡ given
 Answers (Err fault.NoMemory) reply = reply ≡ Memory
 Answers (Err (fault.Refused r)) reply = (starved : Bool) × IsSentAs reply (or_memory (refused r) starved)
-
--- a hit that an index found as a hit of the reply
-abbrev pub reply_hit : FoundHit → Hit
-reply_hit hit = record { document = hit.document; costs = hit.costs }

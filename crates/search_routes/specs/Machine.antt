@@ -13,7 +13,8 @@ use Rattle.http_wire.specs.Stream.{Request}
 use Rattle.http_wire.specs.Reply.{Answer}
 use Rattle.index_changes.specs.Index.{Index, empty_index, documents as documents_in, document_under}
 use Rattle.index_changes.specs.Plans.{planned, applied}
-use Rattle.index_core.specs.Found.{Found, FoundHit, found}
+use Rattle.search_result.specs.View.{Found}
+use Rattle.index_core.specs.Found.{found}
 use Rattle.index_core.specs.Terms.{terms_in}
 use Rattle.index_core.specs.FacetHits.{facet_found}
 use Rattle.index_changes.specs.declared.refusal.CoreRefusal.{CoreRefusal}
@@ -30,7 +31,6 @@ use Rattle.request_calls.specs.Bodies.{settings_refusal}
 use Rattle.request_calls.specs.Calls.{call_of}
 use Rattle.search_routes.specs.State.{State, Indexes}
 use Rattle.search_call.specs.SearchView.{SearchView}
-use Rattle.request_replies.specs.Shown.{HitView}
 use Rattle.request_replies.specs.Replies as replies
 
 -- ---- what the machine holds
@@ -196,13 +196,9 @@ slice offset limit xs = take limit (drop offset xs)
 abbrev pub index_rows : Indexes → List Data
 index_rows es = map (λ e. replies.index_data e.0 e.1.key) es
 
--- a hit, with its costs where the search asks for them
-abbrev pub hit_view : FoundHit → HitView
-hit_view hit = record { document = hit.document; costs = hit.costs }
-
 -- a hit shows the members that both the settings and the search name, with these terms marked in their texts
 abbrev pub found_shown : SearchView → SettingsView → List TermView → Found → Data
-found_shown call s terms f = replies.found_data s.displayed_attributes call terms f.total (map hit_view f.hits) f.facets
+found_shown call s terms f = replies.found_data s.displayed_attributes call terms f
 
 -- why a search is refused by its index
 abbrev pub search_refusal : SearchRefusal → Refusal

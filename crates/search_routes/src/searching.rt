@@ -1,40 +1,32 @@
 // A search of an index, as it is shown alone or as one of several.
-ghost use Rattle.std.specs.Prelude.{◌≡◌, ◌+◌, ◌≤◌, IfOk, map, Ok};
-ghost use Rattle.std.specs.Option.{option_copied, option_map};
+ghost use Rattle.std.specs.Prelude.{◌≡◌, ◌+◌, ◌≤◌, IfOk};
 ghost use Rattle.serde_json.specs.Written.{compact_text};
 ghost use Rattle.http_wire.specs.Sent.{IsSentAs};
 ghost use Rattle.bucket_sort.specs.Opens.{log_state, Opens, is_starved};
-ghost use Rattle.index_core.specs.Shown.{result_shown};
 ghost use Rattle.request_replies.specs.Replies.{answer, with_uid};
-ghost use Rattle.request_replies.specs.Shown.{view_of};
 ghost use Rattle.search_base.specs.Gives.{Gives};
-ghost use Rattle.search_routes.specs.Done.{reply_hit};
 ghost use Rattle.search_routes.specs.Found.{shown_data};
-ghost use Rattle.search_routes.specs.Machine.{found_shown, search_refusal as refusal_of_search, searched};
+ghost use Rattle.search_routes.specs.Machine.{search_refusal as refusal_of_search, searched};
 ghost use Rattle.search_routes.specs.Needs.{search_need};
 ghost use Rattle.search_routes.specs.Openings.{search_opened, search_most};
 
 use crate::indexes::{Indexes, index_named};
 use bucket_sort::BucketLog;
-use facet_counts::FacetReply;
 use http_wire::Reply;
-use index_core::{Hit as FoundHit, SearchResult};
 use index_settings::Settings;
 use request_refusals::Refusal;
-use request_replies::{Found, Hit, ResultText, hits_reply, result_text};
-use search_base::{Fault, NoMemory, Steps, Term, Word};
+use request_replies::{ResultText, hits_reply, result_text};
+use search_base::{Fault, NoMemory, Steps, Word};
 use search_call::SearchCall;
+use search_result::SearchResult;
 use search_settings::SearchRefusal;
 use std::alloc::Global;
 
-/// What a search found, as replies take it, with the settings of its index.
+/// What a search found, with the settings of its index.
 #[derive(Drop)]
 pub(crate) struct Shown<'a> {
     settings: &'a Settings,
-    terms: Vec<Term>,
-    total: u64,
-    hits: Vec<Hit<'a>>,
-    facets: Option<Vec<FacetReply>>,
+    found: SearchResult<'a>,
 }
 
 /// Searches the index of this uid.
@@ -59,32 +51,9 @@ pub(crate) fn search_index<'a, F, G>(
         Err(Fault::Refused(refusal)) => return Err(Fault::Refused(search_refusal(refusal))),
         Err(Fault::NoMemory) => return Err(Fault::NoMemory),
     };
-    shown_of(alloc, call, index.settings(), found)
-}
-
-// What a search found in an index with these settings.
-fn shown_of<'a>(
-    alloc: Global,
-    call: &SearchCall,
-    settings: &'a Settings,
-    found: SearchResult<'a>,
-) -> Result<Shown<'a>, Fault<Refusal>>
-    ensures { Gives (shown_data call.now) result
-        (Ok (found_shown call.now settings.now found.entry.terms.items (result_shown found.entry))) }
-{
-    let SearchResult {
-        hits,
-        total,
-        facets,
-        terms,
-    } = found;
-    let hits = reply_hits(alloc, hits)?;
     Ok(Shown {
-        settings,
-        terms,
-        total,
-        hits,
-        facets,
+        settings: index.settings(),
+        found,
     })
 }
 
@@ -96,9 +65,8 @@ pub(crate) fn shown_reply(
 ) -> Result<Reply, NoMemory>
     ensures { IfOk result (λ reply. IsSentAs reply (answer 200 (shown_data call.now shown.now))) }
 {
-    let found = found_in(shown);
     let displayed = shown.settings.displayed_attributes();
-    hits_reply(alloc, call, displayed, found)
+    hits_reply(alloc, call, displayed, &shown.found)
 }
 
 /// What one of several searches found, with the uid of its index.
@@ -110,33 +78,8 @@ pub(crate) fn shown_text(
 ) -> Result<ResultText, NoMemory>
     ensures { IfOk result (λ text. text ≡ compact_text (with_uid uid.now (shown_data call.now shown.now))) }
 {
-    let found = found_in(shown);
     let displayed = shown.settings.displayed_attributes();
-    result_text(alloc, uid, call, displayed, found)
-}
-
-fn found_in<'a>(shown: &'a Shown) -> Found<'a>
-    ensures total { result.total ≡ shown.now.total }
-    ensures hits { result.hits.now ≡ shown.now.hits.items }
-    ensures facets { option_copied result.facets ≡ option_map (λ rows. rows.items) shown.now.facets }
-    ensures terms { result.terms.now ≡ shown.now.terms.items }
-{
-    Found {
-        total: shown.total,
-        hits: shown.hits.as_slice(),
-        facets: rows_of(&shown.facets),
-        terms: shown.terms.as_slice(),
-    }
-}
-
-// The counts, where there are some.
-fn rows_of(facets: &Option<Vec<FacetReply>>) -> Option<&[FacetReply]>
-    ensures { option_copied result ≡ option_map (λ rows. rows.items) facets.now }
-{
-    match facets {
-        Some(rows) => Some(rows.as_slice()),
-        None => None,
-    }
+    result_text(alloc, uid, call, displayed, &shown.found)
 }
 
 // Why a search is refused, by why its index refuses it.
@@ -149,16 +92,4 @@ fn search_refusal(refusal: SearchRefusal) -> Refusal
         SearchRefusal::NotFilterable { attribute } => Refusal::NotFilterable { attribute },
         SearchRefusal::NotFacet { attribute } => Refusal::NotFacet { attribute },
     }
-}
-
-// The hits as the reply has them.
-fn reply_hits<'a>(alloc: Global, found: Vec<FoundHit<'a>>) -> Result<Vec<Hit<'a>>, NoMemory>
-    ensures { IfOk result (λ hits. hits.items ≡ map reply_hit found.entry.items) }
-{
-    let mut hits = Vec::with_capacity(alloc, found.len())?;
-    for hit in found {
-        let FoundHit { document, costs } = hit;
-        hits.push(Hit { document, costs })?;
-    }
-    Ok(hits)
 }

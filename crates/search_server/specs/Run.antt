@@ -13,6 +13,10 @@ pub record Event : Type 0 where
   pub request : Request
   pub starved : Bool
 
+-- the state after an event
+abbrev pub after_event : State → Event → State
+after_event s e = state_after s e.request e.starved
+
 abbrev pub requests_of : List Event → List Request
 requests_of events = map (λ e. e.request) events
 
@@ -27,28 +31,28 @@ reply_to left s e = wire (answer_of s e.request e.starved) (says_close left e.re
 -- the replies to a run of events, one after the other, where so many requests may still come
 abbrev pub replies : ℕ → State → List Event → List (List ℕ)
 replies left s [] = []
-replies left s (e ∷ events) = reply_to left s e ∷ replies (left - 1) (state_after s e.request e.starved) events
+replies left s (e ∷ events) = reply_to left s e ∷ replies (left - 1) (after_event s e) events
 
 -- the state after a run
 abbrev pub after : State → List Event → State
 after s [] = s
-after s (e ∷ events) = after (state_after s e.request e.starved) events
+after s (e ∷ events) = after (after_event s e) events
 
 -- how many stored documents a run needs to read
 abbrev pub needs : State → List Event → ℕ
 needs s [] = 0
-needs s (e ∷ events) = needed_fetches s e.request + needs (state_after s e.request e.starved) events
+needs s (e ∷ events) = needed_fetches s e.request + needs (after_event s e) events
 
 -- the log over a run: each request in turn opens its buckets
 abbrev pub Logs : State → List Event → LogState → LogState → Type 0
 Logs s [] old new = new ≡ old
 Logs s (e ∷ events) old new = (between : LogState) × Opens e.starved (opened_by s e.request) old between
-    × Logs (state_after s e.request e.starved) events between new
+    × Logs (after_event s e) events between new
 
 -- how many buckets a run opens at most
 abbrev pub most_over : State → List Event → ℕ
 most_over s [] = 0
-most_over s (e ∷ events) = most_opened_by s e.request + most_over (state_after s e.request e.starved) events
+most_over s (e ∷ events) = most_opened_by s e.request + most_over (after_event s e) events
 
 -- the reply to what ends a link, if there is one
 abbrev pub end_replies : End → List (List ℕ)

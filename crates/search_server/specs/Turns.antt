@@ -6,13 +6,12 @@ use Rattle.http_wire.specs.Stream.{IsPart, IsBad, IsOpen}
 use Rattle.http_wire.specs.Head.{IsBlank}
 use Rattle.http_wire.specs.Stops.{TakesFront}
 use Rattle.http_wire.specs.Reply.{wire, refusal_answer, WrotePart}
-use Rattle.search_routes.specs.Chosen.{state_after}
 use Rattle.bucket_sort.specs.Opens.{Opens}
 use Rattle.search_routes.specs.Needs.{needed_fetches}
 use Rattle.search_routes.specs.Openings.{opened_by, most_opened_by}
 use Rattle.durable_machine.specs.Durable.{CrashHolds}
 use Rattle.search_server.specs.LinkState.{LinkState}
-use Rattle.search_server.specs.Run.{Event, reply_to}
+use Rattle.search_server.specs.Run.{Event, reply_to, after_event}
 use Rattle.search_server.specs.Statuses.{DiskRose}
 use Rattle.search_server.specs.declared.status.LinkEnd.{LinkEnd}
 use Rattle.search_server.specs.declared.status.Status.{Status}
@@ -25,7 +24,7 @@ pub record Replied (left : ℕ) (old new : LinkState) (closes : Bool) : Type 0 w
   pub event : Event
   pub takes : TakesFront old.pending event.request new.pending
   pub told : new.told ≡ append_known old.told (reply_to left old.state event)
-  pub state : new.state ≡ state_after old.state event.request event.starved
+  pub state : new.state ≡ after_event old.state event
   pub fetched : new.fetches ≤ old.fetches + needed_fetches old.state event.request
   pub opens : Opens event.starved (opened_by old.state event.request) old.log new.log
   pub few : new.log.opened ≤ old.log.opened + most_opened_by old.state event.request
@@ -36,7 +35,7 @@ pub record ReplyCut (left : ℕ) (old new : LinkState) : Type 0 where
   pub event : Event
   pub takes : TakesFront old.pending event.request new.pending
   pub told : WrotePart old.told new.told (reply_to left old.state event)
-  pub state : new.state ≡ state_after old.state event.request event.starved
+  pub state : new.state ≡ after_event old.state event
   pub fetched : new.fetches ≤ old.fetches + needed_fetches old.state event.request
   pub opens : Opens event.starved (opened_by old.state event.request) old.log new.log
   pub few : new.log.opened ≤ old.log.opened + most_opened_by old.state event.request
@@ -46,7 +45,7 @@ pub record NotRecorded (old new : LinkState) : Type 0 where
   pub event : Event
   pub takes : TakesFront old.pending event.request new.pending
   pub told : new.told ≡ old.told
-  pub state : new.state ≡ state_after old.state event.request event.starved
+  pub state : new.state ≡ after_event old.state event
   pub fetched : new.fetches ≤ old.fetches + needed_fetches old.state event.request
   pub opens : Opens event.starved (opened_by old.state event.request) old.log new.log
   pub few : new.log.opened ≤ old.log.opened + most_opened_by old.state event.request

@@ -1,7 +1,7 @@
 use crate::checks::{add, check, check_text, document_of};
 use doc_values::{
-    BodyFault, BodyRefusal, Document, DocumentRefusal, DocumentText, Flat, FlatRow, IdRefusal,
-    KeyRefusal, documents_of, external_id, flatten, id_of, infer_key, merged, paths,
+    BodyFault, BodyRefusal, Document, DocumentRefusal, DocumentText, Flat, IdRefusal, KeyRefusal,
+    documents_of, external_id, id_of, infer_key, merged, paths, values_by_path,
 };
 use search_base::{Fault, MarkKind};
 use serde_json::Value;
@@ -46,9 +46,8 @@ fn first_number_that_is_not_whole(rt: HostRuntime) {
     }
 }
 
-fn tell_row(rt: &impl Abort, row: &FlatRow, text: &mut String) {
-    write!(text, "{} ", row.path.as_str()).expect(rt, "memory");
-    match &row.value {
+fn tell_value(rt: &impl Abort, value: &Flat, text: &mut String) {
+    match value {
         Flat::Text(leaf) => write!(text, "`{}`", leaf.as_str()).expect(rt, "memory"),
         Flat::Number(leaf) => write!(text, "{leaf}").expect(rt, "memory"),
         Flat::Bool(leaf) => write!(text, "{leaf}").expect(rt, "memory"),
@@ -56,13 +55,17 @@ fn tell_row(rt: &impl Abort, row: &FlatRow, text: &mut String) {
         Flat::Mark(MarkKind::Null) => add(rt, text, "Null"),
         Flat::Mark(MarkKind::Empty) => add(rt, text, "Empty"),
     }
-    add(rt, text, "; ");
 }
 
-fn rows_text(rt: &impl Abort, alloc: Global, document: &Document) -> String {
+fn values_text(rt: &impl Abort, alloc: Global, document: &Document) -> String {
     let mut text = String::new(alloc);
-    for row in &flatten(alloc, document).expect(rt, "memory") {
-        tell_row(rt, row, &mut text);
+    for (path, values) in &values_by_path(alloc, document).expect(rt, "memory") {
+        add(rt, &mut text, path.as_str());
+        for value in values {
+            add(rt, &mut text, " ");
+            tell_value(rt, value, &mut text);
+        }
+        add(rt, &mut text, "; ");
     }
     text
 }
@@ -76,27 +79,27 @@ fn paths_text(rt: &impl Abort, alloc: Global, document: &Document) -> String {
     text
 }
 
-// A document, the paths of its walk, and its rows.
+// A document, the paths of its walk, and what each path holds.
 const WALKS: [(&str, &str, &str); 3] = [
     ("{}", "", ""),
     (
         "{\"a\":{\"b\":[true,null]},\"c\":\"\"}",
         "a a.b c ",
-        "a Exists; a.b Exists; a.b true; c Exists; c Empty; c ``; ",
+        "a Exists; a.b Exists true; c Exists Empty ``; ",
     ),
     (
         "{\"b\":[1,{\"\":null},[[-2]],{\"\":3}],\"a\":{}}",
         "a b b. b. ",
-        "a Exists; a Empty; b Exists; b 1; b. Exists; b. Null; b -2; b. Exists; b. 3; ",
+        "a Exists Empty; b Exists 1 -2; b. Exists Null Exists 3; ",
     ),
 ];
 
 #[test]
-fn rows_and_paths_of_the_walk(rt: HostRuntime) {
+fn values_and_paths_of_the_walk(rt: HostRuntime) {
     let alloc = rt.alloc();
-    for (text, visited, rows) in &WALKS {
+    for (text, visited, values) in &WALKS {
         let document = document_of(&rt, alloc, text);
-        check_text(&rt, &rows_text(&rt, alloc, &document), rows, text);
+        check_text(&rt, &values_text(&rt, alloc, &document), values, text);
         check_text(&rt, &paths_text(&rt, alloc, &document), visited, text);
     }
 }

@@ -11,8 +11,6 @@ mod checks;
 #[cfg(test)]
 mod demo;
 #[cfg(test)]
-mod formats;
-#[cfg(test)]
 mod routes;
 #[cfg(test)]
 mod searches;

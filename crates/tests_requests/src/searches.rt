@@ -61,7 +61,7 @@ fn tell_names(rt: &impl Abort, names: &[Word], text: &mut String) {
 }
 
 // The names of a list, or `-` where none is given.
-pub(crate) fn tell_given(rt: &impl Abort, names: &Option<Vec<Word>>, text: &mut String) {
+fn tell_given(rt: &impl Abort, names: &Option<Vec<Word>>, text: &mut String) {
     match names {
         Some(names) => {
             add(rt, text, "[");

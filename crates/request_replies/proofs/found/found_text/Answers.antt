@@ -5,7 +5,8 @@ use Rattle.search_call.specs.SearchView.{SearchView}
 use Rattle.request_replies.specs.Marks.{MarksView}
 use Rattle.request_replies.specs.Members.{is_shown}
 use Rattle.request_replies.specs.Names.{shows}
-use Rattle.request_replies.specs.Shown.{HitView, view_of, hit_by}
+use Rattle.search_result.specs.View.{Found, HitView, found_view}
+use Rattle.request_replies.specs.Shown.{hit_by}
 use Rattle.request_replies.specs.Replies.{found_data, hits_data, shown_with, window_members}
 use Rattle.request_replies.proofs.PrintLemmas.{found_printed}
 use Rattle.request_replies.proofs.ShownLemmas.{hits_alike}
@@ -15,14 +16,15 @@ pub returns : goal.returns
 returns c =
     let call = c.call.inside in
     let uid = option_copied c.args.uid in
-    let total = c.args.found.total in
-    let hits : List HitView = map view_of c.args.found.hits.now in
-    let facets = option_copied c.args.found.facets in
-    let terms = c.args.found.terms.now in
+    let found = found_view c.args.found.now in
+    let total = found.total in
+    let hits : List HitView = found.hits in
+    let facets = found.facets in
+    let terms = c.args.found.now.terms.items in
     let names = c.in_ok-names.names in
     let same : (name : List ℕ) → shows names name ≡ (is_shown c.args.displayed.now name && is_shown call.retrieve.items name) =
     λ name. c.in_ok-names.ensures name ∙ ap (λ v. is_shown c.args.displayed.now name && is_shown v name) c.deref.ensures.value in
-    let Is : SearchView → Type 0 = λ v. string_bytes c.push_str.new.self ≡ compact_text (shown_with uid (found_data c.args.displayed.now v terms total hits facets)) in
+    let Is : SearchView → Type 0 = λ v. string_bytes c.push_str.new.self ≡ compact_text (shown_with uid (found_data c.args.displayed.now v terms found)) in
     let by : MarksView → List HitView → List _ = λ marks list. map (hit_by (shows names) marks.formats marks.terms) list in
     subst Is c.call.view_is
     (found_printed uid call.q call.window total facets (by c.in_ok-marks.marks hits) _ _ _ _

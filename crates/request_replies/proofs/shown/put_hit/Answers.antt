@@ -7,7 +7,8 @@ use Rattle.request_replies.specs.declared.added.Added.{Added}
 use Rattle.request_replies.specs.Added.{owns, with_waiting}
 use Rattle.request_replies.specs.Members.{members_by}
 use Rattle.request_replies.specs.Names.{shows}
-use Rattle.request_replies.specs.Shown.{view_of, hit_by, with_costs, with_formatted, with_positions, added_names}
+use Rattle.search_result.specs.View.{hit_view}
+use Rattle.request_replies.specs.Shown.{hit_by, with_costs, with_formatted, with_positions, added_names}
 use Rattle.request_replies.proofs.ShownLemmas.{own_alike}
 use Rattle.request_replies.proofs.shown.put_hit.Goals as goal
 
@@ -16,7 +17,7 @@ returns c =
     let names = c.args.display.now.names in
     let formats = c.args.display.now.marks.formats in
     let terms = c.args.display.now.marks.terms in
-    let view = view_of c.args.hit.now in
+    let view = hit_view c.args.hit.now in
     let all = members_in view.document in
     let added = c.in_ok-added.added.items in
     let ms : Members = members_by (shows names) all in
@@ -25,7 +26,7 @@ returns c =
     let own = members_by (owns names added) all in
     let waits : chosen added ≡ hit_by (shows names) formats terms view
     = ap object (c.in_ok-added.ensures.members own ms)
-    ∙ ap (λ costs. hit_with costs own) c.costs_of-costs.ensures
-    ∙ ap (hit_with view.costs) (own_alike names added formats view.costs all (c.in_ok-added.ensures.names ∙ ap (added_names formats) c.costs_of-costs.ensures)) in
+    ∙ ap (λ costs. hit_with costs own) c.all_costs-costs.ensures
+    ∙ ap (hit_with view.costs) (own_alike names added formats view.costs all (c.in_ok-added.ensures.names ∙ ap (added_names formats) c.all_costs-costs.ensures)) in
     let Is : Data → Type 0 = λ d. OnOk c.put_chosen.result (string_bytes c.put_chosen.new.text ≡ string_bytes c.args.text.now ++ compact_text d) in
     subst Is (ap chosen c.as_slice.ensures.value ∙ waits) c.put_chosen.ensures

@@ -1,12 +1,13 @@
 use Rattle.std.proofs.Common.{◌≡◌, ◌++◌, drop, map, string_bytes, false}
 use Rattle.serde_json.specs.View.{items_of}
 use Rattle.serde_json.specs.Written.{items_text}
-use Rattle.request_replies.specs.Shown.{view_of, hit_by}
+use Rattle.search_result.specs.View.{hit_view}
+use Rattle.request_replies.specs.Shown.{hit_by}
 use Rattle.request_replies.specs.Names.{shows}
 use Rattle.request_replies.proofs.shown.put_hits.Given as goal
 
 -- the text so far, with the hits that are left, is the text at first with all hits
 abbrev pub invariant-loop-hit : goal.invariant-loop-hit
 invariant-loop-hit l =
-    string_bytes l.text ++ items_text l.later (items_of (map (hit_by (shows l.display.names) l.display.marks.formats l.display.marks.terms) (map view_of (drop l.hit-index l.hits))))
-    ≡ string_bytes l.initial.text ++ items_text false (items_of (map (hit_by (shows l.display.names) l.display.marks.formats l.display.marks.terms) (map view_of l.hits)))
+    string_bytes l.text ++ items_text l.later (items_of (map (hit_by (shows l.display.names) l.display.marks.formats l.display.marks.terms) (map hit_view (drop l.hit-index l.hits))))
+    ≡ string_bytes l.initial.text ++ items_text false (items_of (map (hit_by (shows l.display.names) l.display.marks.formats l.display.marks.terms) (map hit_view l.hits)))

@@ -1,14 +1,13 @@
-use Rattle.std.proofs.Common.{◌≡◌, true, false, map, Ok, subst, ap, ◌∙◌}
+use Rattle.std.proofs.Common.{◌≡◌, true, false, Ok, ap, sym, ◌∙◌}
 use Rattle.index_core.specs.Found.{found}
 use Rattle.index_core.specs.Terms.{terms_in}
 use Rattle.request_replies.proofs.TermLemmas.{found-alike}
 use Rattle.bucket_sort.specs.Opens.{Opens, log_state, is_starved}
 use Rattle.index_core.specs.Opened.{opened, most_opened}
 use Rattle.index_core.proofs.Opening.{opens-some, opens-either}
-use Rattle.index_core.specs.Shown.{result_shown}
-use Rattle.search_base.specs.Gives.{Gives}
+use Rattle.search_result.specs.View.{found_view}
 use Rattle.search_routes.specs.Found.{shown_data}
-use Rattle.search_routes.specs.Machine.{found_shown, hit_view, index_at}
+use Rattle.search_routes.specs.Machine.{found_shown, index_at}
 use Rattle.search_routes.specs.Openings.{there_opened}
 use Rattle.index_core.specs.Fetches.{documents_needed}
 use Rattle.search_routes.proofs.NeedLemmas.{named_most}
@@ -31,12 +30,11 @@ returns-clause-answer g c =
     let call = c.args.call.now in
     let i = c.in_ok-index.index.now in
     let terms = c.in-Ok.found.terms.items in
-    let f = result_shown c.in-Ok.found in
+    let f = found_view c.in-Ok.found in
     let same : found_shown call c.settings.result.now terms f ≡ found_shown call i.settings (terms_in i call) f =
     ap (λ s. found_shown call s terms f) c.settings.ensures
-    ∙ found-alike terms (terms_in i call) c.in-Ok.ensures.terms i.settings.displayed_attributes call f.total (map hit_view f.hits) f.facets in
-    gives_searched (shown_data call) c.args.indexes.now.entries c.args.uid.now call c.in_ok-index.index.now (result_shown c.in-Ok.found) c.shown_of.result c.in_ok-index.ensures c.in-Ok.ensures.answer
-    (subst (λ d. Gives (shown_data call) c.shown_of.result (Ok d)) same c.shown_of.ensures)
+    ∙ found-alike terms (terms_in i call) c.in-Ok.ensures.terms i.settings.displayed_attributes call f in
+    gives_searched (shown_data call) c.args.indexes.now.entries c.args.uid.now call c.in_ok-index.index.now (found_view c.in-Ok.found) (Ok (record { settings = c.settings.result; found = c.in-Ok.found })) c.in_ok-index.ensures c.in-Ok.ensures.answer (ap Ok (sym same))
 
 pub returns-in-Err-Refused-clause-opens : goal.returns-in-Err-Refused-clause-opens
 returns-in-Err-Refused-clause-opens g c =
@@ -63,7 +61,7 @@ returns-clause-opens g c =
     let all = there_opened (index_at c.args.uid.now c.args.indexes.now.entries) (λ i. opened i call) in
     let old = (log_state ((g.dyn-1.0.entry c.args.log.now.vtable).1.told c.args.log.now.value) c.args.openings.now) in
     let new = (log_state ((g.dyn-1.0.entry c.search.new.log.vtable).1.told c.search.new.log.value) c.search.new.openings) in
-    opens-either (is_starved c.shown_of.result) all old new
+    opens-either false all old new
     (opens-named c.args.uid.now c.args.indexes.now.entries c.in_ok-index.index.now (λ i. opened i call) false old new c.in_ok-index.ensures c.in-Ok.ensures.opens)
 
 pub returns-in-Err-NoMemory-clause-few : goal.returns-in-Err-NoMemory-clause-few

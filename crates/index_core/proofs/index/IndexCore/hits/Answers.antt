@@ -1,7 +1,8 @@
 use Rattle.std.proofs.Common.{◌<◌, ap, ◌∙◌, sym, arith, length}
 use Rattle.std.specs.Option.{option_map}
 use Rattle.search_base.specs.declared.document.DocId.{DocId}
-use Rattle.index_core.specs.Shown.{hit_shown, hit_at}
+use Rattle.search_result.specs.View.{hit_view}
+use Rattle.index_core.specs.Shown.{hit_at}
 use Rattle.index_core.proofs.Finding.{read-some, read-none}
 use Rattle.index_core.proofs.index.IndexCore.hits.Goals as goal
 use Rattle.index_core.proofs.index.IndexCore.hits.Goals.{in-Some+in_ok-push, in_default}
@@ -15,13 +16,13 @@ loop-id-preserved g c =
     let none : DocId = record { 0 = 0 } in
     elim c.match-branch-3.branch [
       | in-Some+in_ok-push w ↦ (
-        read-some hit_shown (λ id. hit_at c.args.self.now c.args.call.now id.0) c.loop-id.hits.items c.match-branch-3.hits.items w.in-Some.hit ids i none less h.0 (ap (λ v. v.items) w.hits-is ∙ w.in_ok-push.ensures.items)
-            (sym c.in_ok-hit.ensures.hit ∙ ap (option_map hit_shown) w.in-Some.is),
+        read-some hit_view (λ id. hit_at c.args.self.now c.args.call.now id.0) c.loop-id.hits.items c.match-branch-3.hits.items w.in-Some.hit ids i none less h.0 (ap (λ v. v.items) w.hits-is ∙ w.in_ok-push.ensures.items)
+            (sym c.in_ok-hit.ensures.hit ∙ ap (option_map hit_view) w.in-Some.is),
         (let step = c.hit.ensures.step in omega (arith, h.1)),
       )
       | in_default w ↦ (
-        read-none hit_shown (λ id. hit_at c.args.self.now c.args.call.now id.0) c.loop-id.hits.items c.match-branch-3.hits.items ids i none less h.0 (ap (λ v. v.items) w.hits-is)
-            (sym c.in_ok-hit.ensures.hit ∙ ap (option_map hit_shown) w.in_default.is),
+        read-none hit_view (λ id. hit_at c.args.self.now c.args.call.now id.0) c.loop-id.hits.items c.match-branch-3.hits.items ids i none less h.0 (ap (λ v. v.items) w.hits-is)
+            (sym c.in_ok-hit.ensures.hit ∙ ap (option_map hit_view) w.in_default.is),
         (let step = c.hit.ensures.step in omega (arith, h.1)),
       )
     ]

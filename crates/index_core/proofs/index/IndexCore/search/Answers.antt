@@ -12,7 +12,8 @@ use Rattle.index_core.specs.Distinct.{distinct_attribute_in}
 use Rattle.index_core.specs.Found.{found_in, asked, candidates, hit_of, most_hits, window_size}
 use Rattle.index_core.proofs.EachOnce.{asked-full}
 use Rattle.search_settings.specs.SearchFaults.{search_fault}
-use Rattle.index_core.specs.Shown.{hit_at, hit_shown}
+use Rattle.search_result.specs.View.{hit_view}
+use Rattle.index_core.specs.Shown.{hit_at}
 use Rattle.bucket_sort.specs.Opens.{log_state}
 use Rattle.index_core.proofs.Tracing.{opens-fine}
 use Rattle.index_core.proofs.Finding.{filter-mapped, found-same, length-map}
@@ -29,7 +30,7 @@ returns-clause-fetches g c none =
     ∙ ap (λ n. n + length ids) (c.find.ensures.none_read none)
     ∙ ap (λ n. c.args.fetches.now + n) (sym (length-map (λ (id : DocId). id.0) ids) ∙ ap (λ is. length (map (λ (id : DocId). id.0) is)) c.as_slice.ensures.value ∙ f.number ∙ ap length (sym f.hits)
     ∙ ap (λ is. length (filter_map (hit_at now call) (map (λ (id : DocId). id.0) is))) (sym c.as_slice.ensures.value)
-    ∙ ap length (sym (filter-mapped (λ (id : DocId). id.0) (hit_at now call) ids)) ∙ sym (ap length c.in_ok-hits.ensures.hits) ∙ length-map hit_shown c.in_ok-hits.hits.items)
+    ∙ ap length (sym (filter-mapped (λ (id : DocId). id.0) (hit_at now call) ids)) ∙ sym (ap length c.in_ok-hits.ensures.hits) ∙ length-map hit_view c.in_ok-hits.hits.items)
 
 pub returns-clause-full : goal.returns-clause-full
 returns-clause-full g c =
@@ -38,9 +39,9 @@ returns-clause-full g c =
     let call = c.args.call.now in
     let ids = c.as_slice.result.now in
     let index : Index = record { key = c.self.inside.key; store = c.self.inside.store.content; settings = c.self.inside.settings } in
-    let hits : map hit_shown c.in_ok-hits.hits.items ≡ (found_in now call).hits =
+    let hits : map hit_view c.in_ok-hits.hits.items ≡ (found_in now call).hits =
     c.in_ok-hits.ensures.hits ∙ filter-mapped (λ (id : DocId). id.0) (hit_at now call) ids ∙ ap (λ is. filter_map (hit_at now call) (map (λ (id : DocId). id.0) is)) c.as_slice.ensures.value ∙ f.hits in
-    sym (length-map hit_shown c.in_ok-hits.hits.items) ∙ ap length hits ∙ length-map (hit_of call) (asked now call)
+    sym (length-map hit_view c.in_ok-hits.hits.items) ∙ ap length hits ∙ length-map (hit_of call) (asked now call)
     ∙ subst (λ (i : Index). length (asked i call) ≡ min (window_size (most_hits i) call) (length (candidates i call) - offset_of call.window)) c.self.view_is
     (asked-full index call c.self.invariant.rows.sound (distinct_attribute_in index call))
 
@@ -57,7 +58,7 @@ returns-clause-answer g c =
     let ids = c.as_slice.result.now in
     let none = sym (ap (λ (i : Index). search_fault i.settings call) c.self.view_is) ∙ c.in_ok-check_search.ensures in
     ap (λ o. o >> Ok (found_in now call)) none
-    ∙ ap Ok (sym (found-same (found_in now call) (map hit_shown c.in_ok-hits.hits.items) c.in_ok-ids.field-0.total (option_map (λ facets. facets.items) c.in_ok-ids.field-0.facets)
+    ∙ ap Ok (sym (found-same (found_in now call) (map hit_view c.in_ok-hits.hits.items) c.in_ok-ids.field-0.total (option_map (λ facets. facets.items) c.in_ok-ids.field-0.facets)
     (c.in_ok-hits.ensures.hits ∙ filter-mapped (λ (id : DocId). id.0) (hit_at now call) ids ∙ ap (λ is. filter_map (hit_at now call) (map (λ (id : DocId). id.0) is)) c.as_slice.ensures.value ∙ f.hits) f.total f.facets))
 
 pub returns-in_err-hits-clause-opens : goal.returns-in_err-hits-clause-opens

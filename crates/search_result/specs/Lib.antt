@@ -1,0 +1,2 @@
+-- What a search found.
+pub mod View
