@@ -156,7 +156,7 @@ patch-work key members None plan h = work-is key (work.patch members) plan h
 patch-work key members (Some why) plan h = absurd (cc)
 
 nothing-needed : (changes : List KindData) (index : Index) → named_needed [] index ≤ batch_needed changes index
-nothing-needed changes index = needed-within [] changes index (named-within [] (flat_map (names_in index.key) changes) index.store.rows (λ q in. absurd (cc)))
+nothing-needed changes index = needed-within [] changes index (named-within [] (flat_map (names_in index.key) changes) index.store.rows (λ q there. absurd (cc)))
 
 pub single-needed : (change : KindData) (index : Index) (plan : PlanView) → batch_kind_of change ≡ batch.Single → planned index change ≡ Ok plan → needed plan.work index ≤ batch_needed (change ∷ []) index
 single-needed (create key) index plan kind is = subst (λ (w : Work). needed w index ≤ batch_needed (create key ∷ []) index) (sym (work-is index.key (work.replace []) plan is)) (nothing-needed (create key ∷ []) index)

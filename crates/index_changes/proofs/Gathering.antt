@@ -14,15 +14,17 @@ use Rattle.doc_store.specs.declared.rows.StoreRow.{StoreRow}
 use Rattle.doc_store.specs.declared.rows.StoreRefusal.{StoreRefusal}
 use Rattle.doc_store.specs.Sound.{IsSound}
 use Rattle.doc_store.specs.Store.{Row, Store, stored, all_stored, externals, spent}
+use Rattle.doc_store.specs.StoreView.{IsAdmitted}
 use Rattle.doc_index.specs.Named.{is_named, named}
 use Rattle.index_image.specs.State.{IsPrimaryKey}
 use Rattle.index_settings.specs.View.{SettingsView}
 use Rattle.index_changes.specs.declared.batch.BatchKind.{BatchKind}
 use Rattle.index_changes.specs.declared.batch.BatchKind.TheVariants as batch
 use Rattle.index_changes.specs.declared.refusal.CoreRefusal.{CoreRefusal}
-use Rattle.index_changes.specs.Batches.{changed_by, after_each, faults_of, batch_kind_of, ids_among, names_in, reads_all, batch_needed}
+use Rattle.index_changes.specs.declared.gathered.Gathered.{Gathered}
+use Rattle.index_changes.specs.Batches.{AreOf, changed_by, after_each, faults_of, batch_kind_of, ids_among, names_in, reads_all, batch_needed}
 use Rattle.index_changes.specs.Fetches.{named_needed}
-use Rattle.index_changes.specs.Gathering.{stored_by, Stores, key_in, documents_in, KeyedRows, with_rows, unless_refused, rows_planned, with_planned, with_change, WouldReadBack}
+use Rattle.index_changes.specs.Gathering.{IsGathered, stored_by, Stores, key_in, documents_in, KeyedRows, with_rows, unless_refused, rows_planned, with_planned, with_change, WouldReadBack}
 use Rattle.index_changes.specs.Index.{Index}
 use Rattle.index_changes.specs.Keyed.{HasKey, IsUnder, NoneWithout, IsKeyed, AreKeyed, AreReadBack}
 use Rattle.index_changes.specs.PlanView.{Work}
@@ -30,7 +32,7 @@ use Rattle.index_changes.specs.PlanView as work
 use Rattle.index_changes.specs.Plans.{key_for, rows_under, rows_for, plan_of, documents_planned, Keeps, updating, all_updated, after_work, settings_after, unless_spent, applied}
 use Rattle.index_changes.specs.Refusals.{id_refusal, store_refusal}
 use Rattle.index_changes.proofs.AsTheyCame.{updates-spent}
-use Rattle.index_changes.proofs.Keeping.{key-given, rows-keyed}
+use Rattle.index_changes.proofs.Keeping.{key-given, rows-keyed, keyed-after}
 use Rattle.index_changes.proofs.LawLemmas.{bind_ok, key_kept}
 
 -- ---- documents that are stored in two goes
@@ -278,11 +280,11 @@ has-key reset h k = absurd h
 module _ (own : Option (List ℕ)) (all rest : List KindData) (change : KindData) (before : KeyedRows) (s : Store)
     (stores : Stores change) (has : HasKey change) (would : WouldReadBack before (key_in change) (documents_in change)) (h : Holds own all (change ∷ rest) before) where
   names-left : (key : List ℕ) → own ≡ Some key → (q : List ℕ) → among q (externals before.rows ++ flat_map (names_in own) rest) ≡ true → among q (flat_map (names_in own) all) ≡ true
-  names-left key is q in = h.names key is q (among-more q (externals before.rows) (names_in own change) (flat_map (names_in own) rest) in)
+  names-left key is q there = h.names key is q (among-more q (externals before.rows) (names_in own change) (flat_map (names_in own) rest) there)
 
   names-taken : (key : Option (List ℕ)) (rows : List StoreRow) → Keeps before.key key → rows_for key (documents_in change) ≡ Ok rows
       → (k : List ℕ) → own ≡ Some k → (q : List ℕ) → among q (externals (before.rows ++ rows) ++ flat_map (names_in own) rest) ≡ true → among q (flat_map (names_in own) all) ≡ true
-  names-taken key rows keeps is k own_is q in = h.names k own_is q (sym (ap (among q) same) ∙ in)
+  names-taken key rows keeps is k own_is q there = h.names k own_is q (sym (ap (among q) same) ∙ there)
     where
       own_key : key ≡ Some k
       own_key = subst (λ (o : Option (List ℕ)). Keeps o key) own_is (keeps-on own before.key key h.keeps keeps)
@@ -367,4 +369,95 @@ gathered-needed all index keyed is h = needed-within (externals keyed.rows) all 
         let none : index.store.rows ≡ [] = subst (λ (o : Option (List ℕ)). NoneWithout o index.store.rows) own_is is.none in
         subst (λ (rows : List Row). length (named (externals keyed.rows) rows) ≤ length (named (flat_map (names_in index.key) all) rows)) (sym none) (omega arith)
     by (Some key) own_is = named-within (externals keyed.rows) (flat_map (names_in index.key) all) index.store.rows
-        (λ q in. h.names key own_is q (ap (among q) (append-nil (externals keyed.rows)) ∙ in))
+        (λ q there. h.names key own_is q (ap (among q) (append-nil (externals keyed.rows)) ∙ there))
+
+-- ---- the loop over all changes
+
+pub record Looks (own : Option (List ℕ)) (s : Store) (all left : List KindData) (keyed : KeyedRows) (faults : List (Option CoreRefusal)) : Type 0 where
+  pub holds : Holds own all left keyed
+  pub stores : AllByRecursion Stores left
+  pub keys : AllByRecursion HasKey left
+  pub gathers : (kind : BatchKind) (index : Index) → index.key ≡ own → index.store ≡ s → AreOf kind all → AreOf kind left × Gathers kind all left index keyed faults
+
+pub looks-start : (own key : Option (List ℕ)) (s : Store) (all : List KindData) → key ≡ own → IsPrimaryKey own → AllByRecursion Stores all → AllByRecursion HasKey all
+    → Looks own s all all (record { key = key; rows = [] }) []
+looks-start own key s all copied given stores keys = subst (λ (o : Option (List ℕ)). Looks own s all all (record { key = o; rows = [] }) []) (sym copied) (record {
+  holds = holds-start own all given;
+  stores = stores;
+  keys = keys;
+  gathers = λ kind index same store of. (of, subst (λ (o : Option (List ℕ)). Gathers kind all all index (record { key = o; rows = [] }) []) same (gathers-start kind all index));
+})
+
+looks-next : (own : Option (List ℕ)) (s : Store) (all rest : List KindData) (change : KindData) (before now : KeyedRows) (faults told : List (Option CoreRefusal)) (fault : Option CoreRefusal)
+    → IsSound s → WouldReadBack before (key_in change) (documents_in change)
+    → fault ≡ result_err (with_change before (key_in change) (documents_in change) s)
+    → now ≡ result_unwrap_or (with_change before (key_in change) (documents_in change) s) before
+    → told ≡ faults ++ fault ∷ []
+    → Looks own s all (change ∷ rest) before faults → Looks own s all rest now told
+looks-next own s all rest change before now faults told fault sound would why takes tells h = record {
+  holds = holds-one own all rest change before s h.stores.0 h.keys.0 would h.holds now takes;
+  stores = h.stores.1;
+  keys = h.keys.1;
+  gathers = λ kind index same store of.
+      let g = h.gathers kind index same store of in (
+        g.0.1,
+        gathers-one kind all rest change index before now faults told fault h.stores.0 g.0.0 (subst IsSound (sym store) sound) h.holds.back would
+            (subst (λ (t : Store). fault ≡ result_err (with_change before (key_in change) (documents_in change) t)) (sym store) why)
+            (subst (λ (t : Store). now ≡ result_unwrap_or (with_change before (key_in change) (documents_in change) t) before) (sym store) takes)
+            tells g.1,
+      );
+}
+
+pub looks-one : (own : Option (List ℕ)) (s : Store) (all left rest : List KindData) (change : KindData) (before now : KeyedRows) (faults told : List (Option CoreRefusal)) (fault : Option CoreRefusal)
+    → left ≡ change ∷ rest → IsSound s → WouldReadBack before (key_in change) (documents_in change)
+    → fault ≡ result_err (with_change before (key_in change) (documents_in change) s)
+    → now ≡ result_unwrap_or (with_change before (key_in change) (documents_in change) s) before
+    → told ≡ faults ++ fault ∷ []
+    → Looks own s all left before faults → Looks own s all rest now told
+looks-one own s all left rest change before now faults told fault is sound would why takes tells h =
+    looks-next own s all rest change before now faults told fault sound would why takes tells (subst (λ (l : List KindData). Looks own s all l before faults) is h)
+
+pub next-stores : (own : Option (List ℕ)) (s : Store) (all left rest : List KindData) (change : KindData) (before : KeyedRows) (faults : List (Option CoreRefusal)) → left ≡ change ∷ rest → Looks own s all left before faults → Stores change
+next-stores own s all left rest change before faults is h = (subst (AllByRecursion Stores) is h.stores).0
+
+pub looks-end : (own : Option (List ℕ)) (s : Store) (all left : List KindData) (g : Gathered) → left ≡ [] → IsKeyed own s.rows → IsAdmitted s g.rows.items g.admission
+    → Looks own s all left (record { key = g.key; rows = g.rows.items }) g.faults.items
+    → (kind : BatchKind) (index : Index) → index.key ≡ own → index.store ≡ s → AreOf kind all → IsGathered kind all index g
+looks-end own s all left g is keyed admitted looked kind index same store of =
+    let h = subst (λ (l : List KindData). Looks own s all l (record { key = g.key; rows = g.rows.items }) g.faults.items) is looked in
+    let gathered = (h.gathers kind index same store of).1 in
+    record {
+      faults = sym (append-nil g.faults.items) ∙ gathered.told;
+      after = gathered.after;
+      admitted = subst (λ (t : Store). IsAdmitted t g.rows.items g.admission) (sym store) admitted;
+      given = h.holds.given;
+      keeps = subst (λ (o : Option (List ℕ)). Keeps o g.key) (sym same) h.holds.keeps;
+      keyed = h.holds.keyed;
+      back = h.holds.back;
+      named = gathered-needed all index (record { key = g.key; rows = g.rows.items })
+          (subst (λ (t : Store). IsKeyed index.key t.rows) (sym store) (subst (λ (o : Option (List ℕ)). IsKeyed o s.rows) (sym same) keyed))
+          (subst (λ (o : Option (List ℕ)). Holds o all [] (record { key = g.key; rows = g.rows.items })) (sym same) h.holds);
+    }
+
+-- ---- the index after them
+
+keyed-next : (own key : Option (List ℕ)) (rows : List Row) → IsKeyed own rows → Keeps own key → IsPrimaryKey key → IsKeyed key rows
+keyed-next (Some own) key rows h keeps given = subst (λ (o : Option (List ℕ)). IsKeyed o rows) (sym keeps) h
+keyed-next None key rows h keeps given = subst (IsKeyed key) (sym h.none) (record { given = given; none = nothing-under key; ids = tt })
+  where
+    nothing-under : (key : Option (List ℕ)) → NoneWithout key []
+    nothing-under None = refl
+    nothing-under (Some key) = tt
+
+keyed-stored_by : (kind : BatchKind) (key : Option (List ℕ)) (rows : List StoreRow) (s : Store) → IsKeyed key s.rows → AreKeyed key rows → AreReadBack rows → IsKeyed key (stored_by kind rows s).rows
+keyed-stored_by batch.Update key rows s h come back = keyed-after key (work.update rows) s (all_updated rows s) h come back refl
+keyed-stored_by batch.Replace key rows s h come back = keyed-after key (work.replace rows) s (all_stored rows s) h come tt refl
+keyed-stored_by batch.Remove key rows s h come back = keyed-after key (work.replace rows) s (all_stored rows s) h come tt refl
+keyed-stored_by batch.Single key rows s h come back = keyed-after key (work.replace rows) s (all_stored rows s) h come tt refl
+
+-- its documents stand under its key
+pub keyed-gathered : (kind : BatchKind) (all : List KindData) (index : Index) (g : Gathered) (now : Store) → IsKeyed index.key index.store.rows → IsGathered kind all index g → now ≡ stored_by kind g.rows.items index.store
+    → IsKeyed g.key now.rows
+keyed-gathered kind all index g now h gathered is =
+    subst (λ (t : Store). IsKeyed g.key t.rows) (sym is)
+    (keyed-stored_by kind g.key g.rows.items index.store (keyed-next index.key g.key index.store.rows h gathered.keeps gathered.given) gathered.keyed gathered.back)

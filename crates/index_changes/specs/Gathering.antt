@@ -19,7 +19,7 @@ use Rattle.index_changes.specs.Batches.{after_each, faults_of, batch_needed}
 use Rattle.index_changes.specs.Fetches.{named_needed}
 use Rattle.index_changes.specs.Index.{Index}
 use Rattle.index_changes.specs.Keyed.{AreKeyed, AreReadBack}
-use Rattle.index_changes.specs.Plans.{key_for, rows_for, all_updated}
+use Rattle.index_changes.specs.Plans.{key_for, rows_for, Keeps, all_updated}
 use Rattle.index_changes.specs.Refusals.{store_refusal}
 
 -- the store after documents that come: each over the one of its external id, or whole
@@ -96,6 +96,7 @@ pub record IsGathered (kind : BatchKind) (changes : List KindData) (index : Inde
   pub after : with_rows kind (record { key = g.key; rows = g.rows.items }) index ≡ after_each changes index
   pub admitted : IsAdmitted index.store g.rows.items g.admission
   pub given : IsPrimaryKey g.key
+  pub keeps : Keeps index.key g.key
   pub keyed : AreKeyed g.key g.rows.items
   pub back : AreReadBack g.rows.items
   pub named : named_needed (externals g.rows.items) index ≤ batch_needed changes index

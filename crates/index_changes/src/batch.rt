@@ -1,7 +1,6 @@
-ghost use Rattle.std.specs.Prelude.{◌≡◌, [], map, flat_map, replicate, length, IfOk};
+ghost use Rattle.std.specs.Prelude.{◌≡◌, ◌++◌, None, map, flat_map, replicate, IfOk, OnOk};
 ghost use Rattle.doc_values.specs.Changes.{kind_view};
-ghost use Rattle.index_changes.specs.Batches.{first_kind, names_in, AreOf};
-ghost use Rattle.index_changes.specs.declared.batch.BatchKind.TheVariants.{Remove as Removing};
+ghost use Rattle.index_changes.specs.Batches.{first_kind, names_in};
 
 use crate::refusal::CoreRefusal;
 use doc_values::ChangeKind;
@@ -33,18 +32,24 @@ pub fn batch_kind(changes: &[ChangeKind]) -> BatchKind
     }
 }
 
-/// The external ids of changes that take out documents by them, one change behind the other.
+/// The external ids of those changes that take out documents by them, one change behind the other.
 pub fn removed_ids(alloc: Global, changes: Vec<ChangeKind>) -> Result<Vec<Word>, NoMemory>
-    requires { AreOf Removing (map kind_view changes.items) }
     ensures { IfOk result (λ ids. ids.items ≡ flat_map (names_in None) (map kind_view changes.items)) }
 {
     let mut ids = Vec::new(alloc);
     for change in changes {
-        if let ChangeKind::Remove { ids: mut more } = change {
-            ids.append(&mut more)?;
-        }
+        push_ids(&mut ids, change)?;
     }
     Ok(ids)
+}
+
+fn push_ids(ids: &mut Vec<Word>, change: ChangeKind) -> Result<(), NoMemory>
+    ensures { OnOk result (ids.new.items ≡ ids.old.items ++ names_in None (kind_view change)) }
+{
+    if let ChangeKind::Remove { ids: mut more } = change {
+        ids.append(&mut more)?;
+    }
+    Ok(())
 }
 
 /// So many changes of which none is refused.
