@@ -6,6 +6,10 @@ use Rattle.std.specs.Option.{is_some}
 use Rattle.std.specs.Result.{result_err, result_unwrap_or}
 use Rattle.std.proofs.lemmas.Bool.{cond_both}
 use Rattle.std.proofs.lemmas.List.Folds.{list_any-append}
+use Rattle.search_base.specs.Gives.{Fails}
+use Rattle.search_base.specs.Trying.{◌>>=◌}
+use Rattle.search_base.specs.declared.fault.Fault.{Fault}
+use Rattle.search_base.specs.declared.fault.Fault.TheVariants.{Refused as Turned}
 use Rattle.serde_json.specs.Data.{Data}
 use Rattle.serde_json.specs.Find.{get}
 use Rattle.doc_values.specs.Changes.{KindData, create, drop_index, replace, update, remove, clear, patch, reset}
@@ -28,7 +32,7 @@ use Rattle.index_changes.specs.Gathering.{Stores}
 use Rattle.index_changes.specs.Index.{Index}
 use Rattle.index_changes.specs.PlanView.{PlanView, Work}
 use Rattle.index_changes.specs.PlanView as work
-use Rattle.index_changes.specs.Plans.{plan_of, patch_planned, planned, unless_spent}
+use Rattle.index_changes.specs.Plans.{plan_of, patch_planned, planned, unless_spent, applied}
 use Rattle.index_changes.proofs.Gathering.{named-within, named-most, needed-within}
 use Rattle.index_changes.proofs.Indexing.{sound-left}
 use Rattle.index_changes.proofs.Settling.{alike-patched}
@@ -168,6 +172,22 @@ single-needed reset index plan kind is = subst (λ (w : Work). needed w index �
 single-needed (replace given ds) index plan kind is = absurd (cc)
 single-needed (update given ds) index plan kind is = absurd (cc)
 single-needed (remove ids) index plan kind is = absurd (cc)
+
+-- what the plan of a change and its work come to
+pub change-refused : (change : KindData) (index : Index) (fault : Fault CoreRefusal) (why : CoreRefusal) → fault ≡ Turned why → Fails fault (planned index change) → changed_by change index ≡ Err why
+change-refused change index fault why is h =
+    let refused : planned index change ≡ Err why = subst (λ f. Fails f (planned index change)) is h in
+    ap (λ (r : Result PlanView CoreRefusal). r >>= (λ plan. applied plan index)) refused
+
+planned-then : (change : KindData) (index : Index) (plan : PlanView) (r : Result Index CoreRefusal) → planned index change ≡ Ok plan → applied plan index ≡ r → changed_by change index ≡ r
+planned-then change index plan r is h = ap (λ (r : Result PlanView CoreRefusal). r >>= (λ plan. applied plan index)) is ∙ h
+
+pub work-refused : (change : KindData) (index : Index) (plan : PlanView) (fault : Fault CoreRefusal) (why : CoreRefusal) → planned index change ≡ Ok plan → fault ≡ Turned why → Fails fault (applied plan index)
+    → changed_by change index ≡ Err why
+work-refused change index plan fault why is turned h = planned-then change index plan (Err why) is (subst (λ f. Fails f (applied plan index)) turned h)
+
+pub change-done : (change : KindData) (index after : Index) (plan : PlanView) → planned index change ≡ Ok plan → applied plan index ≡ Ok after → changed_by change index ≡ Ok after
+change-done change index after plan is h = planned-then change index plan (Ok after) is h
 
 -- ---- which batch it is
 

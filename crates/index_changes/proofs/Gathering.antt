@@ -189,7 +189,7 @@ among q names = list_any (bytes_eq q) names
 pub record Holds (own : Option (List ℕ)) (all left : List KindData) (keyed : KeyedRows) : Type 0 where
   pub given : IsPrimaryKey keyed.key
   pub keeps : Keeps own keyed.key
-  pub keyed : AreKeyed keyed.key keyed.rows
+  pub under : AreKeyed keyed.key keyed.rows
   pub back : AreReadBack keyed.rows
   pub names : (key : List ℕ) → own ≡ Some key → (q : List ℕ) → among q (externals keyed.rows ++ flat_map (names_in own) left) ≡ true → among q (flat_map (names_in own) all) ≡ true
 
@@ -202,7 +202,7 @@ nothing-keyed None = record { none = refl; ids = tt }
 nothing-keyed (Some key) = record { none = tt; ids = tt }
 
 pub holds-start : (own : Option (List ℕ)) (all : List KindData) → IsPrimaryKey own → Holds own all all (record { key = own; rows = [] })
-holds-start own all given = record { given = given; keeps = keeps-own own; keyed = nothing-keyed own; back = tt; names = λ key is q h. h }
+holds-start own all given = record { given = given; keeps = keeps-own own; under = nothing-keyed own; back = tt; names = λ key is q h. h }
 
 -- keys stay
 key-stays : (own given key : Option (List ℕ)) (ds : List Data) → key_for own given ds ≡ Ok key → Keeps own key
@@ -299,7 +299,7 @@ module _ (own : Option (List ℕ)) (all rest : List KindData) (change : KindData
           ∙ ap (λ (l : List (List ℕ)). externals before.rows ++ (l ++ flat_map (names_in own) rest)) ids
 
   holds-left : Holds own all rest before
-  holds-left = record { given = h.given; keeps = h.keeps; keyed = h.keyed; back = h.back; names = names-left }
+  holds-left = record { given = h.given; keeps = h.keeps; under = h.under; back = h.back; names = names-left }
 
   holds-planned : (key : Option (List ℕ)) (rows : List StoreRow) → key_for before.key (key_in change) (documents_in change) ≡ Ok key → rows_for key (documents_in change) ≡ Ok rows
       → Holds own all rest (record { key = key; rows = before.rows ++ rows })
@@ -308,7 +308,7 @@ module _ (own : Option (List ℕ)) (all rest : List KindData) (change : KindData
       record {
         given = key-given before.key (key_in change) key (documents_in change) h.given (has-key change stores has) keyed;
         keeps = keeps-on own before.key key h.keeps keeps;
-        keyed = keyed-behind before.key key before.rows rows keeps h.keyed (rows-keyed key (documents_in change) rows is);
+        under = keyed-behind before.key key before.rows rows keeps h.under (rows-keyed key (documents_in change) rows is);
         back = all-append _ before.rows rows h.back (would (record { key = key; rows = rows })
             (ap (λ (r : Result (Option (List ℕ)) CoreRefusal). r >>= (λ key. rows_for key (documents_in change) >>= (λ rows. Ok (record { key = key; rows = rows })))) keyed
             ∙ ap (λ (r : Result (List StoreRow) CoreRefusal). r >>= (λ rows. Ok (record { key = key; rows = rows }))) is));
@@ -432,7 +432,7 @@ looks-end own s all left g is keyed admitted looked kind index same store of =
       admitted = subst (λ (t : Store). IsAdmitted t g.rows.items g.admission) (sym store) admitted;
       given = h.holds.given;
       keeps = subst (λ (o : Option (List ℕ)). Keeps o g.key) (sym same) h.holds.keeps;
-      keyed = h.holds.keyed;
+      keyed = h.holds.under;
       back = h.holds.back;
       named = gathered-needed all index (record { key = g.key; rows = g.rows.items })
           (subst (λ (t : Store). IsKeyed index.key t.rows) (sym store) (subst (λ (o : Option (List ℕ)). IsKeyed o s.rows) (sym same) keyed))
