@@ -7,6 +7,7 @@ pub mod PathLemmas
 pub mod GivenLemmas
 pub mod PutLemmas
 pub mod StoreLemmas
+pub mod AdmittingLemmas
 pub mod GoneLemmas
 pub mod SoundLemmas
 pub mod ChangeLemmas

@@ -8,5 +8,6 @@ pub mod Restored
 pub mod Laws
 pub mod Slots
 pub mod StoreView
+pub mod Admitting
 pub mod Codes
 pub mod Counts

@@ -1,38 +1,37 @@
-ghost use Rattle.std.specs.Prelude.{◌≡◌, ℕ, ◌+◌, ◌≤◌, List, Some, Err, map, bytes_eq, IfOk, OnOk, IfErr, if◌then◌else◌};
+ghost use Rattle.std.specs.Prelude.{◌≡◌, ℕ, ◌+◌, ◌≤◌, ◌++◌, List, Some, Err, map, bytes_eq, IfOk, OnOk, IfErr, if◌then◌else◌};
 ghost use Rattle.std.specs.Option.{is_some, unwrap_or};
 ghost use Rattle.search_base.specs.Gives.{Checks};
-ghost use Rattle.doc_store.specs.Given.{known_id};
+ghost use Rattle.doc_store.specs.Given.{known_id, AreIdsOf};
 ghost use Rattle.doc_store.specs.Store.{Store, all_stored, ids_given, ids_spent};
-ghost use Rattle.doc_store.specs.Slots.{IsIndex};
 
 use crate::places::Places;
 use crate::rows::{MAX_IDS, StoreFault, StoreRefusal, StoreRow};
 use search_base::{DocId, Fault, Word};
-use std::alloc::Global;
 
-/// The internal ids of documents that come one after the other. `next` is the next one that is free.
-pub(crate) fn give_ids(
-    alloc: Global,
+/// The internal ids of more documents that come one after the other, behind those that are given so far. `fresh` are
+/// those of documents that are new, and `free` is the next one. A refusal may give a part of them.
+pub(crate) fn more_ids(
     ids: &Places,
-    next: u32,
+    fresh: &mut Places,
+    free: &mut u32,
+    given: &mut Vec<DocId>,
     rows: &[StoreRow],
-) -> Result<Vec<DocId>, StoreFault>
-    requires { next ≤ MAX_IDS }
-    ensures given { (s : Store) → s.next_id ≡ next → IsIndex ids.now s.rows
-        → IfOk result (λ given. map (λ id. id.0) given.items ≡ ids_given rows.now s) }
-    ensures within { (s : Store) → s.next_id ≡ next → IsIndex ids.now s.rows
-        → OnOk result ((all_stored rows.now s).next_id ≤ MAX_IDS) }
-    ensures spent { (s : Store) → s.next_id ≡ next → IsIndex ids.now s.rows
+) -> Result<(), StoreFault>
+    requires { free.old ≤ MAX_IDS }
+    ensures known { OnOk result ((s : Store) → AreIdsOf ids.now fresh.old free.old s
+        → AreIdsOf ids.now fresh.new free.new (all_stored rows.now s)) }
+    ensures given { OnOk result ((s : Store) → AreIdsOf ids.now fresh.old free.old s
+        → map (λ id. id.0) given.new.items ≡ map (λ id. id.0) given.old.items ++ ids_given rows.now s) }
+    ensures within { OnOk result (free.new ≤ MAX_IDS) }
+    ensures spent { (s : Store) → AreIdsOf ids.now fresh.old free.old s
         → IfErr result (λ fault. Checks (Err fault) (ids_spent (all_stored rows.now s).next_id)) }
 {
-    let mut fresh = Places::new(alloc);
-    let mut free = next;
-    let mut given = Vec::with_capacity(alloc, rows.len())?;
+    given.reserve(rows.len())?;
     for row in rows {
-        let id = give_id(ids, &mut fresh, &mut free, &row.external)?;
+        let id = give_id(ids, fresh, free, &row.external)?;
         given.push(DocId(id))?;
     }
-    Ok(given)
+    Ok(())
 }
 
 /// The internal id of one document that comes. `fresh` are those that this change has given already.

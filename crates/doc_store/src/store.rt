@@ -1,4 +1,4 @@
-ghost use Rattle.std.specs.Prelude.{◌≡◌, ◌↔◌, ◌+◌, ◌≤◌, [], Some, Err, map, length, take, drop, IsTrue, IfOk, OnOk, OnErr, IfErr};
+ghost use Rattle.std.specs.Prelude.{◌≡◌, ◌↔◌, ◌+◌, ◌≤◌, ◌++◌, List, [], Some, Err, map, length, take, drop, position, bytes_eq, IsTrue, IfOk, OnOk, OnErr, IfErr};
 ghost use Rattle.std.specs.Option.{option_map, is_some};
 ghost use Rattle.search_base.specs.Gives.{Checks};
 ghost use Rattle.doc_store.specs.Names.{AreKept};
@@ -6,19 +6,22 @@ ghost use Rattle.doc_store.specs.Store.{all_stored, externals, id_of, spent, row
 ghost use Rattle.doc_store.specs.Sound.{IsSound};
 ghost use Rattle.doc_store.specs.Restored.{restored};
 ghost use Rattle.doc_store.specs.StoreView.{IsAdmitted, IsPlanFor};
+ghost use Rattle.doc_store.specs.Admitting.{IsAdmitting};
+ghost use Rattle.doc_store.specs.declared.rows.StoreRow.{StoreRow as Row};
 
+use crate::admitting::{Admission, Admitting};
 use crate::changes::{push_paths, put_rows, stage_rows, take_row};
 use crate::counts::{Counts, count_new, counts_of, no_counts, uncount};
-use crate::given::give_ids;
+use crate::given::more_ids;
 use crate::listing::listed_ids;
 use crate::places::Places;
 use crate::registry::Registry;
 use crate::restore::put_back;
 use crate::rows::{StoreFault, StoreRow, StoredRow};
 use crate::slots::{Slots, document_at, external_at};
-use crate::walked::new_paths;
+use crate::walked::more_paths;
 use doc_values::DocumentText;
-use search_base::{DocId, NoMemory, Steps, Word};
+use search_base::{DocId, NoMemory, PathId, Steps, Word};
 use staged_slots::StagedSlots;
 use std::alloc::Global;
 use std::marker::Model;
@@ -51,25 +54,6 @@ impl Model for DocStore {
     } };
 
     ghost invariant = { λ s. IsStore s.ids s.slots.slots s.paths.paths s.count s.counts.items };
-}
-
-/// What documents that come take of a store: the internal id of each, and the paths that the registry gains.
-#[derive(Drop)]
-pub struct Admission {
-    ids: Vec<DocId>,
-    added: Vec<Word>,
-}
-
-impl Model for Admission {
-    ghost use Rattle.std.specs.Prelude.{map};
-    ghost use Rattle.doc_store.specs.StoreView.{AdmissionView};
-    ghost use Rattle.doc_store.specs.Codes.{admission_code};
-
-    ghost Value = { AdmissionView };
-
-    ghost coded = { admission_code };
-
-    ghost view = { λ a. record { ids = map (λ id. id.0) a.ids.items; added = a.added.items } };
 }
 
 /// What documents that are staged take of a store, for which all memory is there. It can be carried out on the store
@@ -210,6 +194,16 @@ impl DocStore {
         self.paths.paths()
     }
 
+    /// The number of a path: its place in the registry, where the registry has it. It takes no memory.
+    pub fn path_id(&self, path: &Word) -> Option<PathId>
+        ensures { option_map (λ id. id.0) result ≡ position (λ p. bytes_eq p path.now) self.now.content.paths }
+    {
+        match self.paths.find(path) {
+            Some(place) => Some(PathId(place as u16)),
+            None => None,
+        }
+    }
+
     /// The internal ids that documents take which are stored one after the other, and the paths that the registry gains
     /// by them. Nothing changes. `IdsSpent` comes where an internal id would be 1,000,000, and else `PathsSpent`
     /// where the registry would have more than 1,000 paths. There are fewer than 2^32 documents.
@@ -217,9 +211,48 @@ impl DocStore {
         ensures admitted { IfOk result (λ admission. IsAdmitted self.now.content rows.now admission) }
         ensures refused { IfErr result (λ fault. Checks (Err fault) (spent (all_stored rows.now self.now.content))) }
     {
-        let ids = give_ids(alloc, &self.ids, self.slots.len() as u32, rows)?;
-        let added = new_paths(alloc, &self.paths, rows)?;
-        Ok(Admission { ids, added })
+        let mut admitting = self.start_admitting(alloc);
+        self.admit_more(alloc, &mut admitting, rows)?;
+        Ok(admitting.finish())
+    }
+
+    /// An admission to which documents may come, and which has none so far.
+    pub fn start_admitting(&self, alloc: Global) -> Admitting
+        ensures { IsAdmitting self.now.ids self.now.content [] result }
+    {
+        Admitting {
+            fresh: Places::new(alloc),
+            free: self.slots.len() as u32,
+            ids: Vec::new(alloc),
+            added: Registry::new(alloc),
+        }
+    }
+
+    /// Admits more documents, behind those that are admitted so far. The store stays. What is refused is what `admit`
+    /// refuses of all of them together, by the same refusal. After an error the admission is of no use, and is begun
+    /// again from the documents before.
+    pub fn admit_more(
+        &self,
+        alloc: Global,
+        admitting: &mut Admitting,
+        rows: &[StoreRow],
+    ) -> Result<(), StoreFault>
+        requires { (before : List Row) × IsAdmitting self.now.ids self.now.content before admitting.old }
+        ensures more { OnOk result ((before : List Row)
+            → IsAdmitting self.now.ids self.now.content before admitting.old
+            → IsAdmitting self.now.ids self.now.content (before ++ rows.now) admitting.new) }
+        ensures refused { (before : List Row) → IsAdmitting self.now.ids self.now.content before admitting.old
+            → IfErr result (λ fault. Checks (Err fault) (spent (all_stored (before ++ rows.now) self.now.content))) }
+    {
+        more_ids(
+            &self.ids,
+            &mut admitting.fresh,
+            &mut admitting.free,
+            &mut admitting.ids,
+            rows,
+        )?;
+        more_paths(alloc, &self.paths, &mut admitting.added, rows)?;
+        Ok(())
     }
 
     /// Takes all memory that it takes to store documents that were admitted to the store as it is, and stages them,
@@ -302,21 +335,5 @@ impl DocStore {
             uncount(&mut self.counts, id.0);
         }
         found
-    }
-}
-
-impl Admission {
-    /// The internal id of each document, in order.
-    pub fn ids(&self) -> &[DocId]
-        ensures { map (λ id. id.0) result.now ≡ self.now.ids }
-    {
-        self.ids.as_slice()
-    }
-
-    /// The paths that the registry gains, in order.
-    pub fn added(&self) -> &[Word]
-        ensures { result.now ≡ self.now.added }
-    {
-        self.added.as_slice()
     }
 }

@@ -1,4 +1,4 @@
-ghost use Rattle.std.specs.Prelude.{◌≡◌, ℕ, ◌+◌, ◌≤◌, List, ◌++◌, length, Err, IfOk, OnOk, IfErr};
+ghost use Rattle.std.specs.Prelude.{◌≡◌, ℕ, ◌+◌, ◌≤◌, List, ◌++◌, length, Err, OnOk, IfErr};
 ghost use Rattle.search_base.specs.Gives.{Checks};
 ghost use Rattle.doc_store.specs.Paths.{has_path, with_path, registered};
 ghost use Rattle.doc_store.specs.Store.{paths_after, paths_spent};
@@ -9,24 +9,27 @@ use doc_values::paths;
 use search_base::{Fault, Word};
 use std::alloc::Global;
 
-/// The paths that a registry gains by documents that come, in the order in which it gains them. Each document is read
-/// back from its text and let go again before the next.
-pub(crate) fn new_paths(
+/// Adds the paths of more documents that come to the fresh ones, where they are neither registered nor among them, in
+/// the order in which the registry gains them. Each document is read back from its text and let go again before the
+/// next. A refusal may add a part of them.
+pub(crate) fn more_paths(
     alloc: Global,
     registry: &Registry,
+    fresh: &mut Registry,
     rows: &[StoreRow],
-) -> Result<Vec<Word>, StoreFault>
-    requires { length registry.now.paths ≤ MAX_PATHS }
-    ensures added { IfOk result (λ added. registry.now.paths ++ added.items ≡ paths_after rows.now registry.now.paths) }
-    ensures within { IfOk result (λ added. length registry.now.paths + length added.items ≤ MAX_PATHS) }
-    ensures spent { IfErr result (λ fault. Checks (Err fault) (paths_spent (paths_after rows.now registry.now.paths))) }
+) -> Result<(), StoreFault>
+    requires { length registry.now.paths + length fresh.old.paths ≤ MAX_PATHS }
+    ensures noted { OnOk result (registry.now.paths ++ fresh.new.paths
+        ≡ paths_after rows.now (registry.now.paths ++ fresh.old.paths)) }
+    ensures within { OnOk result (length registry.now.paths + length fresh.new.paths ≤ MAX_PATHS) }
+    ensures spent { IfErr result
+        (λ fault. Checks (Err fault) (paths_spent (paths_after rows.now (registry.now.paths ++ fresh.old.paths)))) }
 {
-    let mut fresh = Registry::new(alloc);
     for row in rows {
         let walk = paths(alloc, &row.document.document(alloc)?)?;
-        note_paths(registry, &mut fresh, walk)?;
+        note_paths(registry, fresh, walk)?;
     }
-    Ok(fresh.into_paths())
+    Ok(())
 }
 
 fn note_paths(registry: &Registry, fresh: &mut Registry, walk: Vec<Word>) -> Result<(), StoreFault>

@@ -1,0 +1,70 @@
+ghost use Rattle.std.specs.Prelude.{◌≡◌, List, map};
+ghost use Rattle.doc_store.specs.Admitting.{IsAdmitting};
+ghost use Rattle.doc_store.specs.Names.{Names};
+ghost use Rattle.doc_store.specs.Store.{Store};
+ghost use Rattle.doc_store.specs.StoreView.{IsAdmitted};
+ghost use Rattle.doc_store.specs.declared.rows.StoreRow.{StoreRow as Row};
+
+use crate::places::Places;
+use crate::registry::Registry;
+use search_base::{DocId, Word};
+use std::marker::Model;
+
+/// What documents that come take of a store: the internal id of each, and the paths that the registry gains.
+#[derive(Drop)]
+pub struct Admission {
+    pub(crate) ids: Vec<DocId>,
+    pub(crate) added: Vec<Word>,
+}
+
+impl Model for Admission {
+    ghost use Rattle.std.specs.Prelude.{map};
+    ghost use Rattle.doc_store.specs.StoreView.{AdmissionView};
+    ghost use Rattle.doc_store.specs.Codes.{admission_code};
+
+    ghost Value = { AdmissionView };
+
+    ghost coded = { admission_code };
+
+    ghost view = { λ a. record { ids = map (λ id. id.0) a.ids.items; added = a.added.items } };
+}
+
+impl Admission {
+    /// The internal id of each document, in order.
+    pub fn ids(&self) -> &[DocId]
+        ensures { map (λ id. id.0) result.now ≡ self.now.ids }
+    {
+        self.ids.as_slice()
+    }
+
+    /// The paths that the registry gains, in order.
+    pub fn added(&self) -> &[Word]
+        ensures { result.now ≡ self.now.added }
+    {
+        self.added.as_slice()
+    }
+}
+
+/// Documents that are being admitted to a store, to which more may come. It is of use for the store that it was begun
+/// for, while nothing changes what that holds.
+#[derive(Drop)]
+pub struct Admitting {
+    pub(crate) fresh: Places,
+    pub(crate) free: u32,
+    pub(crate) ids: Vec<DocId>,
+    pub(crate) added: Registry,
+}
+
+impl Admitting {
+    /// The admission of all documents so far. It takes no memory.
+    pub fn finish(self) -> Admission
+        ensures { (ids : Names) (s : Store) (before : List Row) → IsAdmitting ids s before self
+            → IsAdmitted s before result }
+    {
+        let Admitting { ids, added, .. } = self;
+        Admission {
+            ids,
+            added: added.into_paths(),
+        }
+    }
+}
