@@ -5,7 +5,10 @@ use Rattle.std.specs.List.{AllByRecursion, cons_option, list_any}
 use Rattle.std.specs.Result.{result_err, result_ok, result_unwrap_or}
 use Rattle.std.proofs.lemmas.Bool.{cond_both}
 use Rattle.std.proofs.lemmas.List.Folds.{list_any-append}
+use Rattle.search_base.specs.Gives.{Checks}
 use Rattle.search_base.specs.Trying.{◌>>=◌, refused_as}
+use Rattle.search_base.specs.declared.fault.Fault.{Fault}
+use Rattle.search_base.specs.declared.fault.Fault.TheVariants.{Refused as Turned, NoMemory as Memory}
 use Rattle.serde_json.specs.Data.{Data}
 use Rattle.doc_values.specs.Changes.{KindData, create, drop_index, replace, update, remove, clear, patch, reset}
 use Rattle.doc_values.specs.Ids.{external_id_of}
@@ -30,7 +33,7 @@ use Rattle.index_changes.specs.Keyed.{HasKey, IsUnder, NoneWithout, IsKeyed, Are
 use Rattle.index_changes.specs.PlanView.{Work}
 use Rattle.index_changes.specs.PlanView as work
 use Rattle.index_changes.specs.Plans.{key_for, rows_under, rows_for, plan_of, documents_planned, Keeps, updating, all_updated, after_work, settings_after, unless_spent, applied}
-use Rattle.index_changes.specs.Refusals.{id_refusal, store_refusal}
+use Rattle.index_changes.specs.Refusals.{id_refusal, store_refusal, store_fault}
 use Rattle.index_changes.proofs.AsTheyCame.{updates-spent}
 use Rattle.index_changes.proofs.Keeping.{key-given, rows-keyed, keyed-after}
 use Rattle.index_changes.proofs.LawLemmas.{bind_ok, key_kept}
@@ -370,6 +373,18 @@ gathered-needed all index keyed is h = needed-within (externals keyed.rows) all 
         subst (λ (rows : List Row). length (named (externals keyed.rows) rows) ≤ length (named (flat_map (names_in index.key) all) rows)) (sym none) (omega arith)
     by (Some key) own_is = named-within (externals keyed.rows) (flat_map (names_in index.key) all) index.store.rows
         (λ q there. h.names key own_is q (ap (among q) (append-nil (externals keyed.rows)) ∙ there))
+
+-- ---- why documents are not admitted
+
+pub admitted-keyed : (keyed : KeyedRows) (o : Option StoreRefusal) → o ≡ None → unless_refused keyed o ≡ Ok keyed
+admitted-keyed keyed o is = ap (unless_refused keyed) is
+
+refused-as : (keyed : KeyedRows) (why : StoreRefusal) (o : Option StoreRefusal) → o ≡ Some why → unless_refused keyed o ≡ Err (store_refusal why)
+refused-as keyed why o is = ap (unless_refused keyed) is
+
+pub refused-keyed : (keyed : KeyedRows) (fault : Fault StoreRefusal) (why : CoreRefusal) (o : Option StoreRefusal) → store_fault fault ≡ Turned why → Checks (Err fault) o → unless_refused keyed o ≡ Err why
+refused-keyed keyed (Turned refusal) why o is h = refused-as keyed refusal o h ∙ (let same : store_refusal refusal ≡ why = cc in ap Err same)
+refused-keyed keyed Memory why o is h = absurd (cc)
 
 -- ---- the loop over all changes
 

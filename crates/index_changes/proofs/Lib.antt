@@ -16,3 +16,4 @@ pub mod Imaging
 pub mod AsTheyCame
 pub mod Gathering
 pub mod Batching
+pub mod Admitted
