@@ -122,21 +122,21 @@ none-of : {A : Type 0} (o : Option A) → is_some o ≡ false → o ≡ None
 none-of None h = refl
 none-of (Some x) h = absurd (cc)
 
-neither : (a b : Bool) → (a || b) ≡ false → (a ≡ false) × (b ≡ false)
-neither true b h = absurd (cc)
-neither false b h = (refl, h)
+none-of-four : (a b c d : Bool) → (a || b || c || d) ≡ false → (a ≡ false) × (b ≡ false) × (c ≡ false) × (d ≡ false)
+none-of-four true b c d h = absurd (cc)
+none-of-four false true c d h = absurd (cc)
+none-of-four false false true d h = absurd (cc)
+none-of-four false false false d h = (refl, refl, refl, h)
 
 leaves-uses : (members : Data) → names_uses members ≡ false → LeavesUses members
 leaves-uses members h =
-    let a = neither (is_some (get (codes "searchableAttributes") members))
-    (is_some (get (codes "filterableAttributes") members) || (is_some (get (codes "sortableAttributes") members) || is_some (get (codes "rankingRules") members))) h in
-    let b = neither (is_some (get (codes "filterableAttributes") members)) (is_some (get (codes "sortableAttributes") members) || is_some (get (codes "rankingRules") members)) a.1 in
-    let c = neither (is_some (get (codes "sortableAttributes") members)) (is_some (get (codes "rankingRules") members)) b.1 in
+    let none = none-of-four (is_some (get (codes "searchableAttributes") members)) (is_some (get (codes "filterableAttributes") members)) (is_some (get (codes "sortableAttributes") members))
+    (is_some (get (codes "rankingRules") members)) h in
     record {
-      searchable = none-of (get (codes "searchableAttributes") members) a.0;
-      filterable = none-of (get (codes "filterableAttributes") members) b.0;
-      sortable = none-of (get (codes "sortableAttributes") members) c.0;
-      rules = none-of (get (codes "rankingRules") members) c.1;
+      searchable = none-of (get (codes "searchableAttributes") members) none.0;
+      filterable = none-of (get (codes "filterableAttributes") members) none.1;
+      sortable = none-of (get (codes "sortableAttributes") members) none.2;
+      rules = none-of (get (codes "rankingRules") members) none.3;
     }
 
 patch-needed : (members : Data) (index : Index) → needed (work.patch members) index ≤ batch_needed (patch members ∷ []) index

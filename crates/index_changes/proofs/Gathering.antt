@@ -239,15 +239,15 @@ externals-join (r ∷ a) b = ap (λ (l : List (List ℕ)). r.external ∷ l) (ex
 
 ids-under : (key : List ℕ) (place : ℕ) (ds : List Data) (rows : List StoreRow) → rows_under key place ds ≡ Ok rows → externals rows ≡ ids_among key ds
 ids-under key place [] rows h = let same : [] ≡ rows = cc in ap externals (sym same)
-ids-under key place (d ∷ ds) rows h = by (external_id_of key d) h
+ids-under key place (d ∷ ds) rows h = by (external_id_of key d) h (ids-under key (place + 1) ds)
   where
     by : (r : Result (List ℕ) IdRefusal) → (refused_as (id_refusal place) r >>= (λ external. rows_under key (place + 1) ds >>= (λ rows. Ok (record { external = external; document = d } ∷ rows)))) ≡ Ok rows
-        → externals rows ≡ cons_option (result_ok r) (ids_among key ds)
-    by (Err why) h = absurd (cc)
-    by (Ok external) h =
+        → ((more : List StoreRow) → rows_under key (place + 1) ds ≡ Ok more → externals more ≡ ids_among key ds) → externals rows ≡ cons_option (result_ok r) (ids_among key ds)
+    by (Err why) h again = absurd (cc)
+    by (Ok external) h again =
         let more = bind_ok (rows_under key (place + 1) ds) (λ rows. Ok (record { external = external; document = d } ∷ rows)) rows h in
         let same : record { external = external; document = d } ∷ more.0 ≡ rows = let e = more.2 in cc in
-        ap externals (sym same) ∙ ap (λ (l : List (List ℕ)). external ∷ l) (ids-under key (place + 1) ds more.0 more.1)
+        ap externals (sym same) ∙ ap (λ (l : List (List ℕ)). external ∷ l) (again more.0 more.1)
 
 change-ids : (own : List ℕ) (change : KindData) (rows : List StoreRow) → Stores change → rows_for (Some own) (documents_in change) ≡ Ok rows → externals rows ≡ names_in (Some own) change
 change-ids own (replace given ds) rows h is = ids-under own 1 ds rows is
@@ -456,13 +456,13 @@ looks-end own s all left g is keyed admitted looked kind index same store of =
 
 -- ---- the index after them
 
+none-without : (key : Option (List ℕ)) → NoneWithout {A = Row} key []
+none-without None = refl
+none-without (Some key) = tt
+
 keyed-next : (own key : Option (List ℕ)) (rows : List Row) → IsKeyed own rows → Keeps own key → IsPrimaryKey key → IsKeyed key rows
 keyed-next (Some own) key rows h keeps given = subst (λ (o : Option (List ℕ)). IsKeyed o rows) (sym keeps) h
-keyed-next None key rows h keeps given = subst (IsKeyed key) (sym h.none) (record { given = given; none = nothing-under key; ids = tt })
-  where
-    nothing-under : (key : Option (List ℕ)) → NoneWithout key []
-    nothing-under None = refl
-    nothing-under (Some key) = tt
+keyed-next None key rows h keeps given = subst (IsKeyed key) (sym h.none) (record { given = given; none = none-without key; ids = tt })
 
 keyed-stored_by : (kind : BatchKind) (key : Option (List ℕ)) (rows : List StoreRow) (s : Store) → IsKeyed key s.rows → AreKeyed key rows → AreReadBack rows → IsKeyed key (stored_by kind rows s).rows
 keyed-stored_by batch.Update key rows s h come back = keyed-after key (work.update rows) s (all_updated rows s) h come back refl
