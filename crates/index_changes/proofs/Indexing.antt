@@ -94,7 +94,7 @@ cover-left : (p : Row → Bool) (rows : List Row) (paths : List (List ℕ)) → 
 cover-left p [] paths h = tt
 cover-left p (r ∷ rows) paths h = cond_both (p r) (r ∷ filter p rows) (filter p rows) (λ v. CoverRows v paths) (λ _. (h.0, cover-left p rows paths h.1)) (λ _. cover-left p rows paths h.1)
 
-sound-left : (ids : List (List ℕ)) (s : Store) → IsSound s → IsSound (without_named ids s)
+pub sound-left : (ids : List (List ℕ)) (s : Store) → IsSound s → IsSound (without_named ids s)
 sound-left ids s h = record {
   increase = increase-left (λ r. not (is_named ids r)) 0 s.rows s.next_id h.increase;
   apart = apart-left (λ r. not (is_named ids r)) s.rows h.apart;

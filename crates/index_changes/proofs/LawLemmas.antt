@@ -38,7 +38,7 @@ key_at : (same : Bool) (own : List ℕ) (key : Option (List ℕ)) → cond same 
 key_at true own key h = cc
 key_at false own key h = cc
 
-key_kept : (own : List ℕ) (given : Option (List ℕ)) (ds : List Data) (key : Option (List ℕ)) → key_for (Some own) given ds ≡ Ok key → Some own ≡ key
+pub key_kept : (own : List ℕ) (given : Option (List ℕ)) (ds : List Data) (key : Option (List ℕ)) → key_for (Some own) given ds ≡ Ok key → Some own ≡ key
 key_kept own None ds key h = cc
 key_kept own (Some given) ds key h = key_at (bytes_eq own given) own key h
 

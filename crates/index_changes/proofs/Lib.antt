@@ -13,3 +13,7 @@ pub mod StayLemmas
 pub mod Rising
 pub mod Keeping
 pub mod Imaging
+pub mod AsTheyCame
+pub mod Gathering
+pub mod Batching
+pub mod Admitted

@@ -108,11 +108,11 @@ overwritten (new ∷ rows) q d s h = by (bytes_eq q new.external) refl (overwrit
 
 -- ---- an update is its rows, stored one after the other
 
-covered : (q : List ℕ) (rows : List Row) (paths : List (List ℕ)) → CoverRows rows paths → IfSome (document_under q rows) (λ d. AreRegistered (paths_of d) paths)
+pub covered : (q : List ℕ) (rows : List Row) (paths : List (List ℕ)) → CoverRows rows paths → IfSome (document_under q rows) (λ d. AreRegistered (paths_of d) paths)
 covered q [] paths h = tt
 covered q (r ∷ rows) paths h = cond_both (bytes_eq q r.external) (Some r.document) (document_under q rows) (λ o. IfSome o (λ d. AreRegistered (paths_of d) paths)) (λ _. h.0) (λ _. covered q rows paths h.1)
 
-over-adds-own : (o : Option Data) (new : Data) (paths : List (List ℕ)) → NamesRise new → IfSome o (λ d. AreRegistered (paths_of d) paths) → registered (paths_of (over o new)) paths ≡ registered (paths_of new) paths
+pub over-adds-own : (o : Option Data) (new : Data) (paths : List (List ℕ)) → NamesRise new → IfSome o (λ d. AreRegistered (paths_of d) paths) → registered (paths_of (over o new)) paths ≡ registered (paths_of new) paths
 over-adds-own None new paths h there = refl
 over-adds-own (Some old) new paths h there = merge-adds-own old new paths h there
 

@@ -10,3 +10,5 @@ pub mod Indexed
 pub mod Updating
 pub mod Keyed
 pub mod Images
+pub mod Batches
+pub mod Gathering

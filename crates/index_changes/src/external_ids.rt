@@ -4,6 +4,7 @@ ghost use Rattle.search_base.specs.Gives.{Gives};
 ghost use Rattle.search_base.specs.Trying.{refused_as};
 ghost use Rattle.doc_store.specs.Store.{externals};
 ghost use Rattle.doc_values.specs.Ids.{external_id_of};
+ghost use Rattle.index_changes.specs.Keyed.{AreReadBack};
 ghost use Rattle.index_changes.specs.Refusals.{id_refusal};
 ghost use Rattle.index_changes.specs.Plans.{rows_for as rows_of_change, rows_under as rows_from};
 
@@ -19,7 +20,8 @@ pub(crate) fn rows_for(
     key: Option<&Word>,
     documents: Vec<DocumentText>,
 ) -> Result<Vec<StoreRow>, CoreFault>
-    ensures { Gives (λ rows. rows.items) result (rows_of_change (option_copied key.entry) documents.items) }
+    ensures rows { Gives (λ rows. rows.items) result (rows_of_change (option_copied key.entry) documents.items) }
+    ensures back { IfOk result (λ rows. AreReadBack rows.items) }
 {
     match key {
         Some(key) => rows_under(alloc, key.as_str(), documents),
@@ -32,7 +34,8 @@ fn rows_under(
     key: &str,
     documents: Vec<DocumentText>,
 ) -> Result<Vec<StoreRow>, CoreFault>
-    ensures { Gives (λ rows. rows.items) result (rows_from key.now 1 documents.items) }
+    ensures rows { Gives (λ rows. rows.items) result (rows_from key.now 1 documents.items) }
+    ensures back { IfOk result (λ rows. AreReadBack rows.items) }
 {
     let mut rows = Vec::with_capacity(alloc, documents.len())?;
     let mut before: u32 = 0;
@@ -40,6 +43,8 @@ fn rows_under(
         if before == u32::MAX {
             return Err(Fault::NoMemory);
         }
+        // A document is read back from its text, so that each name stands in it once.
+        let _text = document.text();
         let external = id_at(alloc, &document, key, before + 1)?;
         rows.push(StoreRow { external, document })?;
         before += 1;

@@ -11,8 +11,10 @@
 //! documents, and on `index_image`, which has the rows of images.
 #![tactic(auto)]
 
+mod batch;
 mod change;
 mod external_ids;
+mod gathered;
 mod image;
 mod kept;
 mod key;
@@ -22,7 +24,9 @@ mod plan;
 mod refusal;
 mod update;
 
-pub use change::{remove_named, replace_documents, update_documents};
+pub use batch::{BatchKind, batch_kind, no_faults, removed_ids};
+pub use change::{remove_named, replace_documents, store_gathered, update_documents};
+pub use gathered::{Gathered, gather};
 pub use image::{image_of, stored_rows};
 pub use kept::KeptRows;
 pub use laws::{
@@ -30,4 +34,4 @@ pub use laws::{
 };
 pub use new_settings::{index_of_store, patch_settings, reset_settings};
 pub use plan::{Plan, Work, keeping_key, no_work, planned_patch, planned_replace, planned_update};
-pub use refusal::{CoreFault, CoreRefusal};
+pub use refusal::{CoreFault, CoreRefusal, refusal_in};

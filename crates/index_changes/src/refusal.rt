@@ -1,9 +1,10 @@
-ghost use Rattle.std.specs.Prelude.{◌≡◌};
+ghost use Rattle.std.specs.Prelude.{◌≡◌, IfOk, OnErr};
 ghost use Rattle.index_changes.specs.Refusals.{store_fault};
+ghost use Rattle.search_base.specs.declared.fault.Fault.TheVariants.{Refused as Turned, NoMemory as Memory};
 
 use doc_store::{StoreFault, StoreRefusal};
 use index_settings::SettingsRefusal;
-use search_base::Fault;
+use search_base::{Fault, NoMemory};
 
 /// Why an index refuses a change. Documents of a change are numbered from 1.
 #[derive(Debug, Drop)]
@@ -37,5 +38,16 @@ pub(crate) fn of_store(fault: StoreFault) -> CoreFault
         Fault::Refused(StoreRefusal::IdsSpent) => Fault::Refused(CoreRefusal::IdsSpent),
         Fault::Refused(StoreRefusal::PathsSpent) => Fault::Refused(CoreRefusal::PathsSpent),
         Fault::NoMemory => Fault::NoMemory,
+    }
+}
+
+/// The refusal that a fault is, where memory is not wanting.
+pub fn refusal_in(fault: CoreFault) -> Result<CoreRefusal, NoMemory>
+    ensures refused { IfOk result (λ why. fault ≡ Turned why) }
+    ensures starved { OnErr result (fault ≡ Memory) }
+{
+    match fault {
+        Fault::Refused(why) => Ok(why),
+        Fault::NoMemory => Err(NoMemory),
     }
 }

@@ -1,6 +1,7 @@
-ghost use Rattle.std.specs.Prelude.{◌≡◌, ◌+◌, ◌-◌, ◌*◌, ◌≤◌, List, true, false, min, length, map, take, drop, IfOk, OnOk, OnErr, IsTrue, ◌↔◌, None, is_err, if◌then◌else◌};
-ghost use Rattle.std.specs.List.{filter_map};
+ghost use Rattle.std.specs.Prelude.{◌≡◌, ◌+◌, ◌-◌, ◌*◌, ◌≤◌, List, [], ◌∷◌, true, false, min, length, map, take, drop, IfOk, OnOk, OnErr, IsTrue, ◌↔◌, None, is_err, if◌then◌else◌};
+ghost use Rattle.std.specs.List.{AllByRecursion, filter_map};
 ghost use Rattle.std.specs.Option.{option_copied, option_map, is_some, IfSome};
+ghost use Rattle.std.specs.Result.{result_err, result_unwrap_or};
 ghost use Rattle.search_base.specs.Gives.{Gives, Checks};
 ghost use Rattle.doc_values.specs.Changes.{kind_view};
 ghost use Rattle.doc_values.specs.Ids.{is_uid};
@@ -8,6 +9,9 @@ ghost use Rattle.doc_store.specs.Sound.{IsSound};
 ghost use Rattle.doc_store.specs.Store.{spent};
 ghost use Rattle.index_image.specs.Rows.{IndexData, index_view};
 ghost use Rattle.index_image.specs.State.{IsIndex, is_above};
+ghost use Rattle.index_changes.specs.Batches.{AreOf, IsOneBatch, after_each, batch_needed, changed_by, faults_of};
+ghost use Rattle.index_changes.specs.declared.batch.BatchKind.TheVariants.{Remove as Removing};
+ghost use Rattle.index_changes.specs.Gathering.{Stores};
 ghost use Rattle.index_changes.specs.Images.{index_of};
 ghost use Rattle.index_changes.specs.Keyed.{HasKey, IsKeyedWork};
 ghost use Rattle.index_changes.specs.Index.{empty_index, documents as documents_in, document_under};
@@ -50,9 +54,10 @@ use doc_store::DocStore;
 use doc_values::{ChangeKind, DocumentText};
 use facet_counts::CountRow;
 use index_changes::{
-    CoreFault, KeptRows, Plan, Work, image_of, index_of_store, keeping_key, no_work,
-    patch_settings, planned_patch, planned_replace, planned_update, remove_named,
-    replace_documents, reset_settings, stored_rows, update_documents,
+    BatchKind, CoreFault, CoreRefusal, Gathered, KeptRows, Plan, Work, batch_kind, gather,
+    image_of, index_of_store, keeping_key, no_faults, no_work, patch_settings, planned_patch,
+    planned_replace, planned_update, refusal_in, remove_named, removed_ids, replace_documents,
+    reset_settings, store_gathered, stored_rows, update_documents,
 };
 use index_image::ImageIndex;
 use index_settings::Settings;
@@ -188,6 +193,129 @@ impl IndexCore {
             return Err(fault);
         }
         Ok(())
+    }
+
+    /// Applies the changes of a batch as if they came one by one, and tells of each why it is refused, if it is; a
+    /// refused change leaves nothing behind, and those behind it go on. These are one change, or several of one kind
+    /// among replace, update and remove. A key that one of them gives is not empty.
+    ///
+    /// Several are made in one go. Each stored document that they name is read once at most, and a patch or a reset reads
+    /// each document once at most; no other batch reads one. All memory is taken before anything changes: where it is
+    /// wanting, the index stays as it was.
+    pub fn apply_batch<F>(
+        &mut self,
+        alloc: Global,
+        changes: Vec<ChangeKind>,
+        fetches: &mut Steps<F>,
+    ) -> Result<Vec<Option<CoreRefusal>>, NoMemory>
+        requires batch { IsOneBatch (map kind_view changes.items) }
+        requires keys { AllByRecursion HasKey (map kind_view changes.items) }
+        ensures faults { IfOk result (λ faults. faults.items ≡ faults_of (map kind_view changes.items) self.old) }
+        ensures applied { OnOk result (self.new ≡ after_each (map kind_view changes.items) self.old) }
+        ensures stays { OnErr result (self.new ≡ self.old) }
+        ensures at_most { fetches.new ≤ fetches.old + batch_needed (map kind_view changes.items) self.old }
+    {
+        match batch_kind(changes.as_slice()) {
+            BatchKind::Single => self.apply_single(alloc, changes, fetches),
+            BatchKind::Remove => self.remove_batch(alloc, changes, fetches),
+            kind => self.store_batch(alloc, kind, changes, fetches),
+        }
+    }
+
+    // Changes that store documents.
+    fn store_batch<F>(
+        &mut self,
+        alloc: Global,
+        kind: BatchKind,
+        changes: Vec<ChangeKind>,
+        fetches: &mut Steps<F>,
+    ) -> Result<Vec<Option<CoreRefusal>>, NoMemory>
+        requires kind { AreOf kind (map kind_view changes.items) }
+        requires stores { AllByRecursion Stores (map kind_view changes.items) }
+        requires keys { AllByRecursion HasKey (map kind_view changes.items) }
+        ensures faults { IfOk result (λ faults. faults.items ≡ faults_of (map kind_view changes.items) self.old) }
+        ensures applied { OnOk result (self.new ≡ after_each (map kind_view changes.items) self.old) }
+        ensures stays { OnErr result (self.new ≡ self.old) }
+        ensures at_most { fetches.new ≤ fetches.old + batch_needed (map kind_view changes.items) self.old }
+    {
+        let Gathered {
+            key,
+            rows,
+            admission,
+            faults,
+        } = gather(alloc, self.key.as_ref(), &self.store, changes)?;
+        let settings = &self.settings;
+        let (store, kept) = (&mut self.store, &mut self.kept);
+        store_gathered(alloc, kind, settings, store, kept, rows, admission, fetches)?;
+        self.key = key;
+        Ok(faults)
+    }
+
+    // Changes that take out documents by their external ids.
+    fn remove_batch<F>(
+        &mut self,
+        alloc: Global,
+        changes: Vec<ChangeKind>,
+        fetches: &mut Steps<F>,
+    ) -> Result<Vec<Option<CoreRefusal>>, NoMemory>
+        requires { AreOf Removing (map kind_view changes.items) }
+        ensures faults { IfOk result (λ faults. faults.items ≡ faults_of (map kind_view changes.items) self.old) }
+        ensures applied { OnOk result (self.new ≡ after_each (map kind_view changes.items) self.old) }
+        ensures stays { OnErr result (self.new ≡ self.old) }
+        ensures at_most { fetches.new ≤ fetches.old + batch_needed (map kind_view changes.items) self.old }
+    {
+        let faults = no_faults(alloc, changes.len())?;
+        let ids = removed_ids(alloc, changes)?;
+        let settings = &self.settings;
+        let (store, kept) = (&mut self.store, &mut self.kept);
+        remove_named(alloc, settings, store, kept, ids.as_slice(), fetches)?;
+        Ok(faults)
+    }
+
+    // A change by itself.
+    fn apply_single<F>(
+        &mut self,
+        alloc: Global,
+        changes: Vec<ChangeKind>,
+        fetches: &mut Steps<F>,
+    ) -> Result<Vec<Option<CoreRefusal>>, NoMemory>
+        requires few { length changes.items ≤ 1 }
+        requires keys { AllByRecursion HasKey (map kind_view changes.items) }
+        ensures faults { IfOk result (λ faults. faults.items ≡ faults_of (map kind_view changes.items) self.old) }
+        ensures applied { OnOk result (self.new ≡ after_each (map kind_view changes.items) self.old) }
+        ensures stays { OnErr result (self.new ≡ self.old) }
+        ensures at_most { fetches.new ≤ fetches.old + batch_needed (map kind_view changes.items) self.old }
+    {
+        let mut changes = changes;
+        let mut faults = Vec::with_capacity(alloc, 1)?;
+        if let Some(change) = changes.pop() {
+            let fault = self.take(alloc, change, fetches)?;
+            faults.push(fault)?;
+        }
+        Ok(faults)
+    }
+
+    // Applies a change, and tells why it is refused, if it is.
+    fn take<F>(
+        &mut self,
+        alloc: Global,
+        change: ChangeKind,
+        fetches: &mut Steps<F>,
+    ) -> Result<Option<CoreRefusal>, NoMemory>
+        requires { HasKey (kind_view change) }
+        ensures fault { IfOk result (λ fault. fault ≡ result_err (changed_by (kind_view change) self.old)) }
+        ensures taken { OnOk result (self.new ≡ result_unwrap_or (changed_by (kind_view change) self.old) self.old) }
+        ensures stays { OnErr result (self.new ≡ self.old) }
+        ensures at_most { fetches.new ≤ fetches.old + batch_needed (kind_view change ∷ []) self.old }
+    {
+        let plan = match self.plan(alloc, change) {
+            Ok(plan) => plan,
+            Err(fault) => return Ok(Some(refusal_in(fault)?)),
+        };
+        match self.apply(alloc, plan, fetches) {
+            Ok(()) => Ok(None),
+            Err(fault) => Ok(Some(refusal_in(fault)?)),
+        }
     }
 
     fn work<F>(

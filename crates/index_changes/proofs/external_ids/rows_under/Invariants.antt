@@ -1,9 +1,12 @@
 use Rattle.std.proofs.Common.{◌≡◌, ◌+◌}
+use Rattle.index_changes.specs.Keyed.{AreReadBack}
 use Rattle.index_changes.specs.Plans.{rows_under}
 use Rattle.index_changes.proofs.Behind.{after_these}
 use Rattle.index_changes.proofs.external_ids.rows_under.Given as goal
 
 -- the rows so far, and then what is left, as it lies from the next place on
 abbrev pub invariant-loop-document : goal.invariant-loop-document
-invariant-loop-document l =
-    rows_under l.key 1 l.initial.document-iterator.rest.items ≡ after_these l.rows.items (rows_under l.key (l.before + 1) l.document-iterator.rest.items)
+invariant-loop-document l = record {
+  rows : rows_under l.key 1 l.initial.document-iterator.rest.items ≡ after_these l.rows.items (rows_under l.key (l.before + 1) l.document-iterator.rest.items);
+  back : AreReadBack l.rows.items;
+}

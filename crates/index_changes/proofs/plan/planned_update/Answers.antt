@@ -8,5 +8,5 @@ pub invariant_of-result : goal.invariant_of-result
 invariant_of-result c = record {
   good = tt;
   given = key-given (option_copied c.args.own) c.args.given c.in_ok-key.key c.as_slice.result.now c.requires.own c.requires.given c.in_ok-key.ensures;
-  rows = subst (λ k. AreKeyed k c.in_ok-rows.rows.items) c.as_ref.ensures.value (rows-keyed (option_copied c.as_ref.result) c.args.documents.items c.in_ok-rows.rows.items c.in_ok-rows.ensures);
+  rows = subst (λ k. AreKeyed k c.in_ok-rows.rows.items) c.as_ref.ensures.value (rows-keyed (option_copied c.as_ref.result) c.args.documents.items c.in_ok-rows.rows.items c.in_ok-rows.ensures.rows);
 }
