@@ -1,5 +1,5 @@
 -- What a crash leaves on two disks.
-use Rattle.std.proofs.Common.{◌≡◌, ◌⊎◌, inl, inr, ℕ, List, refl, sym, ◌∙◌, ap, Option, Some, Result, Ok}
+use Rattle.std.proofs.Common.{◌≡◌, ◌⊎◌, inl, inr, ℕ, List, [], refl, sym, ◌∙◌, ap, Option, Some, Result, Ok}
 use Rattle.outside_io.specs.Disks.{Contents, fresh}
 use Rattle.change_journal.specs.Format.{Spot, Pair, stored_pair}
 use Rattle.change_journal.specs.Fits.{IsSettled, IsBeforeOrAfter, HasCount, IsOldOrImage, StandsFor, grown, image_pair}
@@ -31,10 +31,10 @@ pub torn_change : (a b xs ys bytes : List ℕ) (s t : State) → held a b ≡ Ok
 torn_change a b xs ys bytes s t was made (inl before) = (s, pair_held xs ys (stored_pair a b) s before (held_to a b s was), inl refl)
 torn_change a b xs ys bytes s t was made (inr more) = (t, pair_held xs ys (grown bytes (stored_pair a b)) t more (grown_state (stored_pair a b) bytes s t (held_to a b s was) made), inr refl)
 
-pub torn_image : (a b xs ys image : List ℕ) (s : State) → held a b ≡ Ok s → Spells image s (state_at image) → IsOldOrImage image (stored_pair a b) (stored_pair xs ys)
+pub torn_image : (a b xs ys image : List ℕ) (s : State) → held a b ≡ Ok s → Spells image s (state_at image) → IsOldOrImage image [] (stored_pair a b) (stored_pair xs ys)
     → (u : State) × (held xs ys ≡ Ok u) × (u ≡ s)
 torn_image a b xs ys image s was spelled (inl before) = (s, pair_held xs ys (stored_pair a b) s before (held_to a b s was), refl)
-torn_image a b xs ys image s was spelled (inr new) = (s, pair_held xs ys (Ok (image_pair image)) s new (image_state image s spelled), refl)
+torn_image a b xs ys image s was spelled (inr new) = (s, pair_held xs ys (Ok (image_pair image [])) s new (image_state image s spelled), refl)
 
 -- two disks before a call and after it
 module _ (a0 b0 a1 b1 : Option Contents) (alike_a : is_told a1 ≡ is_told a0) (alike_b : is_told b1 ≡ is_told b0) (calm_a : IsSettled a0) (calm_b : IsSettled b0) where
@@ -54,9 +54,9 @@ module _ (a0 b0 a1 b1 : Option Contents) (alike_a : is_told a1 ≡ is_told a0) (
       → Hold a0 b0 s → redone s bytes ≡ Ok t → Hold a1 b1 t
   change_held bytes s t now holds made = stands_held (grown bytes) t now (λ a b is_a is_b. grown_state (stored_pair a b) bytes s t (held_to a b s (holds a b is_a is_b)) made)
 
-  pub image_held : (image : List ℕ) (s : State) → ((a b : List ℕ) → a0 ≡ Some (fresh a) → b0 ≡ Some (fresh b) → StandsFor a1 b1 (Ok (image_pair image)))
+  pub image_held : (image : List ℕ) (s : State) → ((a b : List ℕ) → a0 ≡ Some (fresh a) → b0 ≡ Some (fresh b) → StandsFor a1 b1 (Ok (image_pair image [])))
       → Spells image s (state_at image) → Hold a1 b1 s
-  image_held image s now spelled = stands_held (λ r. Ok (image_pair image)) s now (λ a b is_a is_b. image_state image s spelled)
+  image_held image s now spelled = stands_held (λ r. Ok (image_pair image [])) s now (λ a b is_a is_b. image_state image s spelled)
 
 -- an image that spells a state counts its changes
 pub spelled_count : (image : List ℕ) (n : ℕ) (s : State) → HasCount image n → Spells image s (state_at image) → n ≡ s.changes

@@ -98,5 +98,5 @@ grown_state r bytes s t was e =
     grown_push r bytes ∙ ap (λ (o : Option State). then_for o (λ u. kept (redone u bytes))) was ∙ ap (λ (q : Result State PayloadSpot). kept q) e
 
 -- an image with no change behind it
-pub image_state : (image : List ℕ) (s : State) → Spells image s (state_at image) → pair_state (Ok (image_pair image)) ≡ Some s
+pub image_state : (image : List ℕ) (s : State) → Spells image s (state_at image) → pair_state (Ok (image_pair image [])) ≡ Some s
 image_state image s spelled = ap (λ (r : Result ImageData PayloadSpot). of_image r []) spelled.is ∙ ap (λ (t : State). Some t) spelled.machine_of

@@ -1,5 +1,5 @@
 -- A machine whose accepted changes stand on two disks.
-use Rattle.std.specs.Prelude.{◌≡◌, ◌≢◌, ℕ, List, ◌∷◌, Option, None, Some, Ok}
+use Rattle.std.specs.Prelude.{◌≡◌, ◌≢◌, ℕ, List, [], ◌∷◌, Option, None, Some, Ok}
 use Rattle.outside_io.specs.Disks.{Contents, fresh, MayLeave}
 use Rattle.change_journal.specs.Fits.{IsSettled, Fits}
 use Rattle.change_journal.specs.Shut.{image_disk}
@@ -28,4 +28,4 @@ pub record IsDurable (m : DurableMachine) (a b : Option Contents) : Type 0 where
 
 -- this disk is open at generation 1, with an image of the state and no change behind it
 abbrev pub IsFirst : State → Option Contents → Type 0
-IsFirst s o = (image : List ℕ) × Spells image s (state_at image) × (o ≡ Some (fresh (1 ∷ image_disk 1 image)))
+IsFirst s o = (image : List ℕ) × Spells image s (state_at image) × (o ≡ Some (fresh (1 ∷ image_disk 1 image (0 ∷ []))))

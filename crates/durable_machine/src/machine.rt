@@ -123,7 +123,7 @@ impl DurableMachine {
         ensures passed { IfOk result (λ done. done.passed ≡ true → IsDue self.new.journal × (self.new.machine.changes ≡ self.old.machine.changes + 1)) }
         ensures later { self.old.machine.changes ≤ self.new.machine.changes }
         ensures only_due { self.new.journal.generation ≢ self.old.journal.generation
-            → (payload : List ℕ) × (redone self.old.machine payload ≡ Ok self.new.machine) × (16777216 < self.old.journal.size + length payload + 13) }
+            → (payload : List ℕ) × (redone self.old.machine payload ≡ Ok self.new.machine) × (16777216 < self.old.journal.grown + length payload + 13) }
         ensures told_a { is_told (K.contents disk_a.new) ≡ is_told (K.contents disk_a.old) }
         ensures told_b { is_told (K.contents disk_b.new) ≡ is_told (K.contents disk_b.old) }
         ensures cause { OnErr result (Rose (K.disk_faults disk_a.old) (K.disk_faults disk_a.new) ⊎ Rose (K.disk_faults disk_b.old) (K.disk_faults disk_b.new)) }
@@ -186,7 +186,7 @@ impl DurableMachine {
             → CrashHolds (K.contents disk_a.new) (K.contents disk_b.new) (λ t. (t ≡ s) ⊎ (t ≡ self.new.machine))) }
         ensures due { IfOk result (λ passed. IsDue self.new.journal → passed ≡ true) }
         ensures passed { IfOk result (λ passed. passed ≡ true → IsDue self.new.journal) }
-        ensures only_due { self.new.journal.generation ≢ self.old.journal.generation → 16777216 < self.old.journal.size + length entry.payload + 13 }
+        ensures only_due { self.new.journal.generation ≢ self.old.journal.generation → 16777216 < self.old.journal.grown + length entry.payload + 13 }
         ensures told_a { is_told (K.contents disk_a.new) ≡ is_told (K.contents disk_a.old) }
         ensures told_b { is_told (K.contents disk_b.new) ≡ is_told (K.contents disk_b.old) }
         ensures cause { OnErr result (Rose (K.disk_faults disk_a.old) (K.disk_faults disk_a.new) ⊎ Rose (K.disk_faults disk_b.old) (K.disk_faults disk_b.new)) }
@@ -224,7 +224,7 @@ impl DurableMachine {
             Ok(image) => image,
             Err(_) => return Ok(true),
         };
-        checkpoint(&mut self.journal, disk_a, disk_b, &image)?;
+        checkpoint(alloc, &mut self.journal, disk_a, disk_b, &image)?;
         Ok(false)
     }
 
@@ -257,7 +257,7 @@ impl DurableMachine {
             Ok(image) => image,
             Err(_) => return Err(JournalFault::NoMemory),
         };
-        match checkpoint(&mut self.journal, disk_a, disk_b, &image) {
+        match checkpoint(alloc, &mut self.journal, disk_a, disk_b, &image) {
             Ok(()) => Ok(()),
             Err(Failed) => Err(JournalFault::DiskFault),
         }

@@ -1,4 +1,4 @@
-ghost use Rattle.std.specs.Prelude.{◌≡◌, ◌≢◌, ◌⊎◌, ◌+◌, ◌-◌, ◌<◌, ◌≤◌, ◌^◌, ◌∷◌, ℕ, List, None, Some, Ok, Err, IfOk, IfSome, OnOk, OnErr, length};
+ghost use Rattle.std.specs.Prelude.{◌≡◌, ◌≢◌, ◌⊎◌, ◌+◌, ◌-◌, ◌<◌, ◌≤◌, ◌^◌, [], ◌∷◌, ℕ, List, None, Some, Ok, Err, IfOk, IfSome, OnOk, OnErr, length};
 ghost use Rattle.std.specs.Option.{option_map};
 ghost use Rattle.outside_io.specs.Disks.{fresh, settled};
 ghost use Rattle.outside_io.specs.Faults.{HasCause, Rose};
@@ -13,7 +13,7 @@ ghost use Rattle.search_routes.specs.Images.{Spells};
 ghost use Rattle.search_routes.specs.Redo.{redone};
 ghost use Rattle.durable_machine.specs.Durable.{CrashHolds, Hold, IsDurable};
 
-use change_journal::{Journal, JournalFault, Opened, Record, open, record};
+use change_journal::{FirstJournal, Journal, JournalFault, Opened, Record, open, record};
 use outside_io::{Disk, Failed};
 use search_base::NoMemory;
 use std::alloc::Global;
@@ -104,7 +104,7 @@ pub(crate) fn append<K: Disk>(
         → redone s entry.payload ≡ Ok t → IsDurable (record { machine = t; journal = journal.new }) (K.contents disk_a.new) (K.contents disk_b.new)) }
     ensures crash { OnErr result ((s t : State) → IsDurable (record { machine = s; journal = journal.old }) (K.contents disk_a.old) (K.contents disk_b.old)
         → redone s entry.payload ≡ Ok t → CrashHolds (K.contents disk_a.new) (K.contents disk_b.new) (λ u. (u ≡ s) ⊎ (u ≡ t))) }
-    ensures size { OnOk result (journal.new.size ≡ journal.old.size + length entry.payload + 13) }
+    ensures grown { OnOk result (journal.new.grown ≡ journal.old.grown + length entry.payload + 13) }
     ensures generation { journal.new.generation ≡ journal.old.generation }
     ensures told_a { is_told (K.contents disk_a.new) ≡ is_told (K.contents disk_a.old) }
     ensures told_b { is_told (K.contents disk_b.new) ≡ is_told (K.contents disk_b.old) }
@@ -118,8 +118,10 @@ pub(crate) fn append<K: Disk>(
     }
 }
 
-/// Makes a checkpoint of an image that spells the state which the disks hold. `Failed`: a disk's count of faults rose.
+/// Makes a checkpoint of an image that spells the state which the disks hold, with no change behind it; it takes no
+/// memory. `Failed`: a disk's count of faults rose.
 pub(crate) fn checkpoint<K: Disk>(
+    alloc: Global,
     journal: &mut Journal,
     disk_a: &mut K,
     disk_b: &mut K,
@@ -136,7 +138,7 @@ pub(crate) fn checkpoint<K: Disk>(
         → CrashHolds (K.contents disk_a.new) (K.contents disk_b.new) (λ u. u ≡ s)) }
     ensures done { OnOk result (IsDue journal.new → ⊥) }
     ensures made { OnOk result ((ys : List ℕ) → K.contents (disk_on (next_side journal.old.active) disk_a.old disk_b.old) ≡ Some (fresh ys)
-        → K.contents (disk_on (next_side journal.old.active) disk_a.new disk_b.new) ≡ Some (fresh (1 ∷ image_disk (journal.old.generation + 1) image.now))) }
+        → K.contents (disk_on (next_side journal.old.active) disk_a.new disk_b.new) ≡ Some (fresh (1 ∷ image_disk (journal.old.generation + 1) image.now (0 ∷ [])))) }
     ensures other { disk_on (next_side journal.old.active) disk_b.new disk_a.new ≡ disk_on (next_side journal.old.active) disk_b.old disk_a.old }
     ensures stays { OnErr result (journal.new ≡ journal.old) }
     ensures told_a { is_told (K.contents disk_a.new) ≡ is_told (K.contents disk_a.old) }
@@ -145,7 +147,8 @@ pub(crate) fn checkpoint<K: Disk>(
     ensures later_a { K.disk_faults disk_a.old ≤ K.disk_faults disk_a.new }
     ensures later_b { K.disk_faults disk_b.old ≤ K.disk_faults disk_b.new }
 {
-    match journal.checkpoint(disk_a, disk_b, image) {
+    let first = FirstJournal::new(alloc, journal.count());
+    match journal.checkpoint(disk_a, disk_b, image, &first) {
         Ok(()) => Ok(()),
         Err(Failed) => Err(Failed),
     }

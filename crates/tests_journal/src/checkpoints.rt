@@ -1,4 +1,4 @@
-ghost use Rattle.std.specs.Prelude.{◌≡◌, ◌≢◌, ◌×◌, ◌+◌, ◌<◌, ◌≤◌, ◌^◌, length, None, Some, IfOk};
+ghost use Rattle.std.specs.Prelude.{◌≡◌, ◌≢◌, ◌+◌, ◌<◌, ◌≤◌, ◌^◌, length, None, Some, IfOk};
 ghost use Rattle.outside_io.specs.MemoryDisk.{contents_of};
 ghost use Rattle.change_journal.specs.Fits.{Fits, HasCount};
 

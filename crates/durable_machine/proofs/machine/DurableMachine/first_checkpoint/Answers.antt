@@ -1,4 +1,4 @@
-use Rattle.std.proofs.Common.{◌≡◌, ◌∙◌, ◌+◌, ℕ, List, ◌∷◌, Option, Some, None, ap, subst, arith}
+use Rattle.std.proofs.Common.{◌≡◌, ◌∙◌, ◌+◌, ℕ, List, [], ◌∷◌, Option, Some, None, ap, subst, arith}
 use Rattle.outside_io.specs.Disks.{Contents, fresh}
 use Rattle.change_journal.specs.Fits.{FitsAt, disk_on, next_side}
 use Rattle.change_journal.specs.Shut.{image_disk}
@@ -19,10 +19,10 @@ returns-in-Ok-checkpoint-clause-made g c = λ xs was.
     let here = subst (λ s. FitsAt s j (g.K.Disk.contents a) (g.K.Disk.contents b)) c.requires.none c.requires.fits.disks in
     let one : j.generation + 1 ≡ 1 = omega (arith, here.2) in
     let made = subst (λ (s : Option Side). (ys : List ℕ) → g.K.Disk.contents (disk_on (next_side s) a b) ≡ Some (fresh ys)
-    → g.K.Disk.contents (disk_on (next_side s) c.checkpoint.new.disk_a c.checkpoint.new.disk_b) ≡ Some (fresh (1 ∷ image_disk (j.generation + 1) slice)))
+    → g.K.Disk.contents (disk_on (next_side s) c.checkpoint.new.disk_a c.checkpoint.new.disk_b) ≡ Some (fresh (1 ∷ image_disk (j.generation + 1) slice (0 ∷ []))))
     c.requires.none c.in-Ok-checkpoint.ensures.made in
-    let first = made xs was ∙ ap (λ (n : ℕ). Some (fresh (1 ∷ image_disk n slice))) one in
-    (image, c.in-Ok.ensures.state, first ∙ ap (λ (l : List ℕ). Some (fresh (1 ∷ image_disk 1 l))) c.deref.ensures.value)
+    let first = made xs was ∙ ap (λ (n : ℕ). Some (fresh (1 ∷ image_disk n slice (0 ∷ [])))) one in
+    (image, c.in-Ok.ensures.state, first ∙ ap (λ (l : List ℕ). Some (fresh (1 ∷ image_disk 1 l (0 ∷ [])))) c.deref.ensures.value)
 
 pub returns-in-Ok-checkpoint-clause-other : goal.returns-in-Ok-checkpoint-clause-other
 returns-in-Ok-checkpoint-clause-other g c =
