@@ -9,8 +9,8 @@ ghost use Rattle.doc_store.specs.Sound.{IsSound};
 ghost use Rattle.doc_store.specs.Store.{spent};
 ghost use Rattle.index_image.specs.Rows.{IndexData, index_view};
 ghost use Rattle.index_image.specs.State.{IsIndex, is_above};
-ghost use Rattle.index_changes.specs.Batches.{AreOf, IsOneBatch, after_each, batch_needed, changed_by, faults_of};
-ghost use Rattle.index_changes.specs.declared.batch.BatchKind.TheVariants.{Remove as Removing};
+ghost use Rattle.index_changes.specs.Batches.{AreOf, IsOneBatch, after_each, batch_kind_of, batch_needed, changed_by, faults_of};
+ghost use Rattle.index_changes.specs.declared.batch.BatchKind.TheVariants.{Remove as Removing, Single as Alone};
 ghost use Rattle.index_changes.specs.Gathering.{Stores};
 ghost use Rattle.index_changes.specs.Images.{index_of};
 ghost use Rattle.index_changes.specs.Keyed.{HasKey, IsKeyedWork};
@@ -280,6 +280,7 @@ impl IndexCore {
         fetches: &mut Steps<F>,
     ) -> Result<Vec<Option<CoreRefusal>>, NoMemory>
         requires few { length changes.items ≤ 1 }
+        requires kind { AreOf Alone (map kind_view changes.items) }
         requires keys { AllByRecursion HasKey (map kind_view changes.items) }
         ensures faults { IfOk result (λ faults. faults.items ≡ faults_of (map kind_view changes.items) self.old) }
         ensures applied { OnOk result (self.new ≡ after_each (map kind_view changes.items) self.old) }
@@ -302,7 +303,8 @@ impl IndexCore {
         change: ChangeKind,
         fetches: &mut Steps<F>,
     ) -> Result<Option<CoreRefusal>, NoMemory>
-        requires { HasKey (kind_view change) }
+        requires kind { batch_kind_of (kind_view change) ≡ Alone }
+        requires key { HasKey (kind_view change) }
         ensures fault { IfOk result (λ fault. fault ≡ result_err (changed_by (kind_view change) self.old)) }
         ensures taken { OnOk result (self.new ≡ result_unwrap_or (changed_by (kind_view change) self.old) self.old) }
         ensures stays { OnErr result (self.new ≡ self.old) }
