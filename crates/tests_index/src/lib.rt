@@ -1,12 +1,10 @@
-//! Tests of what a search of an index opens, of hits of which no two have a value in common, of which values a search of
-//! values finds, and of changes that an index takes in one go.
+//! Tests of what a search of an index opens, of hits of which no two have a value in common, and of which values a search
+//! of values finds.
 //!
 //! They use what these crates offer to others, and stand in a crate of their own, so that the crates they try are proved
 //! once and not twice. The crate has nothing but tests, and promises nothing.
 #![tactic(auto)]
 
-#[cfg(test)]
-mod batch;
 #[cfg(test)]
 mod checks;
 #[cfg(test)]
