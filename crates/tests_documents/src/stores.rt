@@ -1,7 +1,7 @@
 use crate::checks::{check, check_text, word};
 use doc_store::{Admission, DocStore, StoreFault, StoreRefusal, StoreRow};
 use doc_values::{Document, DocumentText, documents_of};
-use search_base::{DocId, Fault, PathId, Steps};
+use search_base::{DocId, Fault, Steps};
 use serde_json::Value;
 use std::alloc::Global;
 use std::process::Abort;
@@ -44,27 +44,6 @@ fn store_rows(
     let stored = store.commit(plan);
     check(rt, stored.len() == count, "stored");
     (stored, added)
-}
-
-// What documents take that are admitted in two goes: their internal ids, and how many paths are new.
-fn admit_twice(
-    rt: &impl Abort,
-    alloc: Global,
-    store: &DocStore,
-    first: &[StoreRow],
-    later: &[StoreRow],
-) -> String {
-    let mut admitting = store.start_admitting(alloc);
-    store
-        .admit_more(alloc, &mut admitting, first)
-        .expect(rt, "admitted");
-    store
-        .admit_more(alloc, &mut admitting, later)
-        .expect(rt, "admitted");
-    let admission = admitting.finish();
-    let mut text = ids_text(rt, alloc, admission.ids());
-    write!(text, "+{}", admission.added().len()).expect(rt, "memory");
-    text
 }
 
 // The internal ids that documents are stored under, with a blank behind each, and how many paths are new.
@@ -148,31 +127,6 @@ fn documents_come_and_go(rt: HostRuntime) {
     for (offset, limit, wanted) in &LISTED {
         check_listed(&rt, alloc, &store, *offset, *limit, wanted);
     }
-}
-
-// Names, with the number of each in a store that has the paths of `{"a":1,"b":{"c":2}}`.
-const NUMBERED: [(&str, Option<PathId>); 4] = [
-    ("a", Some(PathId(0))),
-    ("b", Some(PathId(1))),
-    ("b.c", Some(PathId(2))),
-    ("c", None),
-];
-
-#[test]
-fn documents_are_admitted_in_goes(rt: HostRuntime) {
-    let alloc = rt.alloc();
-    let mut store = new_store(&rt, alloc);
-    let stored = store_all(&rt, alloc, &mut store, "1", "[{\"a\":1,\"b\":{\"c\":2}}]");
-    check_text(&rt, &stored, "0 +3", "stored");
-    for (name, wanted) in &NUMBERED {
-        let id = store.path_id(&word(&rt, alloc, name));
-        check(&rt, id == *wanted, name);
-    }
-    let first = rows(&rt, alloc, "2 1", "[{\"d\":1},{\"a\":2}]");
-    let later = rows(&rt, alloc, "2 3 1", "[{\"d\":1},{\"e\":2},{}]");
-    let admitted = admit_twice(&rt, alloc, &store, first.as_slice(), later.as_slice());
-    check_text(&rt, &admitted, "1 0 1 2 0 +2", "admitted");
-    check_counts(&rt, &store, 1, 1, 3);
 }
 
 fn check_fetched(rt: &impl Abort, store: &DocStore, id: DocId, wanted: Option<&str>) {
