@@ -36,8 +36,8 @@ impl Side {
 
 /// Where the journal of two disks goes on: which disk is active, its generation, the place of its
 /// shut gate, the count of changes held, and the bytes by which the journal has grown since the last
-/// checkpoint, one gate included: what that wrote besides does not count, but all that `open` found
-/// does. Made by `open`; after a `Failed` of its calls the disks are opened again.
+/// checkpoint: what that wrote does not count, but all that `open` found does. Made by `open`; after
+/// a `Failed` of its calls the disks are opened again.
 #[derive(Drop)]
 pub struct Journal {
     pub(crate) active: Option<Side>,
@@ -125,8 +125,8 @@ impl Journal {
             → K.contents (disk_on (next_side self.old.active) disk_a.new disk_b.new) ≡ Some (fresh (1 ∷ image_disk (self.old.generation + 1) image.now (journal_bytes first.now.number first.now.payloads)))) }
         ensures other { disk_on (next_side self.old.active) disk_b.new disk_a.new ≡ disk_on (next_side self.old.active) disk_b.old disk_a.old }
         ensures count { self.new.count ≡ self.old.count }
-        // Of what is written here one gate counts as growth, whatever payloads stand behind the image.
-        ensures grown { OnOk result (self.old.generation < 2 ^ 64 - 1 → self.new.grown ≡ 1) }
+        // Nothing that is written here counts as growth, whatever payloads stand behind the image.
+        ensures grown { OnOk result (self.old.generation < 2 ^ 64 - 1 → self.new.grown ≡ 0) }
         ensures told_a { is_told (K.contents disk_a.new) ≡ is_told (K.contents disk_a.old) }
         ensures told_b { is_told (K.contents disk_b.new) ≡ is_told (K.contents disk_b.old) }
         ensures settled_a { OnOk result (IsSettled (K.contents disk_a.old) → IsSettled (K.contents disk_a.new)) }
@@ -179,7 +179,7 @@ impl Journal {
         ensures holds { OnOk result (Told (K.contents disk.new) (Holds self.new)) }
         ensures room { OnOk result (self.new.gate + 1 < 2 ^ 64) }
         ensures within { OnOk result (self.new.grown ≤ self.new.gate + 1) }
-        ensures grown { OnOk result (self.new.grown ≡ 1) }
+        ensures grown { OnOk result (self.new.grown ≡ 0) }
         ensures count { self.new.count ≡ self.old.count }
         ensures active { OnOk result (self.new.active ≡ Some side) }
         ensures generation { OnOk result (self.new.generation ≡ self.old.generation + 1) }
@@ -196,7 +196,7 @@ impl Journal {
         self.active = Some(side);
         self.generation = next;
         self.gate = 24 + image.len() as u64 + journal.len() as u64 - 1;
-        self.grown = 1;
+        self.grown = 0;
         Ok(())
     }
 
