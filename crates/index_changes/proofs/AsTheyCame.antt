@@ -1,12 +1,12 @@
 -- What the documents of an update take of a store: internal ids and paths as if they were stored as they came.
-use Rattle.std.proofs.Common.{◌≡◌, ℕ, ◌+◌, cond, List, [], ◌∷◌, ◌++◌, Some, refl, sym, ap, ap₂, ◌∙◌}
+use Rattle.std.proofs.Common.{◌≡◌, ℕ, ◌+◌, cond, List, [], ◌∷◌, Some, refl, sym, ap, ap₂, ◌∙◌}
 use Rattle.std.specs.Prelude.{bytes_eq}
 use Rattle.std.specs.Option.{is_some, unwrap_or}
 use Rattle.search_base.specs.Trying.{first_of}
 use Rattle.doc_store.specs.declared.rows.StoreRow.{StoreRow}
 use Rattle.doc_store.specs.Paths.{registered}
 use Rattle.doc_store.specs.Sound.{IsSound}
-use Rattle.doc_store.specs.Store.{Store, id_of, id_given, ids_given, ids_spent, paths_spent, stored, all_stored, externals, spent}
+use Rattle.doc_store.specs.Store.{Store, id_of, ids_given, ids_spent, paths_spent, stored, all_stored, externals, spent}
 use Rattle.doc_store.specs.StoreView.{AdmissionView, IsAdmitted}
 use Rattle.doc_store.proofs.RowLemmas.{id_of-put}
 use Rattle.doc_store.proofs.SoundLemmas.{IsWhole, whole-stored}

@@ -1,20 +1,15 @@
--- Batches that store no documents, and which batch changes are.
-use Rattle.std.proofs.Common.{◌≡◌, ◌≢◌, ℕ, suc, ◌≤◌, ◌||◌, Bool, true, false, cond, List, [], ◌∷◌, ◌++◌, length, filter, replicate, Option, None, Some, Result, Ok, Err, refl, sym, ap, ap₂, subst, ◌∙◌, arith}
+-- Batches that store no documents.
+use Rattle.std.proofs.Common.{◌≡◌, ℕ, ◌≤◌, ◌||◌, Bool, true, false, cond, List, [], ◌∷◌, ◌++◌, length, filter, replicate, Option, None, Some, Result, Ok, refl, sym, ap, ap₂, subst, ◌∙◌, arith}
 use Rattle.std.specs.Prelude.{bytes_eq, codes, flat_map, not}
-use Rattle.std.specs.List.{AllByRecursion, list_any}
 use Rattle.std.specs.Option.{is_some}
 use Rattle.std.specs.Result.{result_err, result_unwrap_or}
 use Rattle.std.proofs.lemmas.Bool.{cond_both}
 use Rattle.std.proofs.lemmas.List.Folds.{list_any-append}
-use Rattle.search_base.specs.Gives.{Fails}
-use Rattle.search_base.specs.Trying.{◌>>=◌}
-use Rattle.search_base.specs.declared.fault.Fault.{Fault}
-use Rattle.search_base.specs.declared.fault.Fault.TheVariants.{Refused as Turned}
 use Rattle.serde_json.specs.Data.{Data}
 use Rattle.serde_json.specs.Find.{get}
 use Rattle.doc_values.specs.Changes.{KindData, create, drop_index, replace, update, remove, clear, patch, reset}
 use Rattle.doc_store.specs.Sound.{IsSound}
-use Rattle.doc_store.specs.Store.{Row, Store}
+use Rattle.doc_store.specs.Store.{Row}
 use Rattle.doc_store.proofs.StoreLemmas.{not_spent}
 use Rattle.doc_index.specs.Left.{without_named}
 use Rattle.doc_index.specs.Named.{is_named, named}
@@ -23,17 +18,15 @@ use Rattle.index_settings.specs.declared.fault.SettingsRefusal.{SettingsRefusal}
 use Rattle.index_settings.specs.Table.{defaults, patch_fault}
 use Rattle.index_settings.specs.Patch.{patched}
 use Rattle.search_settings.specs.Uses.{use_alike}
-use Rattle.index_changes.specs.declared.batch.BatchKind.{BatchKind}
 use Rattle.index_changes.specs.declared.batch.BatchKind.TheVariants as batch
 use Rattle.index_changes.specs.declared.refusal.CoreRefusal.{CoreRefusal}
-use Rattle.index_changes.specs.Batches.{changed_by, after_each, faults_of, batch_kind_of, first_kind, AreOf, MayFollow, IsOneBatch, names_in, names_uses, batch_needed}
+use Rattle.index_changes.specs.Batches.{changed_by, after_each, faults_of, batch_kind_of, AreOf, names_in, names_uses, batch_needed}
 use Rattle.index_changes.specs.Fetches.{LeavesUses, named_needed, needed_under, needed}
-use Rattle.index_changes.specs.Gathering.{Stores}
 use Rattle.index_changes.specs.Index.{Index}
 use Rattle.index_changes.specs.PlanView.{PlanView, Work}
 use Rattle.index_changes.specs.PlanView as work
-use Rattle.index_changes.specs.Plans.{plan_of, patch_planned, planned, unless_spent, applied}
-use Rattle.index_changes.proofs.Gathering.{named-within, named-most, needed-within}
+use Rattle.index_changes.specs.Plans.{plan_of, patch_planned, planned, unless_spent}
+use Rattle.index_changes.proofs.Gathering.{named-within, needed-within}
 use Rattle.index_changes.proofs.Indexing.{sound-left}
 use Rattle.index_changes.proofs.Settling.{alike-patched}
 
@@ -172,51 +165,3 @@ single-needed reset index plan kind is = subst (λ (w : Work). needed w index �
 single-needed (replace given ds) index plan kind is = absurd (cc)
 single-needed (update given ds) index plan kind is = absurd (cc)
 single-needed (remove ids) index plan kind is = absurd (cc)
-
--- what the plan of a change and its work come to
-pub change-refused : (change : KindData) (index : Index) (fault : Fault CoreRefusal) (why : CoreRefusal) → fault ≡ Turned why → Fails fault (planned index change) → changed_by change index ≡ Err why
-change-refused change index fault why is h =
-    let refused : planned index change ≡ Err why = subst (λ f. Fails f (planned index change)) is h in
-    ap (λ (r : Result PlanView CoreRefusal). r >>= (λ plan. applied plan index)) refused
-
-planned-then : (change : KindData) (index : Index) (plan : PlanView) (r : Result Index CoreRefusal) → planned index change ≡ Ok plan → applied plan index ≡ r → changed_by change index ≡ r
-planned-then change index plan r is h = ap (λ (r : Result PlanView CoreRefusal). r >>= (λ plan. applied plan index)) is ∙ h
-
-pub work-refused : (change : KindData) (index : Index) (plan : PlanView) (fault : Fault CoreRefusal) (why : CoreRefusal) → planned index change ≡ Ok plan → fault ≡ Turned why → Fails fault (applied plan index)
-    → changed_by change index ≡ Err why
-work-refused change index plan fault why is turned h = planned-then change index plan (Err why) is (subst (λ f. Fails f (applied plan index)) turned h)
-
-pub change-done : (change : KindData) (index after : Index) (plan : PlanView) → planned index change ≡ Ok plan → applied plan index ≡ Ok after → changed_by change index ≡ Ok after
-change-done change index after plan is h = planned-then change index plan (Ok after) is h
-
--- ---- which batch it is
-
-pub single-few : (changes : List KindData) → first_kind changes ≡ batch.Single → IsOneBatch changes → (length changes ≤ 1) × AreOf batch.Single changes
-single-few [] is h = (omega arith, tt)
-single-few (change ∷ changes) is h =
-    let alone : changes ≡ [] = subst (λ k. MayFollow k changes) is h in
-    (subst (λ (l : List KindData). suc (length l) ≤ 1) (sym alone) (omega arith), (is, subst (AreOf batch.Single) (sym alone) tt))
-
-follow-of : (kind : BatchKind) (changes : List KindData) → kind ≢ batch.Single → MayFollow kind changes → AreOf kind changes
-follow-of batch.Single changes other h = absurd (other refl)
-follow-of batch.Replace changes other h = h
-follow-of batch.Update changes other h = h
-follow-of batch.Remove changes other h = h
-
-pub joined-of : (kind : BatchKind) (changes : List KindData) → first_kind changes ≡ kind → kind ≢ batch.Single → IsOneBatch changes → AreOf kind changes
-joined-of kind [] is other h = tt
-joined-of kind (change ∷ changes) is other h = (is, follow-of kind changes other (subst (λ k. MayFollow k changes) is h))
-
-stores-one : (kind : BatchKind) (change : KindData) → batch_kind_of change ≡ kind → kind ≢ batch.Single → kind ≢ batch.Remove → Stores change
-stores-one kind (replace given ds) is a b = tt
-stores-one kind (update given ds) is a b = tt
-stores-one kind (create key) is a b = absurd (a (sym is))
-stores-one kind drop_index is a b = absurd (a (sym is))
-stores-one kind (remove ids) is a b = absurd (b (sym is))
-stores-one kind clear is a b = absurd (a (sym is))
-stores-one kind (patch members) is a b = absurd (a (sym is))
-stores-one kind reset is a b = absurd (a (sym is))
-
-pub stores-of : (kind : BatchKind) (changes : List KindData) → AreOf kind changes → kind ≢ batch.Single → kind ≢ batch.Remove → AllByRecursion Stores changes
-stores-of kind [] h a b = tt
-stores-of kind (change ∷ changes) h a b = (stores-one kind change h.0 a b, stores-of kind changes h.1 a b)

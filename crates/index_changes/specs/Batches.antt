@@ -1,13 +1,13 @@
 -- Changes that an index takes one after the other: what they leave, why they are refused, and how many stored documents
 -- it takes to make them in one go.
-use Rattle.std.specs.Prelude.{ℕ, ◌≡◌, List, [], ◌∷◌, length, filter_map, flat_map, codes, Bool, true, false, ◌||◌, Option, Some, None, Result, if◌then◌else◌}
+use Rattle.std.specs.Prelude.{ℕ, ◌≡◌, List, [], ◌∷◌, length, filter_map, flat_map, codes, Bool, true, false, ◌||◌, Option, Some, Result, if◌then◌else◌}
 use Rattle.std.specs.List.{AllByRecursion, list_any}
 use Rattle.std.specs.Option.{is_some}
 use Rattle.std.specs.Result.{result_err, result_ok, result_unwrap_or}
 use Rattle.serde_json.specs.Data.{Data}
 use Rattle.serde_json.specs.Find.{get}
 use Rattle.search_base.specs.Trying.{◌>>=◌}
-use Rattle.doc_values.specs.Changes.{KindData, create, drop_index, replace, update, remove, clear, patch, reset}
+use Rattle.doc_values.specs.Changes.{KindData, replace, update, remove, patch, reset}
 use Rattle.doc_values.specs.Ids.{external_id_of}
 use Rattle.index_changes.specs.declared.batch.BatchKind.{BatchKind}
 use Rattle.index_changes.specs.declared.batch.BatchKind.TheVariants as batch

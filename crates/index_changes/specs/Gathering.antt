@@ -1,6 +1,5 @@
 -- Documents of changes that an index takes together, gathered under the primary key that it has by then.
 use Rattle.std.specs.Prelude.{◌≡◌, ◌≤◌, ℕ, List, [], ◌++◌, Option, Some, None, Result, Ok, Err}
-use Rattle.std.specs.List.{AllByRecursion}
 use Rattle.search_base.specs.Trying.{◌>>=◌}
 use Rattle.serde_json.specs.Data.{Data}
 use Rattle.doc_values.specs.Changes.{KindData, replace, update}

@@ -1,7 +1,7 @@
-use Rattle.std.proofs.Common.{◌≡◌, ◌++◌, None, Ok, sym, ap, ap₂, ◌∙◌}
+use Rattle.std.proofs.Common.{◌++◌, sym, ap, ◌∙◌}
 use Rattle.std.specs.Result.{result_err, result_unwrap_or}
 use Rattle.doc_store.specs.Store.{all_stored, spent}
-use Rattle.index_changes.specs.Gathering.{planned_rows, rows_in, with_planned}
+use Rattle.index_changes.specs.Gathering.{rows_in}
 use Rattle.index_changes.proofs.Admitted.{admitting-within}
 use Rattle.index_changes.proofs.Gathering.{admitted-keyed}
 use Rattle.index_changes.proofs.gathered.admit.Goals as goal
