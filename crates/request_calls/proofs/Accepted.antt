@@ -19,11 +19,11 @@ use Rattle.index_settings.proofs.Whole.{patch_whole}
 use Rattle.index_settings.specs.declared.fault.SettingsRefusal.{SettingsRefusal}
 use Rattle.http_wire.specs.Stream.{Request}
 use Rattle.request_refusals.specs.declared.refusal.Refusal.{Refusal}
-use Rattle.request_refusals.specs.declared.refusal.Refusal.TheVariants.{NotJson, MissingUid}
+use Rattle.request_refusals.specs.declared.refusal.Refusal.TheVariants.{NotJson, MissingUid, InvalidTaskUid}
 use Rattle.request_routes.specs.declared.routes.Route.{Route}
-use Rattle.request_routes.specs.declared.routes.Route.TheVariants.{Health, CreateIndex, ListIndexes, ShowIndex, DropIndex, AddDocuments, UpdateDocuments, ListDocuments, ClearDocuments, ShowDocument, RemoveDocument, RemoveDocuments, ShowSettings, PatchSettings, ResetSettings, Search, SearchByQuery, MultiSearch, FacetSearch}
+use Rattle.request_routes.specs.declared.routes.Route.TheVariants.{Health, CreateIndex, ListIndexes, ShowIndex, DropIndex, AddDocuments, UpdateDocuments, ListDocuments, ClearDocuments, ShowDocument, RemoveDocument, RemoveDocuments, ShowSettings, PatchSettings, ResetSettings, Search, SearchByQuery, MultiSearch, FacetSearch, ShowTask}
 use Rattle.request_routes.specs.Query.{Pair, first_unknown, last_pairs, pairs_of, query_for}
-use Rattle.request_routes.specs.Routes.{Found, path_of, query_of, parts_of, route_of, uid_fault}
+use Rattle.request_routes.specs.Routes.{Found, path_of, query_of, parts_of, route_of, uid_fault, task_number, named_fault}
 use Rattle.request_routes.proofs.Keys.{given_key}
 use Rattle.request_routes.proofs.Named.{names_index, IsNamed, found_named}
 use Rattle.request_calls.specs.Asked.{CallData, write, read as reads}
@@ -142,6 +142,29 @@ valid_uid : (uid : List ℕ) → 0 < length uid → uid_fault uid ≡ None → i
 valid_uid [] named right = absurd (omega (arith, named))
 valid_uid (b ∷ bytes) named right = kept _ _ right
 
+-- a route that names an index names no task
+of_index : (route : Route) (uid : List ℕ) → names_index route ≡ true → named_fault route uid ≡ None → uid_fault uid ≡ None
+of_index Health uid n right = right
+of_index CreateIndex uid n right = right
+of_index ListIndexes uid n right = right
+of_index ShowIndex uid n right = right
+of_index DropIndex uid n right = right
+of_index AddDocuments uid n right = right
+of_index UpdateDocuments uid n right = right
+of_index ListDocuments uid n right = right
+of_index ClearDocuments uid n right = right
+of_index ShowDocument uid n right = right
+of_index RemoveDocument uid n right = right
+of_index RemoveDocuments uid n right = right
+of_index ShowSettings uid n right = right
+of_index PatchSettings uid n right = right
+of_index ResetSettings uid n right = right
+of_index Search uid n right = right
+of_index SearchByQuery uid n right = right
+of_index MultiSearch uid n right = right
+of_index FacetSearch uid n right = right
+of_index ShowTask uid n right = absurd (true≢false (sym n))
+
 accepted_at : (route : Route) (uid id : List ℕ) (query : List Pair) (body : List ℕ) → (names_index route ≡ true → is_uid uid ≡ true) → first_unknown route query ≡ None
     → IfOk (call_at route uid id query body) IsAcceptedCall
 accepted_at Health uid id query body u q = tt
@@ -165,27 +188,29 @@ accepted_at Search uid id query body u q = bound (λ _. Unit {0}) IsAcceptedCall
 accepted_at SearchByQuery uid id query body u q = bound (λ _. Unit {0}) IsAcceptedCall (search_by query) _ (whatever (search_by query)) (λ call is. tt)
 accepted_at MultiSearch uid id query body u q = bound (λ _. Unit {0}) IsAcceptedCall (multi_of body) _ (whatever (multi_of body)) (λ calls is. tt)
 accepted_at FacetSearch uid id query body u q = bound (λ _. Unit {0}) IsAcceptedCall (facets_of body) _ (whatever (facets_of body)) (λ call is. tt)
+accepted_at ShowTask uid id query body u q =
+    bound (λ _. Unit {0}) IsAcceptedCall (or_refuse InvalidTaskUid (task_number uid)) _ (whatever (or_refuse InvalidTaskUid (task_number uid))) (λ number is. tt)
 
 known : (route : Route) (query : List ℕ) → IfOk (query_for route query) (λ pairs. first_unknown route pairs ≡ None)
 known route query = checked (λ pairs. first_unknown route pairs ≡ None) (first_unknown route (last_pairs (pairs_of query))) _ (λ right. right)
 
 -- the uid and the pairs of a query string that are not refused
 abbrev IsRight : Found → List Pair → Type 0
-IsRight found pairs = (uid_fault found.uid ≡ None) × (first_unknown found.route pairs ≡ None)
+IsRight found pairs = (named_fault found.route found.uid ≡ None) × (first_unknown found.route pairs ≡ None)
 
 accepted : (q : Request) → IfOk (call_of q) IsAcceptedCall
 accepted q =
     bound IsNamed IsAcceptedCall (route_of q.method (parts_of (path_of q.target))) _ (found_named q.method (parts_of (path_of q.target))) (λ found named.
-    bound (IsRight found) IsAcceptedCall (uid_fault found.uid >> query_for found.route (query_of q.target)) _ (right found) (λ query is.
-    accepted_at found.route found.uid found.id query q.body (λ n. valid_uid found.uid (named n) is.0) is.1))
+    bound (IsRight found) IsAcceptedCall (named_fault found.route found.uid >> query_for found.route (query_of q.target)) _ (right found) (λ query is.
+    accepted_at found.route found.uid found.id query q.body (λ n. valid_uid found.uid (named n) (of_index found.route found.uid n is.0)) is.1))
   where
-    with : (found : Found) (r : Result (List Pair) Refusal) → uid_fault found.uid ≡ None → IfOk r (λ pairs. first_unknown found.route pairs ≡ None)
+    with : (found : Found) (r : Result (List Pair) Refusal) → named_fault found.route found.uid ≡ None → IfOk r (λ pairs. first_unknown found.route pairs ≡ None)
         → IfOk r (IsRight found)
     with found (Ok pairs) u k = (u, k)
     with found (Err e) u k = tt
 
-    right : (found : Found) → IfOk (uid_fault found.uid >> query_for found.route (query_of q.target)) (IsRight found)
-    right found = checked (IsRight found) (uid_fault found.uid) _ (λ u. with found (query_for found.route (query_of q.target)) u (known found.route (query_of q.target)))
+    right : (found : Found) → IfOk (named_fault found.route found.uid >> query_for found.route (query_of q.target)) (IsRight found)
+    right found = checked (IsRight found) (named_fault found.route found.uid) _ (λ u. with found (query_for found.route (query_of q.target)) u (known found.route (query_of q.target)))
 
 pub accepted_call : (q : Request) (call : CallData) → call_of q ≡ Ok call → IfOk {E = Refusal} (Ok call) IsAcceptedCall
 accepted_call q call is = subst (λ r. IfOk r IsAcceptedCall) is (accepted q)

@@ -7,7 +7,7 @@ use Rattle.search_base.specs.declared.fault.Fault.TheVariants.{Refused, NoMemory
 use Rattle.search_base.specs.Gives.{Fails, Checks}
 use Rattle.search_base.specs.Trying.{◌>>=◌, ◌>>◌}
 use Rattle.request_routes.specs.Query.{Pair, query_for}
-use Rattle.request_routes.specs.Routes.{Found, path_of, query_of, parts_of, route_of, uid_fault}
+use Rattle.request_routes.specs.Routes.{Found, path_of, query_of, parts_of, route_of, named_fault}
 use Rattle.request_calls.specs.Asked.{CallData}
 use Rattle.request_calls.specs.Calls.{call_at, call_of}
 
@@ -27,7 +27,7 @@ later_fails f o r none fails = subst (λ v. Fails f (v >> r)) (sym none) fails
 
 -- what a request asks for, once its route is found
 abbrev asked_at : Request → Found → Result CallData Refusal
-asked_at q found = (uid_fault found.uid >> query_for found.route (query_of q.target)) >>= λ query. call_at found.route found.uid found.id query q.body
+asked_at q found = (named_fault found.route found.uid >> query_for found.route (query_of q.target)) >>= λ query. call_at found.route found.uid found.id query q.body
 
 pub route_fails : (q : Request) (f : Fault Refusal) (method path : List ℕ) → method ≡ q.method → path ≡ path_of q.target
     → Fails f (route_of method (parts_of path)) → Fails f (call_of q)
@@ -43,25 +43,25 @@ at_route q method path found m p is =
     (subst (λ v. route_of v (parts_of (path_of q.target)) ≡ Ok found) m (subst (λ v. route_of method (parts_of v) ≡ Ok found) p is))
 
 found_fails : (q : Request) (f : Fault Refusal) (method path : List ℕ) (found : Found) → method ≡ q.method → path ≡ path_of q.target
-    → route_of method (parts_of path) ≡ Ok found → Fails f (uid_fault found.uid >> query_for found.route (query_of q.target)) → Fails f (call_of q)
+    → route_of method (parts_of path) ≡ Ok found → Fails f (named_fault found.route found.uid >> query_for found.route (query_of q.target)) → Fails f (call_of q)
 found_fails q f method path found m p is fails =
-    subst (Fails f) (sym (at_route q method path found m p is)) (fails_bind f (uid_fault found.uid >> query_for found.route (query_of q.target)) _ fails)
+    subst (Fails f) (sym (at_route q method path found m p is)) (fails_bind f (named_fault found.route found.uid >> query_for found.route (query_of q.target)) _ fails)
 
 pub uid_fails : (q : Request) (f : Fault Refusal) (method path : List ℕ) (found : Found) → method ≡ q.method → path ≡ path_of q.target
-    → route_of method (parts_of path) ≡ Ok found → Checks (Err f) (uid_fault found.uid) → Fails f (call_of q)
-uid_fails q f method path found m p is fault = found_fails q f method path found m p is (check_fails f (uid_fault found.uid) _ fault)
+    → route_of method (parts_of path) ≡ Ok found → Checks (Err f) (named_fault found.route found.uid) → Fails f (call_of q)
+uid_fails q f method path found m p is fault = found_fails q f method path found m p is (check_fails f (named_fault found.route found.uid) _ fault)
 
 pub query_fails : (q : Request) (f : Fault Refusal) (method path query : List ℕ) (found : Found) → method ≡ q.method → path ≡ path_of q.target
-    → query ≡ query_of q.target → route_of method (parts_of path) ≡ Ok found → uid_fault found.uid ≡ None → Fails f (query_for found.route query) → Fails f (call_of q)
+    → query ≡ query_of q.target → route_of method (parts_of path) ≡ Ok found → named_fault found.route found.uid ≡ None → Fails f (query_for found.route query) → Fails f (call_of q)
 query_fails q f method path query found m p s is right fails =
     found_fails q f method path found m p is
-    (later_fails f (uid_fault found.uid) (query_for found.route (query_of q.target)) right (subst (λ v. Fails f (query_for found.route v)) s fails))
+    (later_fails f (named_fault found.route found.uid) (query_for found.route (query_of q.target)) right (subst (λ v. Fails f (query_for found.route v)) s fails))
 
 -- nothing but the body is left
 pub asked_whole : (q : Request) (method path query : List ℕ) (found : Found) (pairs : List Pair) → method ≡ q.method → path ≡ path_of q.target
-    → query ≡ query_of q.target → route_of method (parts_of path) ≡ Ok found → uid_fault found.uid ≡ None → query_for found.route query ≡ Ok pairs
+    → query ≡ query_of q.target → route_of method (parts_of path) ≡ Ok found → named_fault found.route found.uid ≡ None → query_for found.route query ≡ Ok pairs
     → call_of q ≡ call_at found.route found.uid found.id pairs q.body
 asked_whole q method path query found pairs m p s is right has =
-    let whole : (uid_fault found.uid >> query_for found.route (query_of q.target)) ≡ Ok pairs =
+    let whole : (named_fault found.route found.uid >> query_for found.route (query_of q.target)) ≡ Ok pairs =
     ap (λ o. o >> query_for found.route (query_of q.target)) right ∙ subst (λ v. query_for found.route v ≡ Ok pairs) s has in
-    at_route q method path found m p is ∙ bind_ok (uid_fault found.uid >> query_for found.route (query_of q.target)) pairs _ whole
+    at_route q method path found m p is ∙ bind_ok (named_fault found.route found.uid >> query_for found.route (query_of q.target)) pairs _ whole

@@ -6,11 +6,12 @@ pub use Rattle.request_calls.specs.MultiData.{MultiData}
 use Rattle.request_calls.specs.declared.call.ReadCall.{ReadCall}
 use Rattle.request_calls.specs.declared.call.ReadCall.TheVariants as called
 
--- what is read: the health, the indexes from a place on, an index, its documents from a place on, one of its documents
--- (each with the names of the members that are shown), its settings, the hits of a search, those of several
--- searches, and the values of a facet
+-- what is read: the health, what becomes of the task of a number, the indexes from a place on, an index, its documents
+-- from a place on, one of its documents (each with the names of the members that are shown), its settings, the hits of
+-- a search, those of several searches, and the values of a facet
 pub data ReadData : Type 0 where
   health : ReadData
+  task : ℕ → ReadData
   indexes : ℕ → ℕ → ReadData
   index : List ℕ → ReadData
   documents : List ℕ → ℕ → ℕ → List (List ℕ) → ReadData
@@ -22,6 +23,7 @@ pub data ReadData : Type 0 where
 
 abbrev pub read_view : ReadCall → ReadData
 read_view called.Health = health
+read_view (called.Task number) = task number
 read_view (called.Indexes offset limit) = indexes offset limit
 read_view (called.Index uid) = index uid
 read_view (called.Documents uid offset limit fields) = documents uid offset limit fields.items

@@ -9,11 +9,12 @@ use Rattle.doc_values.specs.Ids.{is_uid}
 use Rattle.http_wire.specs.Stream.{Request}
 use Rattle.http_wire.specs.Sent.{IsSentAs}
 use Rattle.request_refusals.specs.declared.refusal.Refusal.{Refusal}
-use Rattle.search_base.specs.Trying.{◌>>=◌, ◌>>◌}
+use Rattle.request_refusals.specs.declared.refusal.Refusal.TheVariants.{InvalidTaskUid}
+use Rattle.search_base.specs.Trying.{◌>>=◌, ◌>>◌, or_refuse}
 use Rattle.request_calls.specs.Refusals.{refused}
 use Rattle.request_routes.specs.declared.routes.Route.{Route}
-use Rattle.request_routes.specs.declared.routes.Route.TheVariants.{Health, CreateIndex, ListIndexes, ShowIndex, DropIndex, AddDocuments, UpdateDocuments, ListDocuments, ClearDocuments, ShowDocument, RemoveDocument, RemoveDocuments, ShowSettings, PatchSettings, ResetSettings, Search, SearchByQuery, MultiSearch, FacetSearch}
-use Rattle.request_routes.specs.Routes.{path_of, query_of, parts_of, route_of, uid_fault}
+use Rattle.request_routes.specs.declared.routes.Route.TheVariants.{Health, CreateIndex, ListIndexes, ShowIndex, DropIndex, AddDocuments, UpdateDocuments, ListDocuments, ClearDocuments, ShowDocument, RemoveDocument, RemoveDocuments, ShowSettings, PatchSettings, ResetSettings, Search, SearchByQuery, MultiSearch, FacetSearch, ShowTask}
+use Rattle.request_routes.specs.Routes.{path_of, query_of, parts_of, route_of, task_number, named_fault}
 use Rattle.request_routes.specs.Query.{Pair, query_for, value_of, count_in, fields_in}
 use Rattle.request_calls.specs.declared.call.Call.{Call}
 use Rattle.request_calls.specs.declared.call.Call.TheVariants as call
@@ -66,12 +67,15 @@ call_at MultiSearch uid id query body = do
 call_at FacetSearch uid id query body = do
   call ← facets_of body
   Ok (read (asked.facets uid call))
+call_at ShowTask uid id query body = do
+  number ← or_refuse InvalidTaskUid (task_number uid)
+  Ok (read (asked.task number))
 
--- the path and the method, the uid, the query string, and the body
+-- the path and the method, the uid of an index or of a task, the query string, and the body
 abbrev pub call_of : Request → Result CallData Refusal
 call_of q = do
   found ← route_of q.method (parts_of (path_of q.target))
-  query ← (uid_fault found.uid >> query_for found.route (query_of q.target))
+  query ← (named_fault found.route found.uid >> query_for found.route (query_of q.target))
   call_at found.route found.uid found.id query q.body
 
 -- the call is that of the definition; a refused one comes with its reply

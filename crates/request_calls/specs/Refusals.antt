@@ -4,7 +4,7 @@ use Rattle.serde_json.specs.Data.{Data, string, object, member, no_members}
 use Rattle.serde_json.specs.Written.{compact_text}
 use Rattle.http_wire.specs.Reply.{Answer}
 use Rattle.request_refusals.specs.declared.refusal.Refusal.{Refusal}
-use Rattle.request_refusals.specs.declared.refusal.Refusal.TheVariants.{NoRoute, MethodNotAllowed, InvalidUid, Unknown, InvalidSearch, NotJson, NotList, NotObject, NumberNotWhole, BadListedId, MissingUid, BadSettings, BadRankingRule, BadQueries, MissingQueryUid, MissingFacetName, InvalidFacetName, InvalidFacetQuery, NoIndex, IndexExists, NoDocument, KeyDiffers, NoCandidate, SeveralCandidates, MissingId, BadId, ChangesSpent, IndexesSpent, IdsSpent, PathsSpent, FilterSyntax, FilterTooDeep, FilterNotANumber, NoSortRule, NotSortable, NotFilterable, NotFacet}
+use Rattle.request_refusals.specs.declared.refusal.Refusal.TheVariants.{NoRoute, MethodNotAllowed, InvalidUid, InvalidTaskUid, Unknown, InvalidSearch, NotJson, NotList, NotObject, NumberNotWhole, BadListedId, MissingUid, BadSettings, BadRankingRule, BadQueries, MissingQueryUid, MissingFacetName, InvalidFacetName, InvalidFacetQuery, NoIndex, NoTask, NoDocument, ChangesSpent, FilterSyntax, FilterTooDeep, FilterNotANumber, NoSortRule, NotSortable, NotFilterable, NotFacet}
 use Rattle.request_refusals.specs.Members.{row_of}
 
 pub record Told : Type 0 where
@@ -19,6 +19,7 @@ abbrev pub told_of : Refusal → Told
 told_of NoRoute = told 404 (codes "not_found") (codes "No such route.")
 told_of MethodNotAllowed = told 405 (codes "method_not_allowed") (codes "Method not allowed.")
 told_of InvalidUid = told 400 (codes "invalid_index_uid") (codes "Invalid index uid.")
+told_of InvalidTaskUid = told 400 (codes "invalid_task_uid") (codes "Invalid task uid.")
 told_of (Unknown name) = told 400 (codes "bad_request") (codes "Unknown or malformed `" ++ name ++ codes "`.")
 told_of (InvalidSearch m) = told 400 (row_of m).code (codes "Invalid `" ++ (row_of m).name ++ codes "`.")
 told_of (FilterSyntax text place) =
@@ -49,22 +50,9 @@ told_of MissingFacetName =
 told_of InvalidFacetName = told 400 (codes "invalid_facet_search_facet_name") (codes "Invalid `facetName`.")
 told_of InvalidFacetQuery = told 400 (codes "invalid_facet_search_facet_query") (codes "Invalid `facetQuery`.")
 told_of (NoIndex uid) = told 404 (codes "index_not_found") (codes "No index `" ++ uid ++ codes "`.")
-told_of (IndexExists uid) = told 409 (codes "index_already_exists") (codes "Index `" ++ uid ++ codes "` exists.")
+told_of (NoTask number) = told 404 (codes "task_not_found") (codes "No task " ++ decimal number ++ codes ".")
 told_of (NoDocument id) = told 404 (codes "document_not_found") (codes "No document `" ++ id ++ codes "`.")
-told_of KeyDiffers = told 400 (codes "index_primary_key_already_exists") (codes "The primary key is another one.")
-told_of NoCandidate =
-    told 400 (codes "index_primary_key_no_candidate_found") (codes "No candidate for the primary key.")
-told_of SeveralCandidates =
-    told 400 (codes "index_primary_key_multiple_candidates_found") (codes "Several candidates for the primary key.")
-told_of (MissingId k key) =
-    told 400 (codes "missing_document_id")
-    (codes "Document " ++ (decimal k ++ (codes " has no `" ++ (key ++ codes "`."))))
-told_of (BadId k) =
-    told 400 (codes "invalid_document_id") (codes "Document " ++ decimal k ++ codes " has an invalid id.")
 told_of ChangesSpent = told 400 (codes "changes_spent") (codes "No more changes.")
-told_of IndexesSpent = told 400 (codes "indexes_spent") (codes "No more indexes.")
-told_of IdsSpent = told 400 (codes "ids_spent") (codes "No more documents.")
-told_of PathsSpent = told 400 (codes "paths_spent") (codes "No more attributes.")
 told_of NoSortRule = told 400 (codes "invalid_search_sort") (codes "The ranking rules have no sort.")
 told_of (NotSortable attribute) =
     told 400 (codes "invalid_search_sort") (codes "`" ++ attribute ++ codes "` is not sortable.")

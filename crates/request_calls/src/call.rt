@@ -3,7 +3,7 @@ ghost use Rattle.doc_values.specs.Changes.{kind_view};
 ghost use Rattle.http_wire.specs.Wire.{request_of};
 ghost use Rattle.search_base.specs.Gives.{Gives};
 ghost use Rattle.request_routes.specs.Held.{pair_of};
-ghost use Rattle.request_routes.specs.declared.routes.Route.TheVariants.{CreateIndex, ListIndexes, AddDocuments, UpdateDocuments, ListDocuments, ShowDocument, RemoveDocument, RemoveDocuments, PatchSettings, Search, SearchByQuery, MultiSearch, FacetSearch};
+ghost use Rattle.request_routes.specs.declared.routes.Route.TheVariants.{CreateIndex, ListIndexes, AddDocuments, UpdateDocuments, ListDocuments, ShowDocument, RemoveDocument, RemoveDocuments, PatchSettings, Search, SearchByQuery, MultiSearch, FacetSearch, ShowTask};
 ghost use Rattle.request_calls.specs.Asked.{write};
 ghost use Rattle.request_calls.specs.Calls.{call_of, call_at, IsCall, IsAccepted, OnChange};
 ghost use Rattle.request_calls.specs.Held.{call_data};
@@ -18,8 +18,8 @@ use doc_values::{Change, ChangeKind};
 use http_wire::{Reply, Wire};
 use request_refusals::Refusal;
 use request_routes::{
-    Found, Pair, Route, RouteTable, check_uid, count_in, fields_in, find_route, read_query,
-    split_target, text_in,
+    Found, Pair, Route, RouteTable, check_named, count_in, fields_in, find_route, read_query,
+    split_target, task_number, text_in,
 };
 use search_base::{Fault, NoMemory, Word};
 use search_call::{FacetCall, SearchCall};
@@ -30,6 +30,10 @@ use std::alloc::Global;
 pub enum ReadCall {
     /// Whether the server answers.
     Health,
+    /// What becomes of the task of this number.
+    Task {
+        number: u64,
+    },
     /// The indexes by their uids' bytes, `limit` of them from the place `offset` on, counted from 0.
     Indexes {
         offset: u64,
@@ -92,10 +96,10 @@ pub(crate) enum Request {
 
 /// The call that a request is, or the reply to it where it is refused by what it says alone.
 ///
-/// Tried are its path, its method, the uid of the path, the query string in the order of its pairs, the body as JSON
-/// (RFC 8259) and the body's shape, and the first fault is the one that is told. A change has a valid uid, a key that
-/// is not empty, and a patch of settings without fault, with no float, nested no deeper than a JSON text may. Its error
-/// is want of memory.
+/// Tried are its path, its method, the uid of an index or of a task in the path, the query string in the order of its
+/// pairs, the body as JSON (RFC 8259) and the body's shape, and the first fault is the one that is told. A change has a
+/// valid uid, a key that is not empty, and a patch of settings without fault, with no float, nested no deeper than a
+/// JSON text may. Its error is want of memory.
 pub fn read_call(alloc: Global, table: &RouteTable, wire: &Wire) -> Result<Call, NoMemory>
     ensures call { IfOk result (λ call. IsCall call (call_of (request_of wire.now))) }
     ensures accepted { IfOk result (OnChange IsAccepted) }
@@ -113,7 +117,7 @@ fn ask(alloc: Global, table: &RouteTable, wire: &Wire) -> Result<Request, Fault<
 {
     let (path, query) = split_target(wire.target.as_str());
     let found = find_route(alloc, table, wire.method.as_str(), path)?;
-    check_uid(found.uid)?;
+    check_named(found.route, found.uid)?;
     let pairs = read_query(alloc, found.route, query)?;
     ask_at(alloc, found, &pairs, &wire.body)
 }
@@ -153,6 +157,7 @@ fn ask_at(
         Route::SearchByQuery => search_by_query(alloc, uid, pairs),
         Route::MultiSearch => multi_search(alloc, body),
         Route::FacetSearch => facet_search(alloc, uid, body),
+        Route::ShowTask => show_task(uid),
     }
 }
 
@@ -173,6 +178,15 @@ fn create_index(alloc: Global, body: &[u8]) -> Result<Request, Fault<Refusal>>
         uid,
         kind: ChangeKind::Create { key },
     }))
+}
+
+fn show_task(uid: &str) -> Result<Request, Fault<Refusal>>
+    ensures { Gives call_data result (call_at ShowTask uid.now [] [] []) }
+{
+    match task_number(uid) {
+        Some(number) => Ok(Request::Read(ReadCall::Task { number })),
+        None => Err(Fault::Refused(Refusal::InvalidTaskUid)),
+    }
 }
 
 fn list_indexes(pairs: &[Pair]) -> Request

@@ -7,8 +7,8 @@
 //! read from a body, and shares the text, the filter and the strategy with them. Stands on http_wire for requests and
 //! replies, on request_refusals for why a request is refused, on request_routes for routes and query strings, on
 //! search_call for searches, on filter_expr for their filters, on doc_values for ids and changes, on document_stream
-//! for documents, on index_settings for what a patch of settings may say and a search may sort by, and on serde_json for
-//! other bodies.
+//! for documents, on index_settings for what a patch of settings may say and a search may sort by, and on serde_json
+//! for other bodies.
 #![tactic(auto)]
 
 mod body;

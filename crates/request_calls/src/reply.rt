@@ -15,11 +15,11 @@ fn status_of(refusal: &Refusal) -> StatusCode
     ensures { result ≡ (told_of refusal.now).status }
 {
     match refusal {
-        Refusal::NoRoute | Refusal::NoIndex { .. } | Refusal::NoDocument { .. } => {
-            StatusCode::NOT_FOUND
-        }
+        Refusal::NoRoute
+        | Refusal::NoIndex { .. }
+        | Refusal::NoTask { .. }
+        | Refusal::NoDocument { .. } => StatusCode::NOT_FOUND,
         Refusal::MethodNotAllowed => StatusCode::METHOD_NOT_ALLOWED,
-        Refusal::IndexExists { .. } => StatusCode::CONFLICT,
         _ => StatusCode::BAD_REQUEST,
     }
 }
@@ -31,6 +31,7 @@ fn code_of(refusal: &Refusal) -> &'static str
         Refusal::NoRoute => "not_found",
         Refusal::MethodNotAllowed => "method_not_allowed",
         Refusal::InvalidUid => "invalid_index_uid",
+        Refusal::InvalidTaskUid => "invalid_task_uid",
         Refusal::Unknown { .. } | Refusal::BadQueries => "bad_request",
         Refusal::InvalidSearch { member } => member.row().code,
         Refusal::FilterSyntax { .. }
@@ -41,7 +42,7 @@ fn code_of(refusal: &Refusal) -> &'static str
         Refusal::NotFacet { .. } => "invalid_search_facets",
         Refusal::NotJson | Refusal::NotList | Refusal::NotObject { .. } => "malformed_payload",
         Refusal::NumberNotWhole { .. } => "number_not_whole",
-        Refusal::BadListedId { .. } | Refusal::BadId { .. } => "invalid_document_id",
+        Refusal::BadListedId { .. } => "invalid_document_id",
         Refusal::MissingUid | Refusal::MissingQueryUid { .. } => "missing_index_uid",
         Refusal::BadSettings { .. } => "invalid_settings",
         Refusal::BadRankingRule { .. } => "invalid_settings_ranking_rules",
@@ -49,16 +50,9 @@ fn code_of(refusal: &Refusal) -> &'static str
         Refusal::InvalidFacetName => "invalid_facet_search_facet_name",
         Refusal::InvalidFacetQuery => "invalid_facet_search_facet_query",
         Refusal::NoIndex { .. } => "index_not_found",
-        Refusal::IndexExists { .. } => "index_already_exists",
+        Refusal::NoTask { .. } => "task_not_found",
         Refusal::NoDocument { .. } => "document_not_found",
-        Refusal::KeyDiffers => "index_primary_key_already_exists",
-        Refusal::NoCandidate => "index_primary_key_no_candidate_found",
-        Refusal::SeveralCandidates => "index_primary_key_multiple_candidates_found",
-        Refusal::MissingId { .. } => "missing_document_id",
         Refusal::ChangesSpent => "changes_spent",
-        Refusal::IndexesSpent => "indexes_spent",
-        Refusal::IdsSpent => "ids_spent",
-        Refusal::PathsSpent => "paths_spent",
     }
 }
 
@@ -105,6 +99,7 @@ fn message_of(alloc: Global, refusal: &Refusal) -> Result<String, AllocError>
         Refusal::NoRoute => String::from_str(alloc, "No such route."),
         Refusal::MethodNotAllowed => String::from_str(alloc, "Method not allowed."),
         Refusal::InvalidUid => String::from_str(alloc, "Invalid index uid."),
+        Refusal::InvalidTaskUid => String::from_str(alloc, "Invalid task uid."),
         Refusal::Unknown { name } => format!(in alloc;
             "Unknown or malformed `{name}`.",
             name = name.as_str()
@@ -137,27 +132,10 @@ fn message_of(alloc: Global, refusal: &Refusal) -> Result<String, AllocError>
         Refusal::MissingFacetName => String::from_str(alloc, "The facet name is missing."),
         Refusal::InvalidFacetName => String::from_str(alloc, "Invalid `facetName`."),
         Refusal::InvalidFacetQuery => String::from_str(alloc, "Invalid `facetQuery`."),
-        Refusal::IndexExists { uid } => format!(in alloc;
-            "Index `{uid}` exists.",
-            uid = uid.as_str()
-        ),
+        Refusal::NoTask { number } => format!(in alloc; "No task {number}."),
         Refusal::NoDocument { id } => format!(in alloc; "No document `{id}`.", id = id.as_str()),
         Refusal::NoIndex { uid } => format!(in alloc; "No index `{uid}`.", uid = uid.as_str()),
-        Refusal::KeyDiffers => String::from_str(alloc, "The primary key is another one."),
-        Refusal::NoCandidate => String::from_str(alloc, "No candidate for the primary key."),
-        Refusal::SeveralCandidates => String::from_str(
-            alloc,
-            "Several candidates for the primary key.",
-        ),
-        Refusal::MissingId { document, key } => format!(in alloc;
-            "Document {document} has no `{key}`.",
-            key = key.as_str()
-        ),
-        Refusal::BadId { document } => format!(in alloc; "Document {document} has an invalid id."),
         Refusal::ChangesSpent => String::from_str(alloc, "No more changes."),
-        Refusal::IndexesSpent => String::from_str(alloc, "No more indexes."),
-        Refusal::IdsSpent => String::from_str(alloc, "No more documents."),
-        Refusal::PathsSpent => String::from_str(alloc, "No more attributes."),
         Refusal::NoSortRule => String::from_str(alloc, "The ranking rules have no sort."),
         Refusal::NotSortable { attribute } => sortable_message(alloc, attribute.as_str()),
         Refusal::NotFilterable { attribute } | Refusal::NotFacet { attribute } => {

@@ -10,6 +10,8 @@ pub enum Refusal {
     MethodNotAllowed,
     /// The uid of the path or the body is not 1 to 400 bytes of ASCII letters, digits, `-` and `_`.
     InvalidUid,
+    /// The path's part behind `tasks` is not 1 to 19 decimal digits without a leading zero.
+    InvalidTaskUid,
     /// A name of the query string or a member of the body that the route does not have, or whose value has a wrong
     /// shape. The name `body` stands for a whole body that is to be an object.
     Unknown { name: Word },
@@ -50,28 +52,12 @@ pub enum Refusal {
     InvalidFacetQuery,
     /// The machine has no index of this uid.
     NoIndex { uid: Word },
-    /// The machine has an index of this uid, and one is to be made.
-    IndexExists { uid: Word },
+    /// No task of this number waits, and none of it is among the last 1,000 that finished.
+    NoTask { number: u64 },
     /// No document of the index has this external id.
     NoDocument { id: Word },
-    /// The index has a primary key, and the query string names another.
-    KeyDiffers,
-    /// A primary key must be inferred, and no name of the first document ends in `id`.
-    NoCandidate,
-    /// A primary key must be inferred, and several names of the first document end in `id`.
-    SeveralCandidates,
-    /// This document, from 1, has no member of the primary key's name.
-    MissingId { document: u32, key: Word },
-    /// This document, from 1, has one that is no id.
-    BadId { document: u32 },
-    /// 1,000,000,000 changes were accepted.
+    /// 1,000,000,000 tasks were accepted.
     ChangesSpent,
-    /// The change would make one index more than 1,000.
-    IndexesSpent,
-    /// A new document would take an internal number of 1,000,000 or more.
-    IdsSpent,
-    /// The index would have more than 1,000 paths.
-    PathsSpent,
     /// A search sorts, and the ranking rules of the index do not.
     NoSortRule,
     /// The settings do not let a search sort by this attribute.

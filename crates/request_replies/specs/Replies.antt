@@ -1,5 +1,5 @@
 -- The replies to calls that are not refused.
-use Rattle.std.specs.Prelude.{ℕ, List, [], ◌∷◌, ◌++◌, map, Bool, true, codes, Option, Some, None, ◌==◌, if◌then◌else◌}
+use Rattle.std.specs.Prelude.{ℕ, List, [], ◌∷◌, ◌++◌, map, Bool, true, codes, decimal, Option, Some, None, ◌==◌, ◌||◌, if◌then◌else◌}
 use Rattle.std.specs.Int.{div_ceil}
 use Rattle.serde_json.specs.Data.{Data, null, number, unsigned, string, array, object, Members, member, no_members, put}
 use Rattle.serde_json.specs.View.{items_of}
@@ -15,6 +15,10 @@ use Rattle.doc_values.specs.Walk.{members_in}
 use Rattle.facet_counts.specs.declared.rows.CountRow.{CountRow}
 use Rattle.facet_counts.specs.FacetView.{FacetView}
 use Rattle.search_result.specs.View.{Found}
+use Rattle.task_queue.specs.declared.task.TaskState.{TaskState}
+use Rattle.task_queue.specs.declared.task.TaskState.TheVariants as state
+use Rattle.task_queue.specs.Queue.{Shown as TaskShown}
+use Rattle.request_refusals.specs.Tasks.{code_of_row}
 use Rattle.request_replies.specs.Shown.{shown, all_shown, hit_shown}
 use Rattle.request_replies.specs.Facets.{facet_members}
 
@@ -24,18 +28,60 @@ answer status d = record { status = status; body = compact_text d }
 abbrev pub count : ℕ → Data
 count n = number (unsigned n)
 
--- ---- changes
+-- ---- tasks
 
--- an accepted change of this kind, with the count of those before it
-abbrev pub change_data : List ℕ → List ℕ → ℕ → Data
-change_data uid kind before =
+-- what a change is called, by the byte of its kind, as a recorded change begins with it
+abbrev pub kind_name : ℕ → List ℕ
+kind_name kind =
+    if kind == 1 then codes "indexCreation"
+    else if kind == 2 then codes "indexDeletion"
+    else if kind == 3 || kind == 4 then codes "documentAdditionOrUpdate"
+    else if kind == 5 || kind == 6 then codes "documentDeletion"
+    else if kind == 7 || kind == 8 then codes "settingsUpdate"
+    else []
+
+-- a change of the index of this uid that was accepted as the task of this number
+abbrev pub accepted_data : List ℕ → ℕ → ℕ → Data
+accepted_data uid kind n =
     object (member (codes "indexUid") (string uid)
-    (member (codes "status") (string (codes "succeeded"))
-    (member (codes "taskUid") (count before)
-    (member (codes "type") (string kind) no_members))))
+    (member (codes "status") (string (codes "enqueued"))
+    (member (codes "taskUid") (count n)
+    (member (codes "type") (string (kind_name kind)) no_members))))
 
-abbrev pub accepted : List ℕ → List ℕ → ℕ → Answer
-accepted uid kind before = answer 202 (change_data uid kind before)
+abbrev pub accepted : List ℕ → ℕ → ℕ → Answer
+accepted uid kind n = answer 202 (accepted_data uid kind n)
+
+abbrev pub status_name : TaskState → List ℕ
+status_name state.Enqueued = codes "enqueued"
+status_name state.Succeeded = codes "succeeded"
+status_name (state.Failed row) = codes "failed"
+
+abbrev pub failure_data : List ℕ → List ℕ → Data
+failure_data code message =
+    object (member (codes "code") (string code)
+    (member (codes "message") (string message)
+    (member (codes "type") (string (codes "invalid_request")) no_members)))
+
+abbrev pub failure_message : ℕ → List ℕ
+failure_message n = codes "Task " ++ decimal n ++ codes " was refused."
+
+-- why the task of this number failed, by the number of its refusal; null of a task that did not fail
+abbrev pub error_data : ℕ → TaskState → Data
+error_data n state.Enqueued = null
+error_data n state.Succeeded = null
+error_data n (state.Failed row) = failure_data (code_of_row row) (failure_message n)
+
+abbrev pub task_data : TaskShown → Data
+task_data t =
+    object (member (codes "error") (error_data t.number t.state)
+    (member (codes "indexUid") (string t.uid)
+    (member (codes "status") (string (status_name t.state))
+    (member (codes "type") (string (kind_name t.kind))
+    (member (codes "uid") (count t.number) no_members)))))
+
+-- what becomes of a task
+abbrev pub task : TaskShown → Answer
+task t = answer 200 (task_data t)
 
 -- ---- the server and its indexes
 

@@ -6,7 +6,7 @@ ghost use Rattle.serde_json.specs.View.{view};
 ghost use Rattle.serde_json.specs.Written.{compact_text, has_float};
 ghost use Rattle.http_wire.specs.Sent.{IsSentAs};
 ghost use Rattle.search_result.specs.View.{found_view};
-ghost use Rattle.request_replies.specs.Replies.{answer, accepted, change_data, health, health_data, index_data, one_index, one_document, list_data, documents_listing, facet_hits, found_data, settings as shown_settings, hits as hits_answer, results as all_results, with_uid};
+ghost use Rattle.request_replies.specs.Replies.{answer, health, health_data, index_data, one_index, one_document, list_data, documents_listing, facet_hits, found_data, settings as shown_settings, hits as hits_answer, results as all_results, with_uid};
 
 use crate::found::found_text;
 use crate::result::ResultText;
@@ -22,21 +22,6 @@ use search_call::SearchCall;
 use search_result::SearchResult;
 use serde_json::{Value, json};
 use std::alloc::{AllocError, Global};
-
-/// The reply to an accepted change of this kind, with the count of those before it.
-pub fn accepted_reply(alloc: Global, uid: &str, kind: &str, before: u64) -> Result<Reply, NoMemory>
-    ensures { IfOk result (λ reply. IsSentAs reply (accepted uid.now kind.now before)) }
-{
-    let value = change_value(alloc, uid, kind, before)?;
-    let body = value.to_vec(alloc)?;
-    make_reply(alloc, StatusCode::ACCEPTED, body)
-}
-
-fn change_value(alloc: Global, uid: &str, kind: &str, before: u64) -> Result<Value, AllocError>
-    ensures { IfOk result (λ value. view value ≡ change_data uid.now kind.now before) }
-{
-    json!(in alloc; {"indexUid": uid, "status": "succeeded", "taskUid": before, "type": kind})
-}
 
 /// The reply that the server is there.
 pub fn health_reply(alloc: Global) -> Result<Reply, NoMemory>

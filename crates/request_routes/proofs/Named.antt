@@ -7,7 +7,7 @@ use Rattle.std.proofs.lemmas.Bool.{true≢false}
 use Rattle.search_base.specs.Trying.{◌>>=◌, or_refuse}
 use Rattle.request_refusals.specs.declared.refusal.Refusal.TheVariants.{MethodNotAllowed}
 use Rattle.request_routes.specs.declared.routes.Route.{Route}
-use Rattle.request_routes.specs.declared.routes.Route.TheVariants.{Health, CreateIndex, ListIndexes, ShowIndex, DropIndex, AddDocuments, UpdateDocuments, ListDocuments, ClearDocuments, ShowDocument, RemoveDocument, RemoveDocuments, ShowSettings, PatchSettings, ResetSettings, Search, SearchByQuery, MultiSearch, FacetSearch}
+use Rattle.request_routes.specs.declared.routes.Route.TheVariants.{Health, CreateIndex, ListIndexes, ShowIndex, DropIndex, AddDocuments, UpdateDocuments, ListDocuments, ClearDocuments, ShowDocument, RemoveDocument, RemoveDocuments, ShowSettings, PatchSettings, ResetSettings, Search, SearchByQuery, MultiSearch, FacetSearch, ShowTask}
 use Rattle.request_routes.specs.Routes.{Part, text, any_uid, any_id, Row, routes, agrees, has_path, uid_in, id_in, with_method, route_of, Found}
 
 abbrev pub names_index : Route → Bool
@@ -30,6 +30,7 @@ names_index Search = true
 names_index SearchByQuery = true
 names_index MultiSearch = false
 names_index FacetSearch = true
+names_index ShowTask = false
 
 -- ---- a path
 

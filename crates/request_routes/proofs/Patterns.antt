@@ -9,7 +9,7 @@ use Rattle.matchit.specs.Rows.{RowsOf}
 use Rattle.matchit.specs.Order.{lookup}
 use Rattle.matchit.specs.Router.{RouteOf}
 use Rattle.request_routes.specs.declared.table.Path.{Path}
-use Rattle.request_routes.specs.declared.table.Path.TheVariants.{Health, Indexes, Index, Documents, Document, Settings, Search, MultiSearch, FacetSearch}
+use Rattle.request_routes.specs.declared.table.Path.TheVariants.{Health, Indexes, Index, Documents, Document, Settings, Search, MultiSearch, FacetSearch, Task}
 use Rattle.request_refusals.specs.declared.refusal.Refusal.TheVariants as refusal
 use Rattle.request_routes.specs.Patterns.{Names, joined, mark, marked_parts, parts_with, path_with, paths, pattern, pattern_parts, FindsPaths}
 use Rattle.request_routes.specs.Routes.{parts_of, route_of}
@@ -115,6 +115,7 @@ pattern_again Settings = refl
 pattern_again Search = refl
 pattern_again MultiSearch = refl
 pattern_again FacetSearch = refl
+pattern_again Task = refl
 
 -- parts with this uid and this id
 abbrev renamed : List ℕ → List ℕ → List (List ℕ) → List (List ℕ)
@@ -157,6 +158,7 @@ some_parts Settings = omega arith
 some_parts Search = omega arith
 some_parts MultiSearch = omega arith
 some_parts FacetSearch = omega arith
+some_parts Task = omega arith
 
 -- a path of the table has these parts
 abbrev IsPath : List (List ℕ) → Path → Type 0
@@ -172,6 +174,7 @@ is_path parts Settings says = (says.0, (named _ says.1, unnamed _ says.2))
 is_path parts Search says = (says.0, (named _ says.1, unnamed _ says.2))
 is_path parts MultiSearch says = (says.0, (unnamed _ says.1, unnamed _ says.2))
 is_path parts FacetSearch says = (says.0, (named _ says.1, unnamed _ says.2))
+is_path parts Task says = (says.0, (named _ says.1, unnamed _ says.2))
 
 abbrev either : Path → Option Path → Path
 either path None = path

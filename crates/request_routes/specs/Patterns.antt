@@ -5,7 +5,7 @@ use Rattle.matchit.specs.Rows.{RowsOf}
 use Rattle.matchit.specs.Seek.{first}
 use Rattle.matchit.specs.Router.{RouteOf}
 use Rattle.request_routes.specs.declared.table.Path.{Path}
-use Rattle.request_routes.specs.declared.table.Path.TheVariants.{Health, Indexes, Index, Documents, Document, Settings, Search, MultiSearch, FacetSearch}
+use Rattle.request_routes.specs.declared.table.Path.TheVariants.{Health, Indexes, Index, Documents, Document, Settings, Search, MultiSearch, FacetSearch, Task}
 
 -- a path's text, of its parts
 abbrev pub joined : List (List ℕ) → List ℕ
@@ -24,6 +24,7 @@ parts_with uid id Settings = [] ∷ codes "indexes" ∷ uid ∷ codes "settings"
 parts_with uid id Search = [] ∷ codes "indexes" ∷ uid ∷ codes "search" ∷ []
 parts_with uid id MultiSearch = [] ∷ codes "multi-search" ∷ []
 parts_with uid id FacetSearch = [] ∷ codes "indexes" ∷ uid ∷ codes "facet-search" ∷ []
+parts_with uid id Task = [] ∷ codes "tasks" ∷ uid ∷ []
 
 -- a path names a uid and an id, which are not empty, or else they are
 abbrev pub Names : Path → List ℕ → List ℕ → Type 0
@@ -36,6 +37,7 @@ Names Settings uid id = (0 < length uid) × (id ≡ [])
 Names Search uid id = (0 < length uid) × (id ≡ [])
 Names MultiSearch uid id = (uid ≡ []) × (id ≡ [])
 Names FacetSearch uid id = (0 < length uid) × (id ≡ [])
+Names Task uid id = (0 < length uid) × (id ≡ [])
 
 -- ---- the patterns
 
@@ -46,7 +48,7 @@ abbrev pub pattern : Path → List ℕ
 pattern path = joined (pattern_parts path)
 
 abbrev pub paths : List Path
-paths = Health ∷ Document ∷ Documents ∷ FacetSearch ∷ Search ∷ Settings ∷ Index ∷ Indexes ∷ MultiSearch ∷ []
+paths = Health ∷ Document ∷ Documents ∷ FacetSearch ∷ Search ∷ Settings ∷ Index ∷ Indexes ∷ MultiSearch ∷ Task ∷ []
 
 -- the path that has a pattern
 abbrev pub path_with : List ℕ → Option Path

@@ -10,7 +10,7 @@ use Rattle.request_refusals.specs.declared.refusal.Refusal.{Refusal}
 use Rattle.request_refusals.specs.declared.refusal.Refusal.TheVariants.{Unknown}
 use Rattle.search_base.specs.Trying.{◌>>◌}
 use Rattle.request_routes.specs.declared.routes.Route.{Route}
-use Rattle.request_routes.specs.declared.routes.Route.TheVariants.{Health, CreateIndex, ListIndexes, ShowIndex, DropIndex, AddDocuments, UpdateDocuments, ListDocuments, ClearDocuments, ShowDocument, RemoveDocument, RemoveDocuments, ShowSettings, PatchSettings, ResetSettings, Search, SearchByQuery, MultiSearch, FacetSearch}
+use Rattle.request_routes.specs.declared.routes.Route.TheVariants.{Health, CreateIndex, ListIndexes, ShowIndex, DropIndex, AddDocuments, UpdateDocuments, ListDocuments, ClearDocuments, ShowDocument, RemoveDocument, RemoveDocuments, ShowSettings, PatchSettings, ResetSettings, Search, SearchByQuery, MultiSearch, FacetSearch, ShowTask}
 use Rattle.request_routes.specs.declared.query.Shape.{Shape}
 use Rattle.request_routes.specs.declared.query.Shape.TheVariants.{Count, Text, Texts}
 
@@ -85,6 +85,7 @@ names Search = []
 names SearchByQuery = []
 names MultiSearch = []
 names FacetSearch = []
+names ShowTask = []
 
 abbrev pub is_shaped : List ℕ → Option Shape → Bool
 is_shaped value None = false

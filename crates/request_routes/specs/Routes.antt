@@ -1,18 +1,20 @@
 -- The routes, and which of them a request takes.
-use Rattle.std.specs.Prelude.{ℕ, List, [], ◌∷◌, length, filter, find, Bool, true, false, ◌&&◌, ◌==◌, nat_lt, codes, Option, Some, None, Result, Ok, Err, if◌then◌else◌}
+use Rattle.std.specs.Prelude.{ℕ, List, [], ◌∷◌, length, filter, find, Bool, true, false, ◌&&◌, ◌||◌, ◌==◌, nat_lt, codes, Option, Some, None, is_some, Result, Ok, Err, if◌then◌else◌}
 use Rattle.std.specs.List.{before_first, after_first}
 use Rattle.std.specs.Str.{bytes_eq}
 use Rattle.form_urlencoded.specs.Form.{split}
 use Rattle.doc_values.specs.Ids.{is_uid}
 use Rattle.request_refusals.specs.declared.refusal.Refusal.{Refusal}
-use Rattle.request_refusals.specs.declared.refusal.Refusal.TheVariants.{NoRoute, MethodNotAllowed, InvalidUid}
+use Rattle.request_refusals.specs.declared.refusal.Refusal.TheVariants.{NoRoute, MethodNotAllowed, InvalidUid, InvalidTaskUid}
 use Rattle.search_base.specs.Trying.{or_refuse, ◌>>=◌}
+use Rattle.request_routes.specs.Query.{number_of}
 use Rattle.request_routes.specs.declared.routes.Route.{Route}
-use Rattle.request_routes.specs.declared.routes.Route.TheVariants.{Health, CreateIndex, ListIndexes, ShowIndex, DropIndex, AddDocuments, UpdateDocuments, ListDocuments, ClearDocuments, ShowDocument, RemoveDocument, RemoveDocuments, ShowSettings, PatchSettings, ResetSettings, Search, SearchByQuery, MultiSearch, FacetSearch}
+use Rattle.request_routes.specs.declared.routes.Route.TheVariants.{Health, CreateIndex, ListIndexes, ShowIndex, DropIndex, AddDocuments, UpdateDocuments, ListDocuments, ClearDocuments, ShowDocument, RemoveDocument, RemoveDocuments, ShowSettings, PatchSettings, ResetSettings, Search, SearchByQuery, MultiSearch, FacetSearch, ShowTask}
 
 -- ---- the table
 
--- a part of a route's path: this text, or any text that is not empty, as the uid of an index or the id of a document
+-- a part of a route's path: this text, or any text that is not empty, as the uid of an index or of a task, or the id of
+-- a document
 pub data Part : Type 0 where
   text : List ℕ → Part
   any_uid : Part
@@ -38,6 +40,9 @@ index = text [] ∷ text (codes "indexes") ∷ any_uid ∷ []
 
 abbrev pub multi_search : List Part
 multi_search = text [] ∷ text (codes "multi-search") ∷ []
+
+abbrev pub task : List Part
+task = text [] ∷ text (codes "tasks") ∷ any_uid ∷ []
 
 -- `/indexes/{uid}/` and one part more
 abbrev pub of_index : List ℕ → List Part
@@ -68,6 +73,7 @@ routes =
     ∷ row (codes "GET") (of_index (codes "search")) SearchByQuery
     ∷ row (codes "POST") multi_search MultiSearch
     ∷ row (codes "POST") (of_index (codes "facet-search")) FacetSearch
+    ∷ row (codes "GET") task ShowTask
     ∷ []
 
 -- ---- a request's path
@@ -134,7 +140,29 @@ route_of method parts = do
 
 -- ---- the uid
 
--- a uid that a path names (no named part is empty)
+-- whether there are several digits, and the first is 0
+abbrev pub is_padded : List ℕ → Bool
+is_padded [] = false
+is_padded (b ∷ []) = false
+is_padded (b ∷ c ∷ bytes) = b == 48
+
+-- the number that the uid of a task writes, in 1 to 19 decimal digits, of which several do not begin with 0
+abbrev pub task_number : List ℕ → Option ℕ
+task_number uid = if nat_lt 19 (length uid) || is_padded uid then None else number_of uid
+
+abbrev pub task_fault : List ℕ → Option Refusal
+task_fault uid = if is_some (task_number uid) then None else Some InvalidTaskUid
+
+-- the uid of an index that a path names (no named part is empty)
 abbrev pub uid_fault : List ℕ → Option Refusal
 uid_fault [] = None
 uid_fault (b ∷ bytes) = if is_uid (b ∷ bytes) then None else Some InvalidUid
+
+-- whether the uid in the path is that of a task
+abbrev pub names_task : Route → Bool
+names_task ShowTask = true
+names_task _ = false
+
+-- what is wrong with the uid that the path of a route names
+abbrev pub named_fault : Route → List ℕ → Option Refusal
+named_fault route uid = if names_task route then task_fault uid else uid_fault uid

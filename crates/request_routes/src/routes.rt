@@ -1,15 +1,20 @@
-ghost use Rattle.std.specs.Prelude.{◌≡◌, [], map, get_or, IfOk, string_bytes};
+ghost use Rattle.std.specs.Prelude.{◌≡◌, ◌<◌, [], length, map, get_or, IfOk, string_bytes};
 ghost use Rattle.search_base.specs.Gives.{Gives, Tells, Checks};
 ghost use Rattle.request_routes.specs.Held.{given_by};
+ghost use Rattle.request_routes.specs.declared.table.Path.TheVariants.{Health, Indexes, Index, Documents, Document, Settings, Search, MultiSearch, FacetSearch, Task};
 ghost use Rattle.request_routes.specs.Patterns.{Names, joined, mark as mark_of, marked_parts, parts_with};
-ghost use Rattle.request_routes.specs.Routes.{path_of, query_of, parts_of as parts_in, route_of, uid_fault};
+ghost use Rattle.request_routes.specs.Routes.{path_of, query_of, parts_of as parts_in, route_of, uid_fault, task_number as task_number_in, task_fault, names_task as names_task_in, named_fault, is_padded as is_padded_in};
 
 use crate::parts::parts_of;
+use crate::query::number_of;
 use crate::table::{Path, RouteTable};
 use doc_values::is_uid;
 use request_refusals::Refusal;
 use search_base::{Fault, NoMemory};
 use std::alloc::Global;
+
+// The most digits of a task's number.
+const MOST_DIGITS: usize = 19;
 
 /// The routes.
 #[derive(Clone, Copy, Debug, PartialEq, Eq)]
@@ -52,9 +57,12 @@ pub enum Route {
     MultiSearch,
     /// `POST /indexes/{uid}/facet-search`
     FacetSearch,
+    /// `GET /tasks/{uid}`
+    ShowTask,
 }
 
-/// A route, with the uid and the id that the request's path names; each is empty where the path names none.
+/// A route, with the uid of an index or of a task and the id of a document that the request's path names; each is empty
+/// where the path names none.
 #[derive(Clone, Copy)]
 pub struct Found<'a> {
     pub route: Route,
@@ -97,9 +105,56 @@ pub fn find_route<'a>(
     }
 }
 
-/// Tries the uid that a path names; it is empty where the path names none. Any other is refused (`InvalidUid`), unless
-/// it is 1 to 400 bytes of ASCII letters, digits, `-` and `_`. Takes no memory.
-pub fn check_uid(uid: &str) -> Result<(), Fault<Refusal>>
+/// Tries the uid that the path of a route names. That of a task is refused (`InvalidTaskUid`) where `task_number` finds
+/// none in it, and that of an index (`InvalidUid`) unless it is 1 to 400 bytes of ASCII letters, digits, `-` and `_`;
+/// it is empty where the path names none. Takes no memory.
+pub fn check_named(route: Route, uid: &str) -> Result<(), Fault<Refusal>>
+    ensures { Checks result (named_fault route uid.now) }
+{
+    if names_task(route) {
+        check_task(uid)
+    } else {
+        check_uid(uid)
+    }
+}
+
+/// The number that the uid of a task writes: 1 to 19 decimal digits without a leading zero, where `0` alone is one.
+/// Takes no memory.
+pub fn task_number(uid: &str) -> Option<u64>
+    ensures { result ≡ task_number_in uid.now }
+{
+    if uid.len() > MOST_DIGITS || is_padded(uid.as_bytes()) {
+        return None;
+    }
+    number_of(uid)
+}
+
+fn names_task(route: Route) -> bool
+    ensures { result ≡ names_task_in route }
+{
+    matches!(route, Route::ShowTask)
+}
+
+// Whether there are several bytes, and the first is `0`.
+fn is_padded(bytes: &[u8]) -> bool
+    ensures { result ≡ is_padded_in bytes.now }
+{
+    match bytes {
+        [b'0', _, ..] => true,
+        _ => false,
+    }
+}
+
+fn check_task(uid: &str) -> Result<(), Fault<Refusal>>
+    ensures { Checks result (task_fault uid.now) }
+{
+    match task_number(uid) {
+        Some(_) => Ok(()),
+        None => Err(Fault::Refused(Refusal::InvalidTaskUid)),
+    }
+}
+
+fn check_uid(uid: &str) -> Result<(), Fault<Refusal>>
     ensures { Checks result (uid_fault uid.now) }
 {
     if uid.is_empty() || is_uid(uid) {
@@ -142,38 +197,161 @@ fn mark(part: &str) -> &str
     if part.is_empty() { "" } else { "_" }
 }
 
-// The route of a path with the method; `delete-batch` is no id for `POST`, and one for each other method.
+// The route of a path with the method.
 fn route_at<'a>(path: Path, method: &str, uid: &'a str, id: &'a str) -> Result<Found<'a>, Refusal>
     requires { Names path uid.now id.now }
     ensures { Tells given_by result (route_of method.now (parts_with uid.now id.now path)) }
 {
-    let route = match (path, method) {
-        (Path::Health, "GET") => Route::Health,
-        (Path::Indexes, "POST") => Route::CreateIndex,
-        (Path::Indexes, "GET") => Route::ListIndexes,
-        (Path::Index, "GET") => Route::ShowIndex,
-        (Path::Index, "DELETE") => Route::DropIndex,
-        (Path::Documents, "POST") => Route::AddDocuments,
-        (Path::Documents, "PUT") => Route::UpdateDocuments,
-        (Path::Documents, "GET") => Route::ListDocuments,
-        (Path::Documents, "DELETE") => Route::ClearDocuments,
-        (Path::Document, "GET") => Route::ShowDocument,
-        (Path::Document, "DELETE") => Route::RemoveDocument,
-        (Path::Document, "POST") if id == "delete-batch" => {
-            return Ok(Found {
-                route: Route::RemoveDocuments,
-                uid,
-                id: "",
-            });
-        }
-        (Path::Settings, "GET") => Route::ShowSettings,
-        (Path::Settings, "PATCH") => Route::PatchSettings,
-        (Path::Settings, "DELETE") => Route::ResetSettings,
-        (Path::Search, "POST") => Route::Search,
-        (Path::Search, "GET") => Route::SearchByQuery,
-        (Path::MultiSearch, "POST") => Route::MultiSearch,
-        (Path::FacetSearch, "POST") => Route::FacetSearch,
+    match path {
+        Path::Health => health_route(method),
+        Path::Indexes => indexes_route(method),
+        Path::Index => index_route(method, uid),
+        Path::Documents => documents_route(method, uid),
+        Path::Document => document_route(method, uid, id),
+        Path::Settings => settings_route(method, uid),
+        Path::Search => search_route(method, uid),
+        Path::MultiSearch => multi_search_route(method),
+        Path::FacetSearch => facet_search_route(method, uid),
+        Path::Task => task_route(method, uid),
+    }
+}
+
+// The route of `/health` with the method.
+fn health_route<'a>(method: &str) -> Result<Found<'a>, Refusal>
+    ensures { Tells given_by result (route_of method.now (parts_with [] [] Health)) }
+{
+    let route = match method {
+        "GET" => Route::Health,
+        _ => return Err(Refusal::MethodNotAllowed),
+    };
+    Ok(Found {
+        route,
+        uid: "",
+        id: "",
+    })
+}
+
+// The route of all indexes.
+fn indexes_route<'a>(method: &str) -> Result<Found<'a>, Refusal>
+    ensures { Tells given_by result (route_of method.now (parts_with [] [] Indexes)) }
+{
+    let route = match method {
+        "POST" => Route::CreateIndex,
+        "GET" => Route::ListIndexes,
+        _ => return Err(Refusal::MethodNotAllowed),
+    };
+    Ok(Found {
+        route,
+        uid: "",
+        id: "",
+    })
+}
+
+// The route of one index.
+fn index_route<'a>(method: &str, uid: &'a str) -> Result<Found<'a>, Refusal>
+    requires { 0 < length uid.now }
+    ensures { Tells given_by result (route_of method.now (parts_with uid.now [] Index)) }
+{
+    let route = match method {
+        "GET" => Route::ShowIndex,
+        "DELETE" => Route::DropIndex,
+        _ => return Err(Refusal::MethodNotAllowed),
+    };
+    Ok(Found { route, uid, id: "" })
+}
+
+// The route of the documents of an index.
+fn documents_route<'a>(method: &str, uid: &'a str) -> Result<Found<'a>, Refusal>
+    requires { 0 < length uid.now }
+    ensures { Tells given_by result (route_of method.now (parts_with uid.now [] Documents)) }
+{
+    let route = match method {
+        "POST" => Route::AddDocuments,
+        "PUT" => Route::UpdateDocuments,
+        "GET" => Route::ListDocuments,
+        "DELETE" => Route::ClearDocuments,
+        _ => return Err(Refusal::MethodNotAllowed),
+    };
+    Ok(Found { route, uid, id: "" })
+}
+
+// The route of one document; `delete-batch` is no id for `POST`, and one for each other method.
+fn document_route<'a>(method: &str, uid: &'a str, id: &'a str) -> Result<Found<'a>, Refusal>
+    requires uid { 0 < length uid.now }
+    requires id { 0 < length id.now }
+    ensures { Tells given_by result (route_of method.now (parts_with uid.now id.now Document)) }
+{
+    let (route, id) = match method {
+        "GET" => (Route::ShowDocument, id),
+        "DELETE" => (Route::RemoveDocument, id),
+        "POST" if id == "delete-batch" => (Route::RemoveDocuments, ""),
         _ => return Err(Refusal::MethodNotAllowed),
     };
     Ok(Found { route, uid, id })
+}
+
+// The route of the settings of an index.
+fn settings_route<'a>(method: &str, uid: &'a str) -> Result<Found<'a>, Refusal>
+    requires { 0 < length uid.now }
+    ensures { Tells given_by result (route_of method.now (parts_with uid.now [] Settings)) }
+{
+    let route = match method {
+        "GET" => Route::ShowSettings,
+        "PATCH" => Route::PatchSettings,
+        "DELETE" => Route::ResetSettings,
+        _ => return Err(Refusal::MethodNotAllowed),
+    };
+    Ok(Found { route, uid, id: "" })
+}
+
+// The route of searches of an index.
+fn search_route<'a>(method: &str, uid: &'a str) -> Result<Found<'a>, Refusal>
+    requires { 0 < length uid.now }
+    ensures { Tells given_by result (route_of method.now (parts_with uid.now [] Search)) }
+{
+    let route = match method {
+        "POST" => Route::Search,
+        "GET" => Route::SearchByQuery,
+        _ => return Err(Refusal::MethodNotAllowed),
+    };
+    Ok(Found { route, uid, id: "" })
+}
+
+// The route of several searches.
+fn multi_search_route<'a>(method: &str) -> Result<Found<'a>, Refusal>
+    ensures { Tells given_by result (route_of method.now (parts_with [] [] MultiSearch)) }
+{
+    let route = match method {
+        "POST" => Route::MultiSearch,
+        _ => return Err(Refusal::MethodNotAllowed),
+    };
+    Ok(Found {
+        route,
+        uid: "",
+        id: "",
+    })
+}
+
+// The route of searches of a facet of an index.
+fn facet_search_route<'a>(method: &str, uid: &'a str) -> Result<Found<'a>, Refusal>
+    requires { 0 < length uid.now }
+    ensures { Tells given_by result (route_of method.now (parts_with uid.now [] FacetSearch)) }
+{
+    let route = match method {
+        "POST" => Route::FacetSearch,
+        _ => return Err(Refusal::MethodNotAllowed),
+    };
+    Ok(Found { route, uid, id: "" })
+}
+
+// The route of one task.
+fn task_route<'a>(method: &str, uid: &'a str) -> Result<Found<'a>, Refusal>
+    requires { 0 < length uid.now }
+    ensures { Tells given_by result (route_of method.now (parts_with uid.now [] Task)) }
+{
+    let route = match method {
+        "GET" => Route::ShowTask,
+        _ => return Err(Refusal::MethodNotAllowed),
+    };
+    Ok(Found { route, uid, id: "" })
 }

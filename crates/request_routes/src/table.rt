@@ -27,6 +27,8 @@ pub(crate) enum Path {
     MultiSearch,
     /// `/indexes/{uid}/facet-search`
     FacetSearch,
+    /// `/tasks/{uid}`
+    Task,
 }
 
 /// The table of paths, in which a request's path is looked up. It is made once, before the first request.
@@ -82,5 +84,6 @@ fn router_of_paths(alloc: Global) -> Result<Router<Path>, InsertError>
     router.insert("/indexes/_/search", Path::Search)?;
     router.insert("/multi-search", Path::MultiSearch)?;
     router.insert("/indexes/_/facet-search", Path::FacetSearch)?;
+    router.insert("/tasks/_", Path::Task)?;
     Ok(router)
 }

@@ -10,17 +10,9 @@ use std::str;
 
 // A refusal that only a machine's state gives, its status, its code and its message.
 const BY_STATE: &str = r#"NoIndex~404~index_not_found~No index `m`.
-IndexExists~409~index_already_exists~Index `m` exists.
+NoTask~404~task_not_found~No task 18446744073709551615.
 NoDocument~404~document_not_found~No document `m`.
-KeyDiffers~400~index_primary_key_already_exists~The primary key is another one.
-NoCandidate~400~index_primary_key_no_candidate_found~No candidate for the primary key.
-SeveralCandidates~400~index_primary_key_multiple_candidates_found~Several candidates for the primary key.
-MissingId~400~missing_document_id~Document 3 has no `m`.
-BadId~400~invalid_document_id~Document 3 has an invalid id.
 ChangesSpent~400~changes_spent~No more changes.
-IndexesSpent~400~indexes_spent~No more indexes.
-IdsSpent~400~ids_spent~No more documents.
-PathsSpent~400~paths_spent~No more attributes.
 NoSortRule~400~invalid_search_sort~The ranking rules have no sort.
 NotSortable~400~invalid_search_sort~`m` is not sortable.
 NotFilterable~400~invalid_search_filter~`m` is not filterable.
@@ -70,24 +62,13 @@ pub(crate) fn refusal(
     text.expect(rt, "memory")
 }
 
-// The refusal of this name; its uid, id or key is `m`, and its document the third.
+// The refusal of this name; its uid, id or attribute is `m`, and its number the greatest.
 fn refusal_named(name: &str, m: Word) -> Refusal {
     match name {
         "NoIndex" => Refusal::NoIndex { uid: m },
-        "IndexExists" => Refusal::IndexExists { uid: m },
+        "NoTask" => Refusal::NoTask { number: u64::MAX },
         "NoDocument" => Refusal::NoDocument { id: m },
-        "KeyDiffers" => Refusal::KeyDiffers,
-        "NoCandidate" => Refusal::NoCandidate,
-        "SeveralCandidates" => Refusal::SeveralCandidates,
-        "MissingId" => Refusal::MissingId {
-            document: 3,
-            key: m,
-        },
-        "BadId" => Refusal::BadId { document: 3 },
         "ChangesSpent" => Refusal::ChangesSpent,
-        "IndexesSpent" => Refusal::IndexesSpent,
-        "IdsSpent" => Refusal::IdsSpent,
-        "PathsSpent" => Refusal::PathsSpent,
         "NoSortRule" => Refusal::NoSortRule,
         "NotSortable" => Refusal::NotSortable { attribute: m },
         "NotFilterable" => Refusal::NotFilterable { attribute: m },

@@ -1,4 +1,4 @@
-//! Tests of routes, calls, refusals' replies and the demo.
+//! Tests of routes, calls, the replies of refusals and tasks, and the demo.
 //!
 //! They use what these crates offer to others, and stand in a crate of their own, so that the crates they try are proved
 //! once and not twice. The crate has nothing but tests, and promises nothing.
@@ -14,3 +14,5 @@ mod demo;
 mod routes;
 #[cfg(test)]
 mod searches;
+#[cfg(test)]
+mod tasks;

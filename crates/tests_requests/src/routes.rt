@@ -1,6 +1,6 @@
 use crate::checks::{check, check_text, times};
 use request_routes::{
-    Found, Pair, Route, RouteTable, check_uid, count_in, fields_in, find_route, read_query,
+    Found, Pair, Route, RouteTable, check_named, count_in, fields_in, find_route, read_query,
     split_target, text_in,
 };
 use search_base::Word;
@@ -32,7 +32,9 @@ POST~/indexes/m/search~Search `m` `` 0
 GET~/indexes/m/search~SearchByQuery `m` `` 0
 GET~/indexes/m/search?limit=x&q&zz=1&q=b~SearchByQuery `m` `` 3
 POST~/multi-search~MultiSearch `` `` 0
-POST~/indexes/m/facet-search~FacetSearch `m` `` 0"#;
+POST~/indexes/m/facet-search~FacetSearch `m` `` 0
+GET~/tasks/07?~ShowTask `07` `` 0
+GET~/tasks/_~ShowTask `_` `` 0"#;
 
 // The route, the uid, the id and the number of pairs that a method and a target come to.
 fn asked(rt: &impl Abort, alloc: Global, method: &str, target: &str) -> String {
@@ -66,7 +68,8 @@ fn each_route(rt: HostRuntime) {
 
 fn check_length(rt: &impl Abort, alloc: Global, letters: usize, wanted: bool) {
     let uid = times(rt, alloc, "a", letters);
-    check(rt, check_uid(&uid).is_ok() == wanted, &uid);
+    let checked = check_named(Route::ShowIndex, &uid);
+    check(rt, checked.is_ok() == wanted, &uid);
 }
 
 #[test]

@@ -15,6 +15,7 @@ returns c =
     let search_page = c.in_ok-insert-7.ensures in
     let multi_search = c.in_ok-insert-8.ensures in
     let facet_search = c.in_ok-insert-9.ensures in
-    rw (facet_search.1, multi_search.1, search_page.1, settings.1, document.1, documents.1, index.1, indexes.1, health.1, c.new-router.ensures)
-    (finds_paths _ (refl, (refl, (refl, (refl, (refl, (refl, (refl, (refl, (refl, tt)))))))))
-    (refl, (refl, (refl, (refl, (refl, (refl, (refl, (refl, (refl, tt))))))))) refl)
+    let task = c.in_ok-insert-10.ensures in
+    rw (task.1, facet_search.1, multi_search.1, search_page.1, settings.1, document.1, documents.1, index.1, indexes.1, health.1, c.new-router.ensures)
+    (finds_paths _ (refl, (refl, (refl, (refl, (refl, (refl, (refl, (refl, (refl, (refl, tt))))))))))
+    (refl, (refl, (refl, (refl, (refl, (refl, (refl, (refl, (refl, (refl, tt)))))))))) refl)
