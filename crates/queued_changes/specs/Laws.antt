@@ -7,8 +7,8 @@ use Rattle.queued_changes.specs.Run.{Step, Event, after, EndsIn, tasks_in, IsSte
 
 module _ {C I : Type 0} (changed : List ℕ → C → I → Result I ℕ) where
   -- an outcome is that of a success exactly where the change was made
-  abbrev pub OutcomesTell : (List ℕ → C → Type 0) → Type 0
-  OutcomesTell accepts = (uid : List ℕ) (change : C) (i : I) → accepts uid change
+  abbrev pub OutcomesTell : (List ℕ → ℕ → C → Type 0) → Type 0
+  OutcomesTell accepts = (uid : List ℕ) (kind : ℕ) (change : C) (i : I) → accepts uid kind change
       → (row_in (changed uid change i) ≡ 0) ↔ IsOk (changed uid change i)
 
   abbrev pub SettlingIsRunning : Type 0

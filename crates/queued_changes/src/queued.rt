@@ -32,7 +32,7 @@ impl<C: Drop, W: Worker<C>> Model for Queued<C, W> {
       indexes = q.worker;
     } };
 
-    ghost invariant = { λ q. AllByRecursion (λ t. W.accepts t.uid t.change) q.queue.queued };
+    ghost invariant = { λ q. AllByRecursion (λ t. W.accepts t.uid t.kind t.change) q.queue.queued };
 }
 
 impl<C: Drop, W: Worker<C>> Queued<C, W> {
@@ -88,7 +88,7 @@ impl<C: Drop, W: Worker<C>> Queued<C, W> {
     /// The tasks that wait, in order.
     pub fn waiting(&self) -> &[Task<C>]
         ensures tasks { result.now ≡ self.now.queue }
-        ensures accepted { AllByRecursion (λ t. W.accepts t.uid t.change) self.now.queue }
+        ensures accepted { AllByRecursion (λ t. W.accepts t.uid t.kind t.change) self.now.queue }
         ensures numbered { AreNumbered self.now.finished self.now.queue }
         ensures few { length self.now.queue ≤ most_queued }
     {
@@ -122,7 +122,7 @@ impl<C: Drop, W: Worker<C>> Queued<C, W> {
     pub fn enqueue(&mut self, uid: Word, kind: u8, change: C)
         requires room { length self.old.queue < most_queued }
         requires last { accepted self.old < 2 ^ 64 - 1 }
-        requires accepts { W.accepts uid change }
+        requires accepts { W.accepts uid kind change }
         ensures { self.new ≡ behind (task_of uid kind change self.old) self.old }
     {
         let number = self.queue.accepted();
@@ -135,13 +135,14 @@ impl<C: Drop, W: Worker<C>> Queued<C, W> {
     }
 
     /// Makes the changes of the oldest batch; false where none waits. `fetches` counts the stored documents that are
-    /// read. Its error is want of memory: then all is as it was.
+    /// read. Its error is want of memory: then some change waits, and all is as it was.
     pub fn settle<F>(&mut self, alloc: Global, fetches: &mut Steps<F>) -> Result<bool, NoMemory>
         ensures settled { OnOk result (self.new ≡ settled W.changed self.old) }
         ensures some { IfOk result (λ some. IsTrue some ↔ (self.old.queue ≢ [])) }
         ensures shorter { IfOk result (λ some. IsTrue some → length self.new.queue < length self.old.queue) }
         ensures counted { accepted self.new ≡ accepted self.old }
         ensures stays { OnErr result (self.new ≡ self.old) }
+        ensures waits { OnErr result (self.old.queue ≢ []) }
         ensures fetched { fetches.new ≤ fetches.old + batch_need W.need self.old }
     {
         let count = self.queue.batch_len();

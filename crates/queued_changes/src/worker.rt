@@ -10,8 +10,8 @@ use task_queue::{Outcome, Task};
 
 /// What changes are made on. A batch is of one index: an implementor hands its changes on to that index, all at once.
 pub trait Worker<C>: Drop {
-    // What it may be asked for: a change of the index of a uid.
-    ghost accepts: { List ℕ → C → Type 0 };
+    // What it may be asked for: a change of the index of a uid, with the byte of its kind.
+    ghost accepts: { List ℕ → ℕ → C → Type 0 };
 
     // What a change of the index of a uid leaves, or the number of the refusal that refuses it.
     ghost changed: { List ℕ → C → Self → Result Self ℕ };
@@ -29,13 +29,13 @@ pub trait Worker<C>: Drop {
         fetches: &mut Steps<F>,
     ) -> Result<Vec<Outcome>, NoMemory>
         requires batch { IsBatch batch.now }
-        requires accepted { AllByRecursion (λ t. accepts t.uid t.change) batch.now }
+        requires accepted { AllByRecursion (λ t. accepts t.uid t.kind t.change) batch.now }
         ensures applied { OnOk result (self.new ≡ after_each changed batch.now self.old) }
         ensures outcomes { IfOk result (λ outcomes. map row_of outcomes.items ≡ rows_of changed batch.now self.old) }
         ensures stays { OnErr result (self.new ≡ self.old) }
         ensures fetched { fetches.new ≤ fetches.old + need batch.now self.old };
 
     // No refusal has the number 0, which stands for a change that was made.
-    ghost numbered: { (uid : List ℕ) (change : C) (worker : Self)
-        → accepts uid change → changed uid change worker ≢ Err 0 };
+    ghost numbered: { (uid : List ℕ) (kind : ℕ) (change : C) (worker : Self)
+        → accepts uid kind change → changed uid change worker ≢ Err 0 };
 }

@@ -21,7 +21,7 @@ invariant_of-self-2 g c =
     settles_keeps g.W.Worker.changed c.self.inside.queue c.self.inside.worker c.queued.result.now c.batch_len-count.result c.in_ok-outcomes.outcomes.items
     c.queued.ensures.tasks c.batch_len-count.ensures c.in_ok-outcomes.ensures.outcomes
     c.finish.new.self c.apply.new.self c.deref.result.now c.args.self.now c.self.view_is c.in_ok-outcomes.ensures.applied c.deref.ensures.value c.finish.ensures
-    (λ t. g.W.Worker.accepts t.uid t.change) c.self.invariant
+    (λ t. g.W.Worker.accepts t.uid t.kind t.change) c.self.invariant
 
 pub returns-clause-settled : goal.returns-clause-settled
 returns-clause-settled g c =

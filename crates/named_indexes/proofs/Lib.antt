@@ -1,0 +1,12 @@
+pub mod Maps
+pub mod Uids
+pub mod Alike
+pub mod Effects
+pub mod Batches
+pub mod Naming
+pub mod There
+pub mod Rows
+pub mod Absent
+pub mod Worked
+pub mod Recording
+pub mod Listing
