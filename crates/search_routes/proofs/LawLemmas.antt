@@ -1,8 +1,10 @@
 -- The statuses of replies, and which of them come with a change.
-use Rattle.std.proofs.Common.{◌≡◌, ◌≢◌, ◌⊎◌, ℕ, ◌+◌, List, [], ◌∷◌, map, length, Option, Some, None, Result, Ok, Err, refl, sym, ap, ap₂, ◌∙◌, inl, inr, arith}
-use Rattle.std.specs.Prelude.{zip}
+use Rattle.std.proofs.Common.{◌≡◌, ◌≢◌, ◌⊎◌, ℕ, ◌+◌, List, length, Bool, true, false, not, ◌&&◌, Option, Some, None, Result, Ok, Err, refl, sym, ap, ◌∙◌, inl, inr, arith}
+use Rattle.std.specs.Prelude.{◌==◌, nat_le}
+use Rattle.std.proofs.lemmas.Bool.{eqb-true, false_from_ne_true}
 use Rattle.serde_json.specs.Data.{Data}
-use Rattle.doc_values.specs.Changes.{KindData}
+use Rattle.doc_values.specs.Changes.{ChangeData}
+use Rattle.change_payloads.specs.Spelling.{kind_byte}
 use Rattle.http_wire.specs.Stream.{Request}
 use Rattle.http_wire.specs.Reply.{Answer}
 use Rattle.index_changes.specs.Index.{Index, documents as documents_in, document_under}
@@ -10,28 +12,38 @@ use Rattle.index_core.specs.FacetHits.{facet_found}
 use Rattle.facet_counts.specs.declared.rows.CountRow.{CountRow}
 use Rattle.search_settings.specs.declared.refusal.SearchRefusal.{SearchRefusal}
 use Rattle.request_refusals.specs.declared.refusal.Refusal.{Refusal}
-use Rattle.request_refusals.specs.declared.refusal.Refusal.TheVariants.{NoRoute, MethodNotAllowed, InvalidUid, Unknown, InvalidSearch, FilterSyntax, FilterTooDeep, FilterNotANumber, NotJson, NotList, NotObject, NumberNotWhole, BadListedId, MissingUid, BadSettings, BadRankingRule, BadQueries, MissingQueryUid, MissingFacetName, InvalidFacetName, InvalidFacetQuery, NoIndex, IndexExists, NoDocument, KeyDiffers, NoCandidate, SeveralCandidates, MissingId, BadId, ChangesSpent, IndexesSpent, IdsSpent, PathsSpent, NoSortRule, NotSortable, NotFilterable, NotFacet}
+use Rattle.request_refusals.specs.declared.refusal.Refusal.TheVariants.{NoRoute, MethodNotAllowed, InvalidUid, Unknown, InvalidSearch, FilterSyntax, FilterTooDeep, FilterNotANumber, NotJson, NotList, NotObject, NumberNotWhole, BadListedId, MissingUid, BadSettings, BadRankingRule, BadQueries, MissingQueryUid, MissingFacetName, InvalidFacetName, InvalidFacetQuery, InvalidTaskUid, NoTask, NoIndex, NoDocument, ChangesSpent, NoSortRule, NotSortable, NotFilterable, NotFacet}
 use Rattle.request_calls.specs.Refusals.{told_of}
-use Rattle.search_base.specs.Trying.{◌>>=◌, or_refuse, refused_as}
-use Rattle.request_calls.specs.Asked.{ReadData, MultiData, health, indexes, index, documents, document, settings, search, multi, facets, CallData, write, read}
+use Rattle.search_base.specs.Trying.{◌>>=◌, ◌>>◌, or_refuse, refuse_if, refused_as}
+use Rattle.request_calls.specs.Asked.{ReadData, health, task, indexes, index, documents, document, settings, search, multi, facets, CallData, write, read}
 use Rattle.request_calls.specs.Calls.{call_of}
 use Rattle.request_replies.specs.Replies as replies
-use Rattle.search_routes.specs.State.{State, Indexes}
-use Rattle.search_routes.specs.Machine.{Step, told, unless_refused, indexes_after, type_of, changed, index_at, slice, facet_refusal, searched, results_of, answer_to, outcome, step}
-use Rattle.search_routes.specs.Laws.{IsCounted, AreAnswered}
+use Rattle.task_queue.specs.Queue.{Shown, found as found_task}
+use Rattle.queued_changes.specs.State.{accepted, tasks_of}
+use Rattle.queued_changes.specs.Machine.{enqueued}
+use Rattle.queued_changes.specs.Run.{Accepts, IsStep}
+use Rattle.queued_changes.proofs.Runs.{accepted_counts}
+use Rattle.named_indexes.specs.Indexes.{index_at}
+use Rattle.named_indexes.specs.Changes.{changed}
+use Rattle.search_routes.specs.State.{State, most_changes}
+use Rattle.search_routes.specs.Machine.{Step, accepted_write, answer_to, facet_refusal, outcome, results_of, searched, slice, step, told, unless_refused}
+use Rattle.search_routes.specs.Chosen.{answer_of, is_followed, stepped}
+use Rattle.search_routes.specs.Laws.{IsCounted}
 
--- the statuses of what is not refused
+-- what is not refused: a change that is accepted with 202, or an answer with 200
 abbrev IsGood : State → Result Step Refusal → Type 0
-IsGood s (Ok t) = ((t.answer.status ≡ 202) × (t.state.changes ≡ s.changes + 1)) ⊎ ((t.answer.status ≡ 200) × (t.state ≡ s))
+IsGood s (Ok t) = ((t.answer.status ≡ 202) × Accepts changed stepped s t.state) ⊎ ((t.answer.status ≡ 200) × (t.state ≡ s))
 IsGood s (Err r) = Unit {0}
 
-good_changed : (s : State) (uid : List ℕ) (kind : KindData) → IsGood s (changed s uid kind)
-good_changed s uid kind = go (indexes_after s.changes s.indexes uid kind)
+good_write : (s : State) (c : ChangeData) → IsGood s (accepted_write s c)
+good_write s c = by (nat_le most_changes (accepted s))
   where
-    go : (r : Result Indexes Refusal)
-        → IsGood s (r >>= λ es. Ok (record { answer = replies.accepted uid (type_of kind) s.changes; state = record { changes = s.changes + 1; indexes = es } }))
-    go (Ok es) = inl (refl, refl)
-    go (Err e) = tt
+    by : (spent : Bool) → IsGood s (refuse_if spent ChangesSpent >> Ok (record {
+      answer = replies.accepted c.uid (kind_byte c.kind) (accepted s);
+      state = enqueued changed c.uid (kind_byte c.kind) c s;
+    }))
+    by true = tt
+    by false = inl (refl, (c.uid, kind_byte c.kind, c, refl))
 
 abbrev IsShown : Result Answer Refusal → Type 0
 IsShown (Ok a) = a.status ≡ 200
@@ -58,20 +70,25 @@ shown_facets : (query : Option (List ℕ)) (r : Result (List CountRow) SearchRef
 shown_facets query (Ok rows) = refl
 shown_facets query (Err why) = tt
 
-shown_answer : (es : Indexes) (c : ReadData) → IsShown (answer_to es c)
-shown_answer es health = refl
-shown_answer es (indexes offset limit) = refl
-shown_answer es (index uid) = shown_of (index_at uid es) _ (λ i. Ok (replies.one_index uid i.key)) (λ i. refl)
-shown_answer es (documents uid offset limit fields) =
-    shown_of (index_at uid es) _ (λ i. Ok (replies.documents_listing offset limit fields (slice offset limit (documents_in i)) (length (documents_in i)))) (λ i. refl)
-shown_answer es (document uid id fields) =
-    shown_of (index_at uid es) _ (λ i. or_refuse (NoDocument id) (document_under id i.store.rows) >>= λ d. Ok (replies.one_document fields d))
+shown_task : (number : ℕ) (o : Option Shown) → IsShown (or_refuse (NoTask number) o >>= λ t. Ok (replies.task t))
+shown_task number None = tt
+shown_task number (Some t) = refl
+
+shown_answer : (s : State) (c : ReadData) → IsShown (answer_to s c)
+shown_answer s health = refl
+shown_answer s (task number) = shown_task number (found_task number (tasks_of s))
+shown_answer s (indexes offset limit) = refl
+shown_answer s (index uid) = shown_of (index_at uid s.indexes) _ (λ i. Ok (replies.one_index uid i.key)) (λ i. refl)
+shown_answer s (documents uid offset limit fields) =
+    shown_of (index_at uid s.indexes) _ (λ i. Ok (replies.documents_listing offset limit fields (slice offset limit (documents_in i)) (length (documents_in i)))) (λ i. refl)
+shown_answer s (document uid id fields) =
+    shown_of (index_at uid s.indexes) _ (λ i. or_refuse (NoDocument id) (document_under id i.store.rows) >>= λ d. Ok (replies.one_document fields d))
     (λ i. shown_document fields (document_under id i.store.rows) (NoDocument id))
-shown_answer es (settings uid) = shown_of (index_at uid es) _ (λ i. Ok (replies.settings i.settings)) (λ i. refl)
-shown_answer es (search uid c) = shown_data (searched es uid c)
-shown_answer es (multi calls) = shown_results (results_of es calls)
-shown_answer es (facets uid c) =
-    shown_of (index_at uid es) _ (λ i. refused_as facet_refusal (facet_found i c) >>= λ rows. Ok (replies.facet_hits c.query rows))
+shown_answer s (settings uid) = shown_of (index_at uid s.indexes) _ (λ i. Ok (replies.settings i.settings)) (λ i. refl)
+shown_answer s (search uid c) = shown_data (searched s.indexes uid c)
+shown_answer s (multi calls) = shown_results (results_of s.indexes calls)
+shown_answer s (facets uid c) =
+    shown_of (index_at uid s.indexes) _ (λ i. refused_as facet_refusal (facet_found i c) >>= λ rows. Ok (replies.facet_hits c.query rows))
     (λ i. shown_facets c.query (facet_found i c))
 
 good_answered : (s : State) (r : Result Answer Refusal) → IsShown r → IsGood s (r >>= λ a. Ok (told s a))
@@ -79,8 +96,8 @@ good_answered s (Ok a) is = inr (is, refl)
 good_answered s (Err e) is = tt
 
 good_outcome : (s : State) (c : CallData) → IsGood s (outcome s c)
-good_outcome s (write change) = good_changed s change.uid change.kind
-good_outcome s (read c) = good_answered s (answer_to s.indexes c) (shown_answer s.indexes c)
+good_outcome s (write change) = good_write s change
+good_outcome s (read c) = good_answered s (answer_to s c) (shown_answer s c)
 
 good_called : (s : State) (r : Result CallData Refusal) → IsGood s (r >>= outcome s)
 good_called s (Ok c) = good_outcome s c
@@ -112,71 +129,57 @@ refusing MissingFacetName = (λ e. absurd (omega (arith, e)), λ e. absurd (omeg
 refusing InvalidFacetName = (λ e. absurd (omega (arith, e)), λ e. absurd (omega (arith, e)))
 refusing InvalidFacetQuery = (λ e. absurd (omega (arith, e)), λ e. absurd (omega (arith, e)))
 refusing (NoIndex uid) = (λ e. absurd (omega (arith, e)), λ e. absurd (omega (arith, e)))
-refusing (IndexExists uid) = (λ e. absurd (omega (arith, e)), λ e. absurd (omega (arith, e)))
 refusing (NoDocument id) = (λ e. absurd (omega (arith, e)), λ e. absurd (omega (arith, e)))
-refusing KeyDiffers = (λ e. absurd (omega (arith, e)), λ e. absurd (omega (arith, e)))
-refusing NoCandidate = (λ e. absurd (omega (arith, e)), λ e. absurd (omega (arith, e)))
-refusing SeveralCandidates = (λ e. absurd (omega (arith, e)), λ e. absurd (omega (arith, e)))
-refusing (MissingId k key) = (λ e. absurd (omega (arith, e)), λ e. absurd (omega (arith, e)))
-refusing (BadId k) = (λ e. absurd (omega (arith, e)), λ e. absurd (omega (arith, e)))
+refusing InvalidTaskUid = (λ e. absurd (omega (arith, e)), λ e. absurd (omega (arith, e)))
+refusing (NoTask number) = (λ e. absurd (omega (arith, e)), λ e. absurd (omega (arith, e)))
 refusing ChangesSpent = (λ e. absurd (omega (arith, e)), λ e. absurd (omega (arith, e)))
-refusing IndexesSpent = (λ e. absurd (omega (arith, e)), λ e. absurd (omega (arith, e)))
-refusing IdsSpent = (λ e. absurd (omega (arith, e)), λ e. absurd (omega (arith, e)))
-refusing PathsSpent = (λ e. absurd (omega (arith, e)), λ e. absurd (omega (arith, e)))
 refusing NoSortRule = (λ e. absurd (omega (arith, e)), λ e. absurd (omega (arith, e)))
 refusing (NotSortable attribute) = (λ e. absurd (omega (arith, e)), λ e. absurd (omega (arith, e)))
 refusing (NotFilterable attribute) = (λ e. absurd (omega (arith, e)), λ e. absurd (omega (arith, e)))
 refusing (NotFacet attribute) = (λ e. absurd (omega (arith, e)), λ e. absurd (omega (arith, e)))
 
+accepted_once : (s new : State) → Accepts changed stepped s new → accepted new ≡ accepted s + 1
+accepted_once s new (uid, kind, c, is) = ap accepted is ∙ accepted_counts changed uid kind c s
+
 counted : (s : State) (r : Result Step Refusal) → IsGood s r → IsCounted s (unless_refused s r)
 counted s (Err e) good = inr ((refusing e).0, refl)
-counted s (Ok t) (inl accepted) = inl accepted
+counted s (Ok t) (inl (is, accepts)) = inl (is, accepted_once s t.state accepts)
 counted s (Ok t) (inr (is, same)) = inr ((λ e. absurd (omega (arith, e, is))), same)
+
+waits : (s : State) (r : Result Step Refusal) → IsGood s r
+    → ((unless_refused s r).answer.status ≡ 202 → Accepts changed stepped s (unless_refused s r).state) × ((unless_refused s r).answer.status ≢ 202 → (unless_refused s r).state ≡ s)
+waits s (Err e) good = (λ is. absurd ((refusing e).0 is), λ other. refl)
+waits s (Ok t) (inl (is, accepts)) = (λ again. accepts, λ other. absurd (other is))
+waits s (Ok t) (inr (is, same)) = (λ other. absurd (omega (arith, other, is)), λ other. same)
 
 not_503 : (s : State) (r : Result Step Refusal) → IsGood s r → (unless_refused s r).answer.status ≢ 503
 not_503 s (Err e) good = (refusing e).1
-not_503 s (Ok t) (inl (is, count)) = λ e. absurd (omega (arith, e, is))
+not_503 s (Ok t) (inl (is, accepts)) = λ e. absurd (omega (arith, e, is))
 not_503 s (Ok t) (inr (is, same)) = λ e. absurd (omega (arith, e, is))
 
 pub step_counted : (s : State) (q : Request) → IsCounted s (step s q)
 unfolding step
 step_counted s q = counted s (call_of q >>= outcome s) (good_called s (call_of q))
 
+pub accepted_waits : IsStep changed stepped
+unfolding step
+accepted_waits s q = waits s (call_of q >>= outcome s) (good_called s (call_of q))
+
 pub step_not_503 : (s : State) (q : Request) → (step s q).answer.status ≢ 503
 unfolding step
 step_not_503 s q = not_503 s (call_of q >>= outcome s) (good_called s (call_of q))
 
--- ---- several searches
+-- ---- what is followed by a batch
 
--- those that are answered show what each alone is answered with
-abbrev Together : Indexes → List MultiData → List Data → Type 0
-Together es calls ds = (shown : List Data) × (map (λ one. answer_to es (search one.uid one.call)) calls ≡ map (λ d. Ok (replies.answer 200 d)) shown)
-    × (ds ≡ map (λ p. replies.with_uid p.0.uid p.1) (zip calls shown))
-
-together_more : (es : Indexes) (one : MultiData) (others : List MultiData) (r : Result Data Refusal) (rest : Result (List Data) Refusal) (ds : List Data)
-    → searched es one.uid one.call ≡ r → ((later : List Data) → rest ≡ Ok later → Together es others later)
-    → ((r >>= λ d. Ok (replies.with_uid one.uid d)) >>= λ d. rest >>= λ later. Ok (d ∷ later)) ≡ Ok ds → Together es (one ∷ others) ds
-together_more es one others (Err why) rest ds is later done = absurd (cc)
-together_more es one others (Ok d) (Err why) ds is later done = absurd (cc)
-together_more es one others (Ok d) (Ok ds) all is later done =
-    let after = later ds refl in
-    let same : replies.with_uid one.uid d ∷ ds ≡ all = cc in (
-      d ∷ after.0,
-      ap₂ (λ a others. a ∷ others) (ap (λ r. r >>= λ d. Ok (replies.answer 200 d)) is) after.1,
-      sym same ∙ ap (λ ds. replies.with_uid one.uid d ∷ ds) after.2,
-    )
-
-together : (es : Indexes) (calls : List MultiData) (ds : List Data) → results_of es calls ≡ Ok ds → Together es calls ds
-together es [] ds is = let same : [] ≡ ds = cc in ([], refl, sym same)
-together es (one ∷ others) ds is =
-    together_more es one others (searched es one.uid one.call) (results_of es others) ds refl (together es others) is
-
-pub answered_alike : (es : Indexes) (calls : List MultiData) (a : Answer) → answer_to es (multi calls) ≡ Ok a → AreAnswered es calls a
-answered_alike es calls a is = by (results_of es calls) refl is
+-- a reply of status 202, or the one for want of memory, is not, and any other is
+pub follows : (s : State) (q : Request) (starved : Bool) (status : ℕ) → status ≡ (answer_of s q starved).status
+    → (not (status == 202) && not (status == 503)) ≡ is_followed s q starved
+follows s q true status is = rw is refl
+follows s q false status is = by (status == 202) refl
   where
-    by : (r : Result (List Data) Refusal) → results_of es calls ≡ r → (r >>= λ ds. Ok (replies.results ds)) ≡ Ok a → AreAnswered es calls a
-    by (Ok ds) has done =
-        let all = together es calls ds has in
-        let same : replies.results ds ≡ a = cc in
-        record { shown = all.0; alone = all.1; together = sym same ∙ ap replies.results all.2 }
-    by (Err why) has done = absurd (cc)
+    other : (status == 503) ≡ false
+    other = false_from_ne_true (status == 503) (λ e. step_not_503 s q (sym is ∙ eqb-true status 503 e))
+
+    by : (w : Bool) → (status == 202) ≡ w → (not w && not (status == 503)) ≡ is_followed s q false
+    by true at = rw (sym is, at) refl
+    by false at = rw (sym is, at, other) refl

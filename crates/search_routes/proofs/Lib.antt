@@ -1,11 +1,10 @@
 pub mod RowLemmas
-pub mod MapLemmas
 pub mod Steps
+pub mod TaskLemmas
 pub mod LawLemmas
+pub mod ReadLemmas
+pub mod AlikeLemmas
 pub mod NeedLemmas
 pub mod OpenLemmas
-pub mod FitLemmas
-pub mod ImageLemmas
-pub mod RedoLemmas
 pub mod RunLemmas
 pub mod MultiLemmas

@@ -28,8 +28,8 @@ use Rattle.request_refusals.specs.declared.refusal.Refusal.{Refusal}
 use Rattle.request_refusals.specs.declared.refusal.Refusal.TheVariants.{NoIndex}
 use Rattle.request_calls.specs.Asked.{MultiData}
 use Rattle.request_replies.specs.Replies.{with_uid}
-use Rattle.search_routes.specs.State.{Indexes}
-use Rattle.search_routes.specs.Machine.{found_shown, index_at, search_refusal, searched, result_of, results_of}
+use Rattle.named_indexes.specs.Indexes.{Indexes, index_at}
+use Rattle.search_routes.specs.Machine.{found_shown, search_refusal, searched, result_of, results_of}
 use Rattle.search_routes.specs.Needs.{there_need, search_need}
 use Rattle.search_routes.specs.Openings.{there_opened, search_opened, search_most}
 use Rattle.search_routes.specs.Several.{Tally, Searched, Searches, has_starved, outcome_of, fault_of, text_of}

@@ -5,8 +5,8 @@ use Rattle.search_base.specs.Trying.{or_refuse}
 use Rattle.request_refusals.specs.declared.refusal.Refusal.TheVariants.{NoIndex}
 use Rattle.index_changes.specs.Index.{Index}
 use Rattle.bucket_sort.specs.Opens.{LogState, Opens}
-use Rattle.search_routes.specs.State.{Indexes}
-use Rattle.search_routes.specs.Machine.{index_at, index_named}
+use Rattle.named_indexes.specs.Indexes.{Indexes, index_at}
+use Rattle.search_routes.specs.Machine.{index_named}
 use Rattle.search_routes.specs.Openings.{there_opened}
 
 opened-there : (uid : List ℕ) (es : Indexes) (i : Index) (all : Index → List Opening) → index_named uid es ≡ Ok i → there_opened (index_at uid es) all ≡ all i

@@ -1,7 +1,8 @@
 -- What the code does, beside the steps of the machine.
-use Rattle.std.specs.Prelude.{◌≡◌, ℕ, Bool, List, [], Result, Ok, Err}
+use Rattle.std.specs.Prelude.{◌≡◌, ◌<◌, ◌≤◌, ℕ, Bool, List, [], Result, Ok, Err}
 use Rattle.bucket_sort.specs.declared.log.Opening.{Opening}
-use Rattle.doc_values.specs.Changes.{change_view}
+use Rattle.doc_values.specs.Changes.{ChangeData, change_view}
+use Rattle.change_payloads.specs.Spelling.{kind_byte}
 use Rattle.http_wire.specs.Reply.{Answer}
 use Rattle.http_wire.specs.Stream.{Request}
 use Rattle.http_wire.specs.Sent.{IsSentAs}
@@ -9,6 +10,9 @@ use Rattle.http_wire.specs.declared.reply.Reply.{Reply}
 use Rattle.http_wire.specs.declared.reply.Reply.TheVariants.{Memory}
 use Rattle.bucket_sort.specs.Opens.{LogState, Opens}
 use Rattle.request_refusals.specs.declared.refusal.Refusal.{Refusal}
+use Rattle.request_refusals.specs.declared.refusal.Refusal.TheVariants.{ChangesSpent}
+use Rattle.request_replies.specs.Replies as replies
+use Rattle.named_indexes.specs.Payloads.{Accepts}
 use Rattle.search_base.specs.declared.fault.Fault.{Fault}
 use Rattle.search_base.specs.declared.fault.Fault.TheVariants as fault
 use Rattle.request_calls.specs.declared.call.Call.{Call}
@@ -16,8 +20,9 @@ use Rattle.request_calls.specs.declared.call.Call.TheVariants as call
 use Rattle.request_calls.specs.Asked.{write, read, read_view}
 use Rattle.search_base.specs.Gives.{Fails}
 use Rattle.request_calls.specs.Refusals.{refused}
-use Rattle.search_routes.specs.State.{State}
-use Rattle.search_routes.specs.Machine.{Step, performed}
+use Rattle.search_routes.specs.State.{State, most_changes}
+use Rattle.search_routes.specs.Machine.{Step, numbered, performed}
+use Rattle.search_routes.specs.declared.tasks.PreparedTask.{PreparedTask}
 use Rattle.search_routes.specs.Needs.{call_need}
 use Rattle.search_routes.specs.Openings.{read_opened, opened_by, read_most}
 use Rattle.search_routes.specs.Chosen.{or_memory, answer_in, state_in, answer_of, state_after}
@@ -41,6 +46,10 @@ abbrev pub Answered : Noted → Request → Reply → Noted → Type 0
 Answered old q reply new = (starved : Bool) × IsSentAs reply (answer_of old.state q starved)
     × (new.state ≡ state_after old.state q starved) × Opens starved (opened_by old.state q) old.log new.log
 
+-- what a step leaves that opens no bucket: it was made, or there was no memory
+abbrev pub Leaves : State → Step → Reply → State → Type 0
+Leaves s t reply new = (starved : Bool) × IsSentAs reply (answer_in t starved) × (new ≡ state_in s t starved)
+
 -- the call was performed, or there was no memory; a refused one has its reply
 abbrev pub Performs : Noted → Call → Reply → Noted → Type 0
 Performs old (call.Refused given) reply new = (reply ≡ given) × (new ≡ old)
@@ -61,17 +70,20 @@ held_need s (call.Refused given) = 0
 held_need s (call.Write change) = call_need s (write (change_view change))
 held_need s (call.Read c) = call_need s (read (read_view c))
 
+-- a task of this number that may wait, and the reply by which its change is accepted
+pub record IsPrepared (number : ℕ) (c : ChangeData) (prepared : PreparedTask) : Type 0 where
+  pub room : number < most_changes
+  pub task : prepared.task ≡ numbered number c
+  pub accepts : Accepts prepared.task.uid prepared.task.kind prepared.task.change
+  pub reply : IsSentAs prepared.reply (replies.accepted c.uid (kind_byte c.kind) number)
+
 -- ---- inside
 
--- a step, or why there is none
-abbrev pub Steps : State → Result Step Refusal → Result Reply (Fault Refusal) → State → Type 0
-Steps old defined (Ok reply) new = (t : Step) × (defined ≡ Ok t) × IsSentAs reply t.answer × (new ≡ t.state)
-Steps old defined (Err f) new = Fails f defined × (new ≡ old)
-
--- what changes to what a definition says, with this reply, or why it does not
-abbrev pub Grows : {A : Type 0} → Result A Refusal → Answer → A → Result Reply (Fault Refusal) → A → Type 0
-Grows defined answer old (Ok reply) new = (defined ≡ Ok new) × IsSentAs reply answer
-Grows defined answer old (Err f) new = Fails f defined × (new ≡ old)
+-- the task of a change under this number, or why there is none: it is past the limit, unless memory was wanting
+abbrev pub Prepares : ℕ → ChangeData → Result PreparedTask (Fault Refusal) → Type 0
+Prepares number c (Ok prepared) = IsPrepared number c prepared
+Prepares number c (Err fault.NoMemory) = Unit {0}
+Prepares number c (Err (fault.Refused r)) = (r ≡ ChangesSpent) × (most_changes ≤ number)
 
 -- an answer that is sent, or why there is none
 abbrev pub Sends : Result Answer Refusal → Result Reply (Fault Refusal) → Type 0

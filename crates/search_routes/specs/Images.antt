@@ -1,23 +1,16 @@
 -- The state that stands in an image, and what reading it needs.
-use Rattle.std.specs.Prelude.{◌≡◌, ℕ, ◌+◌, List, [], ◌∷◌, length, map, Result, Ok, Err}
+use Rattle.std.specs.Prelude.{◌≡◌, ℕ, List, [], map, Result, Ok, Err}
 use Rattle.change_payloads.specs.Change.{Spot}
 use Rattle.change_payloads.specs.declared.fault.ImageFault.{ImageFault}
 use Rattle.change_payloads.specs.declared.fault.ImageFault.TheVariants.{Damaged, NoMemory}
-use Rattle.index_image.specs.Rows.{IndexData, ImageData}
-use Rattle.index_changes.specs.Index.{Index}
-use Rattle.index_changes.specs.Images.{index_of}
-use Rattle.search_routes.specs.State.{State}
+use Rattle.index_image.specs.Rows.{ImageData}
+use Rattle.queued_changes.specs.State.{idle}
+use Rattle.named_indexes.specs.Images.{entry_of, documents_of}
+use Rattle.search_routes.specs.State.{State, finished_part}
 
-abbrev pub entry_of : IndexData → List ℕ × Index
-entry_of i = (i.uid, index_of i)
-
--- the machine of an image
+-- the machine of an image, with no task that waits
 abbrev pub state_of : ImageData → State
-state_of s = record { changes = s.changes; indexes = map entry_of s.indexes }
-
-abbrev pub documents_of : List IndexData → ℕ
-documents_of [] = 0
-documents_of (i ∷ is) = length i.documents + documents_of is
+state_of s = idle s.changes [] (map entry_of s.indexes)
 
 -- each document is read once
 abbrev pub image_need : ImageData → ℕ
@@ -34,8 +27,8 @@ Opens (Ok machine) spelled = (s : ImageData) × (spelled ≡ Ok s) × (machine �
 Opens (Err (Damaged place found)) spelled = spelled ≡ Err (record { place = place; found = found })
 Opens (Err NoMemory) spelled = Unit {0}
 
--- these bytes spell a state whose machine is this one
+-- these bytes spell the finished part of this machine
 pub record Spells (bytes : List ℕ) (machine : State) (spelled : Result ImageData Spot) : Type 0 where
   pub state : ImageData
   pub is : spelled ≡ Ok state
-  pub machine_of : state_of state ≡ machine
+  pub machine_of : state_of state ≡ finished_part machine

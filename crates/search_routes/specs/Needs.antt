@@ -1,66 +1,34 @@
--- How many stored documents a call needs to read.
-use Rattle.std.specs.Prelude.{ℕ, List, length, sum_by, take_while, Bool, nat_le, ◌||◌, codes, Option, Some, None, is_some, unwrap_or, Result, Ok, Err, is_ok, if◌then◌else◌}
+-- How many stored documents a request needs to read, and the batch behind its reply.
+use Rattle.std.specs.Prelude.{ℕ, List, length, sum_by, take_while, nat_le, ◌==◌, Bool, Option, Some, None, Result, Ok, Err, is_ok, if◌then◌else◌}
 use Rattle.serde_json.specs.Data.{Data}
-use Rattle.serde_json.specs.Find.{get}
-use Rattle.doc_values.specs.Changes.{KindData, create, drop_index, replace, update, remove, clear, patch, reset}
 use Rattle.http_wire.specs.Stream.{Request}
-use Rattle.index_changes.specs.Index.{Index, empty_index, documents as documents_in, document_under}
-use Rattle.index_changes.specs.PlanView.{PlanView}
-use Rattle.index_changes.specs.Plans.{planned}
-use Rattle.index_changes.specs.Fetches.{needed}
+use Rattle.index_changes.specs.Index.{Index, documents as documents_in, document_under}
 use Rattle.index_core.specs.Fetches.{documents_needed}
-use Rattle.index_changes.specs.declared.refusal.CoreRefusal.{CoreRefusal}
 use Rattle.request_refusals.specs.declared.refusal.Refusal.{Refusal}
-use Rattle.request_calls.specs.Asked.{ReadData, MultiData, health, indexes, index, documents, document, settings, search, multi, facets, CallData, write, read}
+use Rattle.request_calls.specs.Asked.{ReadData, MultiData, health, task, indexes, index, documents, document, settings, search, multi, facets, CallData, write, read}
 use Rattle.request_calls.specs.Calls.{call_of}
 use Rattle.search_call.specs.SearchView.{SearchView}
-use Rattle.search_routes.specs.State.{State, Indexes}
-use Rattle.search_routes.specs.Machine.{index_at, most_changes, searched, slice}
+use Rattle.queued_changes.specs.State.{accepted}
+use Rattle.queued_changes.specs.Needs.{batch_need as need_of_batch, room_need as need_of_room}
+use Rattle.named_indexes.specs.Indexes.{Indexes, index_at}
+use Rattle.named_indexes.specs.Needs.{need}
+use Rattle.search_routes.specs.State.{State, most_changes}
+use Rattle.search_routes.specs.Machine.{step, searched, slice}
 
--- ---- changes
+-- ---- batches
 
--- The documents that are added, updated or removed and were there before; and all, where other settings use some path
--- otherwise. A change that is refused by its key or its ids needs none.
-abbrev pub plan_need : Result PlanView CoreRefusal → Index → ℕ
-plan_need (Ok plan) i = needed plan.work i
-plan_need (Err why) i = 0
+-- of the oldest batch: of one that stores documents or takes them out, those that its tasks name and that are there,
+-- each once; of new settings that may use some path otherwise, all of the index; of any other, none
+abbrev pub batch_need : State → ℕ
+batch_need s = need_of_batch need s
 
-abbrev pub documents_need : Index → KindData → ℕ
-documents_need i change = plan_need (planned i change) i
+-- of the batch that makes room for one task more
+abbrev pub room_need : State → ℕ
+room_need s = need_of_room need s
 
--- the same of the index that is there, if there is one
-abbrev pub need_in : Option Index → KindData → ℕ
-need_in there change = documents_need (unwrap_or there empty_index) change
-
--- Whether a patch names a member by which documents are searched, filtered, sorted or ranked: such a patch may need to
--- read each of them, and any other none.
-abbrev pub needs_documents : Data → Bool
-needs_documents members =
-    is_some (get (codes "searchableAttributes") members) || is_some (get (codes "filterableAttributes") members)
-    || is_some (get (codes "sortableAttributes") members) || is_some (get (codes "rankingRules") members)
-
--- the documents of the index that is there, if there is one
-abbrev pub stored_in : Option Index → ℕ
-stored_in None = 0
-stored_in (Some i) = length i.store.rows
-
-abbrev pub kind_need : Option Index → KindData → ℕ
-kind_need there (create key) = 0
-kind_need there drop_index = 0
-kind_need there (replace given ds) = need_in there (replace given ds)
-kind_need there (update given ds) = need_in there (update given ds)
-kind_need there (remove ids) = need_in there (remove ids)
-kind_need there clear = need_in there clear
-kind_need there (patch members) = if needs_documents members then stored_in there else 0
-kind_need there reset = stored_in there
-
--- A change past the limit of changes is refused before anything is read.
-abbrev pub unless_spent : ℕ → ℕ → ℕ
-unless_spent before need = if nat_le most_changes before then 0 else need
-
--- of a change of the index of this uid, where so many were accepted before
-abbrev pub change_need : ℕ → Indexes → List ℕ → KindData → ℕ
-change_need before es uid change = unless_spent before (kind_need (index_at uid es) change)
+-- a change past the limit is refused before room is made
+abbrev pub change_need : State → ℕ
+change_need s = if nat_le most_changes (accepted s) then 0 else room_need s
 
 -- ---- reads
 
@@ -85,6 +53,7 @@ answered es calls = take_while (λ one. is_ok (searched es one.uid one.call)) ca
 -- the documents in the reply; of several searches the sum, where the first that is refused ends them
 abbrev pub read_need : Indexes → ReadData → ℕ
 read_need es health = 0
+read_need es (task number) = 0
 read_need es (indexes offset limit) = 0
 read_need es (index uid) = 0
 read_need es (documents uid offset limit fields) =
@@ -98,7 +67,7 @@ read_need es (facets uid call) = 0
 -- ---- calls and requests
 
 abbrev pub call_need : State → CallData → ℕ
-call_need s (write change) = change_need s.changes s.indexes change.uid change.kind
+call_need s (write change) = change_need s
 call_need s (read call) = read_need s.indexes call
 
 -- a request that is refused by what it says alone needs none
@@ -108,3 +77,8 @@ asked_need s (Err r) = 0
 
 unfoldable pub needed_fetches : State → Request → ℕ
 needed_fetches s q = asked_need s (call_of q)
+
+-- of the batch that runs behind the reply, which is none behind a reply 202 and behind the one for want of memory
+abbrev pub follow_need : State → Request → Bool → ℕ
+follow_need s q starved =
+    if starved then 0 else if (step s q).answer.status == 202 then 0 else batch_need (step s q).state

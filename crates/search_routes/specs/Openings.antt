@@ -5,11 +5,11 @@ use Rattle.http_wire.specs.Stream.{Request}
 use Rattle.index_changes.specs.Index.{Index}
 use Rattle.index_core.specs.Opened.{opened, most_opened}
 use Rattle.request_refusals.specs.declared.refusal.Refusal.{Refusal}
-use Rattle.request_calls.specs.Asked.{ReadData, health, indexes, index, documents, document, settings, search, multi, facets, CallData, write, read}
+use Rattle.request_calls.specs.Asked.{ReadData, health, task, indexes, index, documents, document, settings, search, multi, facets, CallData, write, read}
 use Rattle.request_calls.specs.Calls.{call_of}
 use Rattle.search_call.specs.SearchView.{SearchView}
-use Rattle.search_routes.specs.State.{State, Indexes}
-use Rattle.search_routes.specs.Machine.{index_at}
+use Rattle.named_indexes.specs.Indexes.{Indexes, index_at}
+use Rattle.search_routes.specs.State.{State}
 use Rattle.search_routes.specs.Needs.{there_need, answered}
 
 -- of an index that is there
@@ -23,6 +23,7 @@ search_opened es uid call = there_opened (index_at uid es) (λ i. opened i call)
 -- Searches alone open buckets; several do so one after the other, and the first that is refused ends them.
 abbrev pub read_opened : Indexes → ReadData → List Opening
 read_opened es health = []
+read_opened es (task number) = []
 read_opened es (indexes offset limit) = []
 read_opened es (index uid) = []
 read_opened es (documents uid offset limit fields) = []
@@ -51,6 +52,7 @@ search_most es uid call = there_need (index_at uid es) (λ i. most_opened i call
 
 abbrev pub read_most : Indexes → ReadData → ℕ
 read_most es health = 0
+read_most es (task number) = 0
 read_most es (indexes offset limit) = 0
 read_most es (index uid) = 0
 read_most es (documents uid offset limit fields) = 0

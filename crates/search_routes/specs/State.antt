@@ -1,18 +1,22 @@
 -- What the machine holds.
-use Rattle.std.specs.Prelude.{ℕ, List, refl}
-use Rattle.std.specs.Coded.{Coded, code_by, coded×, coded_ℕ, coded_list}
-use Rattle.index_changes.specs.Index.{Index, index_code}
+use Rattle.std.specs.Prelude.{ℕ, []}
+use Rattle.doc_values.specs.Changes.{ChangeData}
+use Rattle.queued_changes.specs.State.{State as Waiting, idle}
+use Rattle.named_indexes.specs.Indexes.{Indexes}
 
--- the indexes by their uids, in the order of the uids' bytes
-abbrev pub Indexes : Type 0
-Indexes = List (List ℕ × Index)
+-- how many tasks have finished; those that wait, each with the change that it is to make; what became of the last that
+-- finished; and the indexes as the finished tasks left them
+abbrev pub State : Type 0
+State = Waiting ChangeData Indexes
 
--- how many changes were accepted, and the indexes
-pub record State : Type 0 where
-  pub changes : ℕ
-  pub indexes : Indexes
+-- the machine that holds nothing
+abbrev pub empty_state : State
+empty_state = idle 0 [] []
 
-abbrev pub state_code : Coded State
-state_code =
-    code_by (ℕ × List (List ℕ × Index)) (coded× coded_ℕ (coded_list (coded× (coded_list coded_ℕ) index_code)))
-    (λ s. (s.changes, s.indexes)) (λ p. record { changes = p.0; indexes = p.1 }) (λ _. refl)
+-- how many tasks may be accepted
+abbrev pub most_changes : ℕ
+most_changes = 1000000000
+
+-- the machine without the tasks that wait and without what became of others: the part that an image has
+abbrev pub finished_part : State → State
+finished_part s = idle s.finished [] s.indexes

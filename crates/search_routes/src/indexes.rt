@@ -9,22 +9,19 @@ ghost use Rattle.request_replies.specs.Replies.{index_data};
 ghost use Rattle.search_routes.specs.Machine.{slice, index_named as index_under, index_rows};
 
 use index_core::IndexCore;
+use named_indexes::Indexes;
 use request_refusals::Refusal;
 use request_replies::index_value;
 use search_base::{Fault, NoMemory, Word};
 use serde_json::Value;
 use std::alloc::Global;
-use std::collections::BTreeMap;
-
-/// The indexes by their uids, in the order of the uids' bytes.
-pub(crate) type Indexes = BTreeMap<Word, IndexCore>;
 
 /// The index of this uid, or its refusal.
 pub(crate) fn index_named<'a>(
     indexes: &'a Indexes,
     uid: &Word,
 ) -> Result<&'a IndexCore, Fault<Refusal>>
-    ensures { Gives (λ index. index.now) result (index_under uid.now indexes.now.entries) }
+    ensures { Gives (λ index. index.now) result (index_under uid.now indexes.now) }
 {
     match indexes.get(uid) {
         Some(index) => Ok(index),
@@ -40,7 +37,7 @@ pub(crate) fn index_values(
     indexes: &Indexes,
 ) -> Result<Value, NoMemory>
     ensures value { IfOk result (λ value. view value
-        ≡ array (items_of (slice offset limit (index_rows indexes.now.entries)))) }
+        ≡ array (items_of (slice offset limit (index_rows indexes.now)))) }
     ensures whole { IfOk result (λ value. has_float (view value) ≡ false) }
 {
     let mut values = Vec::new(alloc);
@@ -48,7 +45,8 @@ pub(crate) fn index_values(
         skip: offset,
         room: limit,
     };
-    for (uid, index) in indexes.iter() {
+    let entries = indexes.entries();
+    for (uid, index) in entries.iter() {
         left = put_index(alloc, &mut values, left, uid.as_str(), index.key())?;
     }
     Ok(Value::Array(values))

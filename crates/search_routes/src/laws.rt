@@ -1,8 +1,14 @@
-ghost use Rattle.search_routes.specs.Laws.{AcceptedIsCounted, EachIsAnsweredAlike, NoneAnswers503};
+ghost use Rattle.search_routes.specs.Laws.{AcceptedIsCounted, AcceptedWaits, EachIsAnsweredAlike, NoneAnswers503};
 
-/// A request that is answered by 202 was counted as a change, and one that is answered otherwise changed nothing.
+/// A request that is answered by 202 was counted as a task, and one that is answered otherwise changed nothing.
 pub fn what_is_accepted_is_counted()
     ensures { AcceptedIsCounted }
+{}
+
+/// A request that is answered by 202 put the task of a change behind those that wait, and one that is answered otherwise
+/// changed nothing.
+pub fn what_is_accepted_waits()
+    ensures { AcceptedWaits }
 {}
 
 /// No step of the machine answers 503: that status says that memory was wanting, and nothing else does.

@@ -3,25 +3,23 @@ ghost use Rattle.std.specs.Prelude.{◌≡◌, ◌+◌, ◌≤◌, ◌<◌, ◌^
 ghost use Rattle.bucket_sort.specs.Opens.{log_state, Opens, is_starved};
 ghost use Rattle.search_base.specs.Gives.{Gives};
 ghost use Rattle.request_calls.specs.Asked as asked;
-ghost use Rattle.search_routes.specs.Done.{Sends};
-ghost use Rattle.search_routes.specs.Machine.{answer_to, results_of};
+ghost use Rattle.search_routes.specs.Machine.{results_of};
 ghost use Rattle.search_routes.specs.Needs.{read_need, search_need};
 ghost use Rattle.search_routes.specs.Openings.{read_opened, read_most, search_opened, search_most};
 ghost use Rattle.search_routes.specs.Several.{Searched, Searches as AreMade, Shows, text_of, outcome_of as outcome_from, fault_of as fault_from};
 
-use crate::indexes::Indexes;
 use crate::searching::{search_index, shown_text};
 use bucket_sort::BucketLog;
-use http_wire::Reply;
 use multi_search::{MultiFault, OneFault, SearchOne, run};
+use named_indexes::Indexes;
 use request_calls::MultiCall;
 use request_refusals::Refusal;
-use request_replies::{ResultText, results_reply};
+use request_replies::ResultText;
 use search_base::{Fault, Steps};
 use std::alloc::Global;
 
-/// Makes several searches, one after the other. The first that is refused refuses all. 2^32 searches or more count as
-/// ones for which there is no memory.
+/// Makes several searches, one after the other, and gives what each shows. The first that is refused refuses all. 2^32
+/// searches or more count as ones for which there is no memory.
 pub(crate) fn search_several<'a, F, G>(
     alloc: Global,
     indexes: &'a Indexes,
@@ -29,12 +27,12 @@ pub(crate) fn search_several<'a, F, G>(
     log: &'a mut Box<dyn BucketLog>,
     fetches: &'a mut Steps<F>,
     openings: &'a mut Steps<G>,
-) -> Result<Reply, Fault<Refusal>>
-    ensures answer { Sends (answer_to indexes.now.entries (asked.multi calls.now)) result }
-    ensures fetched { fetches.new ≤ fetches.old + read_need indexes.now.entries (asked.multi calls.now) }
-    ensures opens { Opens (is_starved result) (read_opened indexes.now.entries (asked.multi calls.now))
+) -> Result<Vec<ResultText>, Fault<Refusal>>
+    ensures answer { Shows (results_of indexes.now calls.now) result }
+    ensures fetched { fetches.new ≤ fetches.old + read_need indexes.now (asked.multi calls.now) }
+    ensures opens { Opens (is_starved result) (read_opened indexes.now (asked.multi calls.now))
         (log_state (told log.old) openings.old) (log_state (told log.new) openings.new) }
-    ensures few { openings.new ≤ openings.old + read_most indexes.now.entries (asked.multi calls.now) }
+    ensures few { openings.new ≤ openings.old + read_most indexes.now (asked.multi calls.now) }
 {
     if calls.len() > u32::MAX as usize {
         return Err(Fault::NoMemory);
@@ -45,8 +43,7 @@ pub(crate) fn search_several<'a, F, G>(
         fetches,
         openings,
     };
-    let results = search_each(alloc, &mut searches, calls)?;
-    Ok(results_reply(alloc, &results)?)
+    search_each(alloc, &mut searches, calls)
 }
 
 // Searches of some indexes, and what they tell and count.
@@ -65,14 +62,14 @@ impl<'a, F, G> SearchOne for Searches<'a, F, G> {
 
     type Fault = Refusal;
 
-    ghost outcome = { λ searches call. text_of searches.indexes.now.entries call };
+    ghost outcome = { λ searches call. text_of searches.indexes.now call };
 
     ghost Leaves = { λ before call outcome after.
-        (after.indexes.now.entries ≡ before.indexes.now.entries)
+        (after.indexes.now ≡ before.indexes.now)
         × (after.log.ghost_name ≡ before.log.ghost_name)
         × (after.fetches.ghost_name ≡ before.fetches.ghost_name)
         × (after.openings.ghost_name ≡ before.openings.ghost_name)
-        × Searched before.indexes.now.entries call outcome
+        × Searched before.indexes.now call outcome
         (record {
           fetched = before.fetches.now;
           log = log_state ((BucketLog-box before.log.now).told before.log.now.value) before.openings.now;
@@ -105,11 +102,11 @@ fn search_one<F, G>(
     openings: &mut Steps<G>,
 ) -> Result<ResultText, Fault<Refusal>>
     requires { Unit {0} }
-    ensures answer { Gives (λ text. text) result (text_of indexes.now.entries call.now) }
-    ensures fetched { fetches.new ≤ fetches.old + search_need indexes.now.entries call.now.uid call.now.call }
-    ensures opens { Opens (is_starved result) (search_opened indexes.now.entries call.now.uid call.now.call)
+    ensures answer { Gives (λ text. text) result (text_of indexes.now call.now) }
+    ensures fetched { fetches.new ≤ fetches.old + search_need indexes.now call.now.uid call.now.call }
+    ensures opens { Opens (is_starved result) (search_opened indexes.now call.now.uid call.now.call)
         (log_state (told log.old) openings.old) (log_state (told log.new) openings.new) }
-    ensures few { openings.new ≤ openings.old + search_most indexes.now.entries call.now.uid call.now.call }
+    ensures few { openings.new ≤ openings.old + search_most indexes.now call.now.uid call.now.call }
 {
     let MultiCall { uid, call } = call;
     let shown = search_index(alloc, indexes, uid, call, log, fetches, openings)?;
@@ -137,8 +134,8 @@ fn search_each<F, G>(
     ensures same_log { searches.new.log.ghost_name ≡ searches.old.log.ghost_name }
     ensures same_fetches { searches.new.fetches.ghost_name ≡ searches.old.fetches.ghost_name }
     ensures same_openings { searches.new.openings.ghost_name ≡ searches.old.openings.ghost_name }
-    ensures answer { Shows (results_of searches.old.indexes.now.entries calls.now) result }
-    ensures made { AreMade searches.old.indexes.now.entries (is_starved result) calls.now
+    ensures answer { Shows (results_of searches.old.indexes.now calls.now) result }
+    ensures made { AreMade searches.old.indexes.now (is_starved result) calls.now
         (record {
           fetched = searches.old.fetches.now;
           log = log_state ((BucketLog-box searches.old.log.now).told searches.old.log.now.value)

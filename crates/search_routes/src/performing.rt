@@ -1,24 +1,27 @@
-ghost use Rattle.std.specs.Prelude.{◌≡◌, ◌+◌, ◌<◌, ◌≤◌, Bool, IfOk};
-ghost use Rattle.http_wire.specs.Sent.{IsSentAs};
+ghost use Rattle.std.specs.Prelude.{◌≡◌, ◌+◌, ◌≤◌, Bool};
+ghost use Rattle.bucket_sort.specs.Opens.{log_state};
+ghost use Rattle.doc_values.specs.Changes.{change_view};
+ghost use Rattle.http_wire.specs.Sent.{IsSentAs, status_of};
 ghost use Rattle.http_wire.specs.Stream.{Request};
 ghost use Rattle.http_wire.specs.Wire.{request_of};
+ghost use Rattle.request_calls.specs.Asked.{write};
 ghost use Rattle.request_calls.specs.Calls.{IsAccepted, IsCall, OnChange, call_of};
 ghost use Rattle.request_calls.specs.Refusals.{refused};
-ghost use Rattle.search_routes.specs.Chosen.{or_memory};
-ghost use Rattle.bucket_sort.specs.Opens.{log_state};
-ghost use Rattle.search_routes.specs.Done.{Answered, Answers, Performs, held_need, held_most, noted};
-ghost use Rattle.search_routes.specs.Machine.{most_changes};
-ghost use Rattle.search_routes.specs.Needs.{needed_fetches};
+ghost use Rattle.search_routes.specs.Chosen.{answer_of, is_followed as is_followed_by, or_memory};
+ghost use Rattle.search_routes.specs.Done.{Answered, Answers, Leaves, Performs, held_most, held_need, noted};
+ghost use Rattle.search_routes.specs.Machine.{performed};
+ghost use Rattle.search_routes.specs.Needs.{change_need, needed_fetches};
 ghost use Rattle.search_routes.specs.Openings.{most_opened_by};
-ghost use Rattle.search_routes.specs.Redo.{IsRecordable};
+ghost use Rattle.search_routes.specs.State.{State};
 
+use crate::asking::ask;
 use crate::machine::Machine;
 use bucket_sort::BucketLog;
+use doc_values::Change;
 use http_wire::{Reply, Wire};
-use request_calls::{Call, read_call, refusal_reply};
+use request_calls::{Call, refusal_reply};
 use request_refusals::Refusal;
-use request_routes::RouteTable;
-use search_base::{Fault, NoMemory, Steps};
+use search_base::{Fault, Steps};
 use std::alloc::Global;
 
 /// Answers one request.
@@ -26,7 +29,8 @@ use std::alloc::Global;
 /// The reply and the state after it are those of `step` in specs/Machine.antt; or there was no memory, the reply says
 /// so and the machine is as it was. The request is let go, with its body, before its call is performed. `fetches`
 /// counts the stored documents that are read: at most those that the request needs, by specs/Needs.antt. The log is
-/// told each bucket that the request opens, by specs/Openings.antt, and `openings` counts them.
+/// told each bucket that the request opens, by specs/Openings.antt, and `openings` counts them. No batch runs behind the
+/// reply: where `is_followed` says so one is to, by `Machine::settle`.
 ///
 /// The `requires` asks nothing of the caller: it keeps a body from putting a log of its own in the place of the one that
 /// is handed in, so that callers know theirs to be the same.
@@ -44,28 +48,19 @@ pub fn answer<F, G>(
     ensures fetched { fetches.new ≤ fetches.old + needed_fetches machine.old (request_of wire) }
     ensures few { openings.new ≤ openings.old + most_opened_by machine.old (request_of wire) }
 {
-    match take_call(alloc, machine.table(), wire) {
+    match ask(alloc, machine.table(), wire) {
         Ok(call) => perform(alloc, machine, call, log, fetches, openings),
         Err(_) => Reply::Memory,
     }
 }
 
-// The call that a request is. The request is let go.
-fn take_call(alloc: Global, table: &RouteTable, wire: Wire) -> Result<Call, NoMemory>
-    ensures call { IfOk result (λ call. IsCall call (call_of (request_of wire))) }
-    ensures accepted { IfOk result (λ call. OnChange IsAccepted call) }
-{
-    read_call(alloc, table, &wire)
-}
-
 /// Performs a call, of which a change is one that `read_call` accepts.
 ///
 /// The reply and the state after it are those of `performed` in specs/Machine.antt; or there was no memory, the reply
-/// says so and the machine is as it was. A call that is refused gives its own reply and changes nothing. A change takes
-/// its memory before it changes anything, that of its reply too, and is counted last. A payload that records the change
-/// makes it again, by `Machine::redo`. `fetches` counts the stored documents that are read: at most those that the call
-/// needs, by specs/Needs.antt. The log is told each bucket that the call opens, by specs/Openings.antt, and `openings`
-/// counts them; a change opens none.
+/// says so and the machine is as it was. A call that is refused gives its own reply and changes nothing. A change is
+/// accepted: it takes its memory, that of its reply too, before room is made for its task, and the task waits. `fetches`
+/// counts the stored documents that are read: at most those that the call needs, by specs/Needs.antt. The log is told
+/// each bucket that the call opens, by specs/Openings.antt, and `openings` counts them; a change opens none.
 pub fn perform<F, G>(
     alloc: Global,
     machine: &mut Machine,
@@ -80,8 +75,6 @@ pub fn perform<F, G>(
     ensures answered { (q : Request) → IsCall call (call_of q) → Answered
         (noted machine.old (log_state (told log.old) openings.old)) q result
         (noted machine.new (log_state (told log.new) openings.new)) }
-    ensures recorded { IsRecordable call machine.old machine.new }
-    ensures room { machine.new.changes ≡ machine.old.changes + 1 → machine.old.changes < most_changes }
     ensures fetched { fetches.new ≤ fetches.old + held_need machine.old call }
     ensures needed { (q : Request) → IsCall call (call_of q)
         → fetches.new ≤ fetches.old + needed_fetches machine.old q }
@@ -91,19 +84,41 @@ pub fn perform<F, G>(
 {
     match call {
         Call::Refused(reply) => reply,
-        Call::Write(change) => {
-            let done = machine.change(alloc, change, fetches);
-            reply_to(alloc, done)
-        }
-        Call::Read(call) => {
-            let done = machine.read(alloc, call, log, fetches, openings);
-            reply_to(alloc, done)
-        }
+        Call::Write(change) => accept(alloc, machine, &change, fetches),
+        Call::Read(call) => machine.read(alloc, call, log, fetches, openings),
     }
 }
 
-// The reply to what was done, or to why it was not.
-fn reply_to(alloc: Global, done: Result<Reply, Fault<Refusal>>) -> Reply
+// Accepts a change: its task waits.
+fn accept<F>(alloc: Global, machine: &mut Machine, change: &Change, fetches: &mut Steps<F>) -> Reply
+    requires accepted { IsAccepted (change_view change.now) }
+    ensures made { Leaves machine.old (performed machine.old (write (change_view change.now))) result machine.new }
+    ensures fetched { fetches.new ≤ fetches.old + change_need machine.old }
+{
+    let prepared = match machine.prepare_task(alloc, change) {
+        Ok(prepared) => prepared,
+        Err(reply) => return reply,
+    };
+    match machine.make_room(alloc, fetches) {
+        Ok(()) => machine.enqueue(prepared),
+        Err(_) => Reply::Memory,
+    }
+}
+
+/// Whether the oldest batch is to run behind this reply to a request: it does so behind each but one of status 202, and
+/// the one for want of memory. Takes no memory.
+pub fn is_followed(reply: &Reply) -> bool
+    ensures { (s : State) (q : Request) (starved : Bool) → IsSentAs reply.now (answer_of s q starved)
+        → result ≡ is_followed_by s q starved }
+{
+    match reply {
+        Reply::Made { status, .. } => *status != 202 && *status != 503,
+        Reply::Memory => false,
+    }
+}
+
+/// The reply to what was done, or to why it was not.
+pub(crate) fn reply_to(alloc: Global, done: Result<Reply, Fault<Refusal>>) -> Reply
     ensures { Answers done result }
 {
     match done {

@@ -10,10 +10,11 @@ ghost use Rattle.search_routes.specs.Machine.{search_refusal as refusal_of_searc
 ghost use Rattle.search_routes.specs.Needs.{search_need};
 ghost use Rattle.search_routes.specs.Openings.{search_opened, search_most};
 
-use crate::indexes::{Indexes, index_named};
+use crate::indexes::index_named;
 use bucket_sort::BucketLog;
 use http_wire::Reply;
 use index_settings::Settings;
+use named_indexes::Indexes;
 use request_refusals::Refusal;
 use request_replies::{ResultText, hits_reply, result_text};
 use search_base::{Fault, NoMemory, Steps, Word};
@@ -39,11 +40,11 @@ pub(crate) fn search_index<'a, F, G>(
     fetches: &mut Steps<F>,
     openings: &mut Steps<G>,
 ) -> Result<Shown<'a>, Fault<Refusal>>
-    ensures answer { Gives (shown_data call.now) result (searched indexes.now.entries uid.now call.now) }
-    ensures fetched { fetches.new ≤ fetches.old + search_need indexes.now.entries uid.now call.now }
-    ensures opens { Opens (is_starved result) (search_opened indexes.now.entries uid.now call.now)
+    ensures answer { Gives (shown_data call.now) result (searched indexes.now uid.now call.now) }
+    ensures fetched { fetches.new ≤ fetches.old + search_need indexes.now uid.now call.now }
+    ensures opens { Opens (is_starved result) (search_opened indexes.now uid.now call.now)
         (log_state (told log.old) openings.old) (log_state (told log.new) openings.new) }
-    ensures few { openings.new ≤ openings.old + search_most indexes.now.entries uid.now call.now }
+    ensures few { openings.new ≤ openings.old + search_most indexes.now uid.now call.now }
 {
     let index = index_named(indexes, uid)?;
     let found = match index.search(alloc, call, log, fetches, openings) {

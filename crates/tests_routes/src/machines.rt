@@ -2,30 +2,65 @@ use crate::checks::{check, check_text, word};
 use bucket_sort::{BucketLog, SilentLog};
 use http_wire::{Reply, Wire};
 use search_base::Steps;
-use search_routes::{Machine, answer};
+use search_routes::{Machine, answer, is_followed};
 use std::alloc::Global;
 use std::process::Abort;
 use std::str;
 
-const CHANGES_SPENT: &str =
-    r#"POST~/indexes/m/documents~{"id":1}~202 {"indexUid":"m","status":"succeeded","taskUid":999999999,
+// Requests to a machine that may accept one more task.
+const LAST_TASK: &str =
+    r#"POST~/indexes/m/documents~{"id":1}~202 {"indexUid":"m","status":"enqueued","taskUid":999999999,
 "type":"documentAdditionOrUpdate"}
 
-POST~/indexes/m/documents~[]~400 {"code":"changes_spent","message":"No more changes.","type":"invalid_request"}
+GET~/tasks/999999999~~200 {"error":null,"indexUid":"m","status":"enqueued","type":"documentAdditionOrUpdate",
+"uid":999999999}
 
-PATCH~/indexes/m/settings~{}~400 {"code":"changes_spent","message":"No more changes.","type":"invalid_request"}
+GET~/tasks/999999999~~200 {"error":null,"indexUid":"m","status":"succeeded","type":"documentAdditionOrUpdate",
+"uid":999999999}
+
+GET~/tasks/1000000000~~404 {"code":"task_not_found","message":"No task 1000000000.","type":"invalid_request"}
+
+POST~/indexes/m/documents~[]~400 {"code":"changes_spent","message":"No more changes.","type":"invalid_request"}
 
 PATCH~/indexes/z/settings~{}~400 {"code":"changes_spent","message":"No more changes.","type":"invalid_request"}
 
 DELETE~/indexes/m~~400 {"code":"changes_spent","message":"No more changes.","type":"invalid_request"}
 
-POST~/indexes/m/documents~{}~400 {"code":"missing_document_id","message":"Document 1 has no `id`.",
+POST~/indexes/m/documents~{}~400 {"code":"changes_spent","message":"No more changes.","type":"invalid_request"}
+
+POST~/indexes/m/documents~[~400 {"code":"malformed_payload","message":"The body is not JSON.",
 "type":"invalid_request"}"#;
 
-// Images of no indexes, of a new machine and of one that may take one more change.
+// Three tasks, of which the first two have run: one was refused.
+const ONE_WAITS: &str =
+    r#"POST~/indexes~{"uid":"a"}~202 {"indexUid":"a","status":"enqueued","taskUid":0,"type":"indexCreation"}
+
+DELETE~/indexes/b~~202 {"indexUid":"b","status":"enqueued","taskUid":1,"type":"indexDeletion"}
+
+POST~/indexes~{"uid":"b"}~202 {"indexUid":"b","status":"enqueued","taskUid":2,"type":"indexCreation"}
+
+GET~/health~~200 {"status":"available"}
+
+GET~/indexes~~200 {"limit":20,"offset":0,"results":[{"primaryKey":null,"uid":"a"}],"total":1}"#;
+
+// What is told of them then, and by a machine of the image.
+const STILL_THERE: &str =
+    r#"GET~/tasks/1~~200 {"error":{"code":"index_not_found","message":"Task 1 was refused.",
+"type":"invalid_request"},"indexUid":"b","status":"failed","type":"indexDeletion","uid":1}
+
+GET~/indexes/b~~200 {"primaryKey":null,"uid":"b"}"#;
+
+const OPENED_AGAIN: &str =
+    r#"GET~/tasks/1~~404 {"code":"task_not_found","message":"No task 1.","type":"invalid_request"}
+
+GET~/indexes~~200 {"limit":20,"offset":0,"results":[{"primaryKey":null,"uid":"a"}],"total":1}
+
+DELETE~/indexes/a~~202 {"indexUid":"a","status":"enqueued","taskUid":2,"type":"indexDeletion"}"#;
+
+// Images of no indexes, of a new machine and of one that may accept one more task.
 const NEW_IMAGE: [u8; 13] = [1, 0, 0, 0, 0, 0, 0, 0, 0, 0, 0, 0, 0];
 
-const LAST_CHANGE_IMAGE: [u8; 13] = [1, 0xff, 0xc9, 0x9a, 0x3b, 0, 0, 0, 0, 0, 0, 0, 0];
+const LAST_TASK_IMAGE: [u8; 13] = [1, 0xff, 0xc9, 0x9a, 0x3b, 0, 0, 0, 0, 0, 0, 0, 0];
 
 pub(crate) fn new_machine(rt: &impl Abort, alloc: Global) -> Machine {
     Machine::new(alloc).expect(rt, "memory")
@@ -56,7 +91,7 @@ fn reply_text(rt: &impl Abort, alloc: Global, reply: &Reply) -> String {
     text.expect(rt, "memory")
 }
 
-// The status and the body of the reply to a request.
+// The status and the body of the reply to a request, behind which the oldest batch runs where one is to.
 fn reply_to(
     rt: &impl Abort,
     alloc: Global,
@@ -71,6 +106,9 @@ fn reply_to(
     let mut fetches: Steps<()> = Steps::new();
     let mut openings: Steps<()> = Steps::new();
     let reply = answer(alloc, machine, wire, &mut log, &mut fetches, &mut openings);
+    if is_followed(&reply) {
+        machine.settle(alloc, &mut fetches).expect(rt, "memory");
+    }
     reply_text(rt, alloc, &reply)
 }
 
@@ -101,66 +139,24 @@ fn the_image_of_a_new_machine(rt: HostRuntime) {
     let image = new.image(rt.alloc()).expect(&rt, "memory");
     check(&rt, image.as_slice() == NEW_IMAGE.as_slice(), "image");
     let machine = opened(&rt, rt.alloc(), &image);
-    check(&rt, machine.changes() == 0, "no change");
+    check(&rt, machine.accepted() == 0, "no task");
 }
 
 #[test]
-fn the_last_change_that_is_accepted(rt: HostRuntime) {
-    let mut machine = opened(&rt, rt.alloc(), &LAST_CHANGE_IMAGE);
-    check_table(&rt, rt.alloc(), &mut machine, CHANGES_SPENT);
-    check(&rt, machine.changes() == 1_000_000_000, "changes");
+fn the_last_task_that_is_accepted(rt: HostRuntime) {
+    let mut machine = opened(&rt, rt.alloc(), &LAST_TASK_IMAGE);
+    check_table(&rt, rt.alloc(), &mut machine, LAST_TASK);
+    check(&rt, machine.accepted() == 1_000_000_000, "tasks");
 }
-
-fn check_reply(
-    rt: &impl Abort,
-    alloc: Global,
-    machine: &mut Machine,
-    method: &str,
-    target: &str,
-    body: &str,
-    wanted: &str,
-) {
-    let found = reply_to(rt, alloc, machine, method, target, body);
-    check(rt, found.starts_with(wanted), target);
-}
-
-fn make_indexes(rt: &impl Abort, alloc: Global, machine: &mut Machine, count: u64) {
-    for n in 0..count {
-        let body = format!(in alloc; "{{\"uid\":\"i{n}\"}}").expect(rt, "memory");
-        check_reply(rt, alloc, machine, "POST", "/indexes", &body, "202 ");
-    }
-}
-
-// Requests to a machine of a thousand indexes, and how the replies begin.
-const TO_A_FULL_MACHINE: [(&str, &str, &str, &str); 5] = [
-    (
-        "POST",
-        "/indexes",
-        r#"{"uid":"z"}"#,
-        r#"400 {"code":"indexes_spent""#,
-    ),
-    (
-        "PATCH",
-        "/indexes/z/settings",
-        "{}",
-        r#"400 {"code":"indexes_spent""#,
-    ),
-    (
-        "POST",
-        "/indexes/z/documents",
-        "[{}]",
-        r#"400 {"code":"index_primary_key_no_candidate_found""#,
-    ),
-    ("DELETE", "/indexes/i7", "", "202 "),
-    ("POST", "/indexes", r#"{"uid":"z"}"#, "202 "),
-];
 
 #[test]
-fn a_thousand_indexes(rt: HostRuntime) {
+fn the_image_while_a_task_waits(rt: HostRuntime) {
     let alloc = rt.alloc();
     let mut machine = new_machine(&rt, alloc);
-    make_indexes(&rt, alloc, &mut machine, 1_000);
-    for (method, target, body, wanted) in &TO_A_FULL_MACHINE {
-        check_reply(&rt, alloc, &mut machine, method, target, body, wanted);
-    }
+    check_table(&rt, alloc, &mut machine, ONE_WAITS);
+    check(&rt, machine.queued().len() == 1, "one waits");
+    let image = machine.image(alloc).expect(&rt, "memory");
+    let mut again = opened(&rt, alloc, &image);
+    check_table(&rt, alloc, &mut machine, STILL_THERE);
+    check_table(&rt, alloc, &mut again, OPENED_AGAIN);
 }

@@ -4,15 +4,21 @@ use std::alloc::Global;
 use std::process::Abort;
 
 const STORED: &str = r#"PATCH~/indexes/m/settings~{"filterableAttributes":["genres","year"],
-"sortableAttributes":["year"]}~202 {"indexUid":"m","status":"succeeded","taskUid":0,"type":"settingsUpdate"}
+"sortableAttributes":["year"]}~202 {"indexUid":"m","status":"enqueued","taskUid":0,"type":"settingsUpdate"}
 
 POST~/indexes/m/documents~[{"id":1,"title":"Dark City","genres":["Drama","Mystery"],"year":1998},{"id":2,
 "title":"Dark Knight Rises","genres":["Action","drama"],"year":2012},{"id":3,"title":"Drive",
-"genres":["Crime"],"year":2011}]~202 {"indexUid":"m","status":"succeeded","taskUid":1,
+"genres":["Crime"],"year":2011}]~202 {"indexUid":"m","status":"enqueued","taskUid":1,
 "type":"documentAdditionOrUpdate"}
 
-POST~/indexes/n/documents~[{"id":"a","name":"Dark"}]~202 {"indexUid":"n","status":"succeeded","taskUid":2,
-"type":"documentAdditionOrUpdate"}"#;
+POST~/indexes/n/documents~[{"id":"a","name":"Dark"}]~202 {"indexUid":"n","status":"enqueued","taskUid":2,
+"type":"documentAdditionOrUpdate"}
+
+GET~/health~~200 {"status":"available"}
+
+GET~/health~~200 {"status":"available"}
+
+GET~/health~~200 {"status":"available"}"#;
 
 const SEVERAL_SEARCHES: &str = r#"POST~/multi-search~{"queries":[]}~200 {"results":[]}
 

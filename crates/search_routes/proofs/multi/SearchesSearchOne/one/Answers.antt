@@ -8,7 +8,7 @@ returns-clause-leaves g c = (
   refl,
   refl,
   refl,
-  searched-one c.args.self.now.indexes.now.entries c.args.call.now c.search_one-text.result c.outcome_of.result _ _ c.outcome_of.ensures
+  searched-one c.args.self.now.indexes.now c.args.call.now c.search_one-text.result c.outcome_of.result _ _ c.outcome_of.ensures
       c.search_one-text.ensures.answer c.search_one-text.ensures.fetched c.search_one-text.ensures.opens c.search_one-text.ensures.few,
 )
 
