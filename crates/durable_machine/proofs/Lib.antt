@@ -1,6 +1,9 @@
 pub mod Sides
+pub mod Settled
 pub mod Runs
 pub mod Pairs
 pub mod Crash
 pub mod Reopening
+pub mod Payloads
+pub mod Answering
 pub mod Syncs

@@ -1,16 +1,23 @@
 -- The state of two disks depends on their stored pair alone.
-use Rattle.std.proofs.Common.{◌≡◌, ℕ, List, [], ◌∷◌, ◌++◌, refl, sym, ◌∙◌, ap, Option, Some, None, Result, Ok, Err}
+use Rattle.std.proofs.Common.{◌≡◌, ℕ, ◌+◌, List, [], ◌∷◌, ◌++◌, length, refl, sym, ◌∙◌, ap, arith, Option, Some, None, Result, Ok, Err}
 use Rattle.change_payloads.specs.Change.{Spot as PayloadSpot}
 use Rattle.index_image.specs.Image.{state_at}
 use Rattle.index_image.specs.Rows.{ImageData}
 use Rattle.change_journal.specs.Format.{Walk, shut, broken, entry, payloads, Spot, Stored, stored, Pair, pair_in, stored_pair}
 use Rattle.change_journal.specs.Fits.{grown, image_pair}
-use Rattle.search_routes.specs.State.{State}
-use Rattle.search_routes.specs.Machine.{empty_state}
+use Rattle.doc_values.specs.Changes.{ChangeData}
+use Rattle.task_queue.specs.declared.task.Task.{Task}
+use Rattle.queued_changes.specs.State.{accepted}
+use Rattle.queued_changes.specs.Machine.{run, run_each}
+use Rattle.named_indexes.specs.Changes.{changed}
+use Rattle.search_routes.specs.State.{State, empty_state, finished_part}
 use Rattle.search_routes.specs.Images.{state_of, Spells}
-use Rattle.search_routes.specs.Redo.{redone}
+use Rattle.search_routes.specs.Redo.{redone, task_again}
+use Rattle.durable_machine.specs.Durable.{settled_part}
 use Rattle.durable_machine.specs.Held.{if_redone, run_from, held_in, held}
+use Rattle.durable_machine.specs.Recorded.{AreTasks}
 use Rattle.durable_machine.proofs.Runs.{reads}
+use Rattle.durable_machine.proofs.Settled.{parts_run, redone_idle, redone_is}
 
 -- the value, without why there is none
 abbrev pub kept : {A E : Type 0} → Result A E → Option A
@@ -97,6 +104,56 @@ pub grown_state : (r : Result Pair Spot) (bytes : List ℕ) (s t : State) → pa
 grown_state r bytes s t was e =
     grown_push r bytes ∙ ap (λ (o : Option State). then_for o (λ u. kept (redone u bytes))) was ∙ ap (λ (q : Result State PayloadSpot). kept q) e
 
--- an image with no change behind it
-pub image_state : (image : List ℕ) (s : State) → Spells image s (state_at image) → pair_state (Ok (image_pair image [])) ≡ Some s
-image_state image s spelled = ap (λ (r : Result ImageData PayloadSpot). of_image r []) spelled.is ∙ ap (λ (t : State). Some t) spelled.machine_of
+-- ---- no task waits in what two disks hold
+
+idle_next : (o : Option State) (more : List (List ℕ)) (t : State) → ((u : State) → o ≡ Some u → u.queue ≡ []) → ((u : State) → u.queue ≡ [] → after u more ≡ Some t → t.queue ≡ [])
+    → then_for o (λ u. after u more) ≡ Some t → t.queue ≡ []
+idle_next (Some u) more t idle goes e = goes u (idle u refl) e
+idle_next None more t idle goes e = absurd (cc (e))
+
+kept_idle : (s : State) (bytes : List ℕ) (u : State) → kept (redone s bytes) ≡ Some u → u.queue ≡ []
+kept_idle s bytes u e = redone_idle s bytes u (kept_ok (redone s bytes) u e)
+
+after_idle : (s : State) (changes : List (List ℕ)) (t : State) → s.queue ≡ [] → after s changes ≡ Some t → t.queue ≡ []
+after_idle s [] t idle e = let same : s ≡ t = cc (e) in ap (λ (u : State). u.queue) (sym same) ∙ idle
+after_idle s (bytes ∷ more) t idle e = idle_next (kept (redone s bytes)) more t (kept_idle s bytes) (λ u idle e. after_idle u more t idle e) e
+
+image_idle : (r : Result ImageData PayloadSpot) (changes : List (List ℕ)) (t : State) → of_image r changes ≡ Some t → t.queue ≡ []
+image_idle (Ok s) changes t e = after_idle (state_of s) changes t refl e
+image_idle (Err spot) changes t e = absurd (cc (e))
+
+of_pair_idle : (image : Option (List ℕ)) (changes : List (List ℕ)) (t : State) → of_pair image changes ≡ Some t → t.queue ≡ []
+of_pair_idle None changes t e = after_idle empty_state changes t refl e
+of_pair_idle (Some image) changes t e = image_idle (state_at image) changes t e
+
+pair_idle : (r : Result Pair Spot) (t : State) → pair_state r ≡ Some t → t.queue ≡ []
+pair_idle (Ok p) t e = of_pair_idle p.image p.changes t e
+pair_idle (Err spot) t e = absurd (cc (e))
+
+pub held_idle : (xs ys : List ℕ) (s : State) → held xs ys ≡ Ok s → s.queue ≡ []
+held_idle xs ys s e = pair_idle (stored_pair xs ys) s (held_to xs ys s e)
+
+-- ---- an image with the tasks that wait behind it
+
+after_tasks : (n : ℕ) (payloads : List (List ℕ)) (ts : List (Task ChangeData)) (s : State) → s.queue ≡ [] → n ≡ accepted s → AreTasks n payloads ts → after s payloads ≡ Some (run_each changed ts s)
+after_tasks n [] [] s idle count are = refl
+after_tasks n [] (t ∷ ts) s idle count are = absurd are
+after_tasks n (bytes ∷ more) [] s idle count are = absurd are
+after_tasks n (bytes ∷ more) (t ∷ ts) s idle count (again, are) =
+    let made : redone s bytes ≡ Ok (run changed t [] s) = redone_is s bytes t (ap (λ (k : ℕ). task_again k bytes) (sym count) ∙ again) in
+    ap (λ (r : Result State PayloadSpot). then_for (kept r) (λ u. after u more)) made
+    ∙ after_tasks (n + 1) more ts (run changed t [] s) refl (omega (arith, count, ap length idle)) are
+
+-- a stored pair has a state with this finished part
+pub record PairHas (r : Result Pair Spot) (part : State) : Type 0 where
+  pub state : State
+  pub is : pair_state r ≡ Some state
+  pub part_is : finished_part state ≡ part
+
+pub image_state : (image : List ℕ) (payloads : List (List ℕ)) (s : State) → Spells image s (state_at image) → AreTasks s.finished payloads s.queue → PairHas (Ok (image_pair image payloads)) (settled_part s)
+image_state image payloads s spelled are = record {
+  state = run_each changed s.queue (finished_part s);
+  is = ap (λ (r : Result ImageData PayloadSpot). of_image r payloads) spelled.is ∙ ap (λ (t : State). after t payloads) spelled.machine_of
+      ∙ after_tasks s.finished payloads s.queue (finished_part s) refl (omega arith) are;
+  part_is = sym (parts_run s.queue s (finished_part s) refl);
+}

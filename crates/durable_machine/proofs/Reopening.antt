@@ -1,22 +1,33 @@
 -- The machine of what was opened.
-use Rattle.std.proofs.Common.{◌≡◌, ℕ, ◌+◌, List, [], ◌∷◌, refl, sym, ◌∙◌, ap, subst, Option, Some, None, Result, Ok, Err}
+use Rattle.std.proofs.Common.{◌≡◌, ℕ, ◌+◌, ◌≤◌, List, [], ◌∷◌, length-append, refl, sym, ◌∙◌, ap, subst, arith, Option, Some, None, Result, Ok, Err}
 use Rattle.std.specs.Option.{option_map}
 use Rattle.index_image.specs.declared.rows.ImageRows.{ImageRows}
 use Rattle.index_image.specs.Rows.{ImageData, image_view}
-use Rattle.change_journal.specs.Format.{Walk, shut, end_of, Spot, Stored, stored}
+use Rattle.change_journal.specs.Format.{Walk, shut, entry, end_of, Spot, Stored, stored}
 use Rattle.change_journal.specs.Fits.{BothTold}
 use Rattle.change_journal.specs.Opens.{behind, AnswersAll, Stands}
 use Rattle.outside_io.specs.Disks.{Contents, fresh}
 use Rattle.change_journal.specs.declared.opening.Opened.{Opened}
 use Rattle.change_journal.specs.declared.opening.StoredChange.{StoredChange}
 use Rattle.change_journal.specs.declared.opening.JournalFault.{JournalFault}
-use Rattle.change_journal.specs.declared.opening.JournalFault.TheVariants.{Damaged}
-use Rattle.search_routes.specs.State.{State}
-use Rattle.search_routes.specs.Machine.{empty_state}
+use Rattle.change_journal.specs.declared.opening.JournalFault.TheVariants.{DiskFault, Damaged, NoMemory}
+use Rattle.change_payloads.specs.Change.{Spot as PayloadSpot}
+use Rattle.doc_values.specs.Changes.{ChangeData}
+use Rattle.task_queue.specs.declared.task.Task.{Task}
+use Rattle.queued_changes.specs.State.{accepted}
+use Rattle.queued_changes.specs.Machine.{behind as waits_behind, make_room, run_out}
+use Rattle.queued_changes.specs.Needs.{fill_need}
+use Rattle.queued_changes.proofs.Runs.{room_counts}
+use Rattle.named_indexes.specs.Changes.{changed}
+use Rattle.named_indexes.specs.Needs.{need}
+use Rattle.search_routes.specs.State.{State, empty_state}
 use Rattle.search_routes.specs.Images.{state_of, image_need}
-use Rattle.durable_machine.specs.Held.{run_from, held_in, held, run_need, need_in, opening_need}
-use Rattle.durable_machine.specs.Reopened.{AllBelow}
+use Rattle.search_routes.specs.Needs.{room_need}
+use Rattle.search_routes.specs.Redo.{task_again}
+use Rattle.durable_machine.specs.Held.{if_redone, run_from, held_in, held, need_in, opening_need, tasks_from, up_to_damage}
+use Rattle.durable_machine.specs.Reopened.{AllBelow, IsDamage, task_need}
 use Rattle.durable_machine.proofs.Runs.{Reads, reads}
+use Rattle.durable_machine.proofs.Settled.{room_redone}
 
 end_behind : (changes : List StoredChange) (gate : ℕ) → end_of (behind changes (shut gate)) ≡ Ok gate
 end_behind [] gate = refl
@@ -33,16 +44,16 @@ unfolding held
 none_held o xs ys none stands = nothing_held o (stored xs ys) none stands
 
 -- where one was
+abbrev pub need_of : ImageData → Walk → ℕ
+need_of state records = image_need state + fill_need changed need (tasks_from state.changes records) (state_of state)
+
 pub record Starts (o : Opened) (rows : ImageRows) (changes : List StoredChange) (found : Result State Spot) (needed : ℕ) : Type 0 where
   pub run : found ≡ run_from o.active (state_of (image_view rows)) (behind changes (shut o.journal.gate))
-  pub need : needed ≡ image_need (image_view rows) + run_need (state_of (image_view rows)) (behind changes (shut o.journal.gate))
+  pub need : needed ≡ need_of (image_view rows) (behind changes (shut o.journal.gate))
   pub below : AllBelow o.journal.gate (behind changes (shut o.journal.gate))
 
 abbrev run_of : ℕ → ImageData → Walk → Result State Spot
 run_of disk state records = run_from disk (state_of state) records
-
-abbrev need_of : ImageData → Walk → ℕ
-need_of state records = image_need state + run_need (state_of state) records
 
 stands_starts : (o : Opened) (rows : ImageRows) (r : Result (Option Stored) Spot) → o.image ≡ Some rows → ((s : Stored) → r ≡ Ok (Some s) → Reads s) → Stands o r → Starts o rows o.changes.items (held_in r) (need_in r)
 stands_starts o rows (Err spot) some read stands = absurd stands
@@ -80,3 +91,35 @@ told_damage a b fault disk place found xs ys told same is_a is_b =
     let P : List ℕ → List ℕ → Type 0 = λ p q. AnswersAll (Err fault) (stored p q) in
     let both : AnswersAll (Err fault) (stored xs ys) = subst (λ p. BothTold p (Some (fresh ys)) P) is_a (subst (λ q. BothTold a q P) is_b told) in
     spot_held xs ys (record { disk = disk; place = place; found = found }) (subst (λ (f : JournalFault). AnswersAll (Err f) (stored xs ys)) same both)
+
+-- ---- a task comes to wait again
+
+-- what is left to run gives the same
+pub run_waits : (disk at : ℕ) (bytes : List ℕ) (records : Walk) (s new : State) (t : Task ChangeData) → task_again (accepted s) bytes ≡ Ok t → new ≡ waits_behind t (make_room changed s)
+    → run_from disk (run_out changed s) (entry at bytes records) ≡ run_from disk (run_out changed new) records
+run_waits disk at bytes records s new t again is =
+    ap (λ r. if_redone disk at r (λ u. run_from disk u records)) (room_redone s t bytes again) ∙ ap (λ u. run_from disk (run_out changed u) records) (sym is)
+
+pub count_waits : (s new : State) (t : Task ChangeData) → new ≡ waits_behind t (make_room changed s) → accepted new ≡ accepted s + 1
+count_waits s new t is = omega (arith, ap accepted is, room_counts changed s, length-append (make_room changed s).queue (t ∷ []))
+
+-- and needs the rest
+pub need_waits : (at : ℕ) (bytes : List ℕ) (records : Walk) (s new : State) (t : Task ChangeData) → task_again (accepted s) bytes ≡ Ok t → new ≡ waits_behind t (make_room changed s)
+    → fill_need changed need (tasks_from (accepted s) (entry at bytes records)) s ≡ task_need (task_again (accepted s) bytes) s + fill_need changed need (tasks_from (accepted new) records) new
+need_waits at bytes records s new t again is =
+    let rest : fill_need changed need (tasks_from (accepted s + 1) records) (waits_behind t (make_room changed s)) ≡ fill_need changed need (tasks_from (accepted new) records) new =
+    ap (λ (n : ℕ). fill_need changed need (tasks_from n records) (waits_behind t (make_room changed s))) (sym (count_waits s new t is))
+    ∙ ap (λ (u : State). fill_need changed need (tasks_from (accepted new) records) u) (sym is) in
+    rw again (ap (λ (n : ℕ). room_need s + n) rest)
+
+-- a task that does not come to wait needs no more than all
+pub need_first : (r : Result (Task ChangeData) PayloadSpot) (ts : List (Task ChangeData)) (s : State) → task_need r s ≤ fill_need changed need (up_to_damage r ts) s
+need_first (Ok t) ts s = omega arith
+need_first (Err spot) ts s = omega arith
+
+-- a fault at the first of some tasks is one of all
+pub first_damage : (disk at : ℕ) (r : Result State PayloadSpot) (rest : State → Result State Spot) (fault : JournalFault) → IsDamage fault (if_redone disk at r Ok) → IsDamage fault (if_redone disk at r rest)
+first_damage disk at r rest DiskFault is = is
+first_damage disk at r rest NoMemory is = tt
+first_damage disk at (Err spot) rest (Damaged d place found) is = is
+first_damage disk at (Ok s) rest (Damaged d place found) is = absurd (cc (is))

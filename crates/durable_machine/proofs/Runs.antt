@@ -1,16 +1,21 @@
--- What stands in what two disks store, and what making a change again gives.
+-- What stands in what two disks store, and where a payload is damaged.
 use Rattle.std.proofs.Common.{◌≡◌, ℕ, zero, suc, ◌+◌, ◌≤◌, Bool, true, false, cond, List, [], ◌∷◌, length, drop, refl, sym, ◌∙◌, ap, subst, arith, Option, Some, Result, Ok, Err}
-use Rattle.std.specs.Prelude.{nat_eq, nat_lt}
+use Rattle.std.specs.Prelude.{nat_eq, nat_lt, if◌then◌else◌}
 use Rattle.doc_values.specs.Changes.{ChangeData}
-use Rattle.change_payloads.specs.Change.{Spot as PayloadSpot, spot, whole_change, or_spot, change_at}
+use Rattle.change_payloads.specs.Change.{Spot as PayloadSpot, spot, whole_change, or_spot}
 use Rattle.index_image.specs.Image.{state_at}
 use Rattle.index_image.specs.Rows.{ImageData}
 use Rattle.change_journal.specs.Format.{Look, closed, bad, opened, look, Field, payload, bad_field, field_in, Walk, walk, walk_field, end_of, Spot, found_at, Stored, stored, by_looks, active_of, by_state, by_walk, by_end}
 use Rattle.change_journal.proofs.Walks.{goes, walk_step}
 use Rattle.search_base.specs.Trying.{◌>>=◌}
-use Rattle.search_routes.specs.State.{State, Indexes}
-use Rattle.search_routes.specs.Machine.{Step, changed, indexes_after}
-use Rattle.search_routes.specs.Redo.{redone, made_again, state_or, first_byte, is_good}
+use Rattle.task_queue.specs.declared.task.Task.{Task}
+use Rattle.queued_changes.specs.State.{accepted}
+use Rattle.queued_changes.specs.Machine.{run}
+use Rattle.named_indexes.specs.Changes.{changed}
+use Rattle.named_indexes.specs.Payloads.{first_byte, if_good, is_good, recorded_in}
+use Rattle.search_routes.specs.State.{State, most_changes}
+use Rattle.search_routes.specs.Machine.{numbered}
+use Rattle.search_routes.specs.Redo.{redone, task_again}
 use Rattle.durable_machine.specs.Reopened.{AllBelow}
 
 -- ---- walks
@@ -82,43 +87,40 @@ pub reads : (a b : List ℕ) (s : Stored) → stored a b ≡ Ok (Some s) → Rea
 unfolding stored
 reads a b s e = looks_read a b (look a) (look b) s e
 
--- ---- changes made again
-
--- a step counts one change
-step_counts : (r : Result Indexes _) (made : Indexes → Step) (n : ℕ) (spot : PayloadSpot) (t : State) → ((es : Indexes) → (made es).state.changes ≡ n)
-    → state_or spot (r >>= λ es. Ok (made es)) ≡ Ok t → t.changes ≡ n
-step_counts (Ok es) made n spot t counts e =
-    let same : (made es).state ≡ t = cc (e) in
-    sym (ap (λ (u : State). u.changes) same) ∙ counts es
-step_counts (Err why) made n spot t counts e = absurd (cc (e))
-
-good_counts : (good : Bool) (r : Result State PayloadSpot) (spot : PayloadSpot) (t : State) (n : ℕ) → (r ≡ Ok t → t.changes ≡ n) → cond good r (Err spot) ≡ Ok t → t.changes ≡ n
-good_counts true r spot t n counts e = counts e
-good_counts false r spot t n counts e = absurd (cc (e))
-
-made_counts : (s t : State) (bytes : List ℕ) (r : Result ChangeData PayloadSpot) → made_again s bytes r ≡ Ok t → t.changes ≡ s.changes + 1
-made_counts s t bytes (Ok c) e =
-    good_counts (is_good c) (state_or (first_byte bytes) (changed s c.uid c.kind)) (first_byte bytes) t (s.changes + 1)
-    (λ e'. step_counts (indexes_after s.changes s.indexes c.uid c.kind) _ (s.changes + 1) (first_byte bytes) t (λ es. refl) e') e
-made_counts s t bytes (Err spot) e = absurd (cc (e))
-
-pub redone_counts : (s t : State) (bytes : List ℕ) → redone s bytes ≡ Ok t → t.changes ≡ s.changes + 1
-unfolding redone
-redone_counts s t bytes e = made_counts s t bytes (change_at bytes) e
+-- ---- payloads that are damaged
 
 abbrev IsIn : List ℕ → PayloadSpot → Type 0
 IsIn bytes at = at.place ≤ length bytes
 
-good_place : (bytes : List ℕ) (good : Bool) (r : Result Step _) (at : PayloadSpot) → cond good (state_or (first_byte bytes) r) (Err (first_byte bytes)) ≡ Err at → IsIn bytes at
-good_place bytes true (Ok t) at e = absurd (cc (e))
-good_place bytes true (Err why) at e = let same : first_byte bytes ≡ at = cc (e) in subst (IsIn bytes) same (omega arith)
-good_place bytes false r at e = let same : first_byte bytes ≡ at = cc (e) in subst (IsIn bytes) same (omega arith)
+first_in : (bytes : List ℕ) (at : PayloadSpot) → first_byte bytes ≡ at → IsIn bytes at
+first_in bytes at same = subst (IsIn bytes) same (omega arith)
 
-made_place : (s : State) (bytes : List ℕ) (r : Result ChangeData ℕ) (at : PayloadSpot) → made_again s bytes (or_spot bytes r) ≡ Err at → IsIn bytes at
-made_place s bytes (Ok c) at e = good_place bytes (is_good c) (changed s c.uid c.kind) at e
-made_place s bytes (Err left) at e = let same : spot bytes left ≡ at = cc (e) in subst (IsIn bytes) same (omega arith)
+good_place : (bytes : List ℕ) (good : Bool) (c : ChangeData) (at : PayloadSpot) → if good then Ok c else Err (first_byte bytes) ≡ Err at → IsIn bytes at
+good_place bytes true c at e = absurd (cc (e))
+good_place bytes false c at e = first_in bytes at (cc (e))
+
+read_place : (bytes : List ℕ) (r : Result ChangeData ℕ) (at : PayloadSpot) → if_good (first_byte bytes) (or_spot bytes r) ≡ Err at → IsIn bytes at
+read_place bytes (Ok c) at e = good_place bytes (is_good c) c at e
+read_place bytes (Err left) at e = let same : spot bytes left ≡ at = cc (e) in subst (IsIn bytes) same (omega arith)
+
+recorded_place : (bytes : List ℕ) (at : PayloadSpot) → recorded_in bytes ≡ Err at → IsIn bytes at
+unfolding recorded_in
+recorded_place bytes at e = read_place bytes (whole_change bytes) at e
+
+room_place : (bytes : List ℕ) (room : Bool) (t : Task ChangeData) (at : PayloadSpot) → if room then Ok t else Err (first_byte bytes) ≡ Err at → IsIn bytes at
+room_place bytes true t at e = absurd (cc (e))
+room_place bytes false t at e = first_in bytes at (cc (e))
+
+task_place : (number : ℕ) (bytes : List ℕ) (r : Result ChangeData PayloadSpot) (at : PayloadSpot) → ((spot : PayloadSpot) → r ≡ Err spot → IsIn bytes spot)
+    → (r >>= λ c. if nat_lt number most_changes then Ok (numbered number c) else Err (first_byte bytes)) ≡ Err at → IsIn bytes at
+task_place number bytes (Ok c) at within e = room_place bytes (nat_lt number most_changes) (numbered number c) at e
+task_place number bytes (Err spot) at within e = within at (ap Err (cc (e)))
 
 -- damage stands in the payload or at its end
-pub damage_place : (s : State) (bytes : List ℕ) (at : PayloadSpot) → redone s bytes ≡ Err at → at.place ≤ length bytes
+pub damage_place : (number : ℕ) (bytes : List ℕ) (at : PayloadSpot) → task_again number bytes ≡ Err at → at.place ≤ length bytes
+damage_place number bytes at e = task_place number bytes (recorded_in bytes) at (λ spot is. recorded_place bytes spot is) e
+
+-- and then nothing is run again
+pub damage_redone : (s : State) (bytes : List ℕ) (at : PayloadSpot) → task_again (accepted s) bytes ≡ Err at → redone s bytes ≡ Err at
 unfolding redone
-damage_place s bytes at e = made_place s bytes (whole_change bytes) at e
+damage_redone s bytes at e = ap (λ (r : Result (Task ChangeData) PayloadSpot). r >>= λ t. Ok (run changed t [] s)) e

@@ -1,20 +1,26 @@
 -- Two disks that were read and then synced.
-use Rattle.std.proofs.Common.{◌≡◌, ℕ, List, refl, sym, ◌∙◌, ap, subst, Option, Some, None, Result, Ok, Err, OnOk, OnErr}
-use Rattle.std.specs.Option.{option_map}
+use Rattle.std.proofs.Common.{◌≡◌, ◌≢◌, ℕ, ◌+◌, List, [], length, refl, sym, ◌∙◌, ap, subst, arith, Option, Some, None, Result, Ok, Err, OnOk, OnErr}
+use Rattle.std.specs.Option.{is_some, option_map}
+use Rattle.std.specs.Prelude.{MatchOption, true}
 use Rattle.outside_io.specs.Disks.{Contents, Told, fresh, settled}
 use Rattle.change_journal.specs.Format.{Spot, Stored, stored, look}
 use Rattle.change_journal.specs.Fits.{BothTold, Fits, FitsAt, Holds, IsOlder, IsSettled}
-use Rattle.change_journal.specs.Opens.{Stands}
+use Rattle.change_journal.specs.Opens.{IsReady, Stands}
 use Rattle.change_journal.specs.Shut.{is_told}
 use Rattle.change_journal.specs.declared.journal.Journal.{Journal}
 use Rattle.change_journal.specs.declared.journal.Side.TheVariants.{A, B}
 use Rattle.change_journal.specs.declared.journal.Side.{Side}
 use Rattle.change_journal.specs.declared.opening.Opened.{Opened}
 use Rattle.index_image.specs.Rows.{image_view}
+use Rattle.index_image.specs.State.{IsState}
+use Rattle.index_image.specs.declared.rows.ImageRows.{ImageRows}
 use Rattle.search_routes.specs.State.{State}
 use Rattle.durable_machine.specs.Held.{held}
-use Rattle.durable_machine.specs.Durable.{CrashHolds}
+use Rattle.durable_machine.specs.Durable.{CrashHolds, Hold, IsDurable, settled_part}
+use Rattle.durable_machine.specs.declared.machine.DurableMachine.{DurableMachine}
 use Rattle.durable_machine.proofs.Sides.{same_told}
+use Rattle.durable_machine.proofs.Settled.{idle_part}
+use Rattle.durable_machine.proofs.Pairs.{held_idle}
 use Rattle.durable_machine.proofs.Crash.{held_now}
 
 pub still_fresh : (o p : Option Contents) (xs : List ℕ) → p ≡ option_map settled o → o ≡ Some (fresh xs) → p ≡ Some (fresh xs)
@@ -72,11 +78,36 @@ sync_tells (Ok x) o p done failed = still_told o p done
 sync_tells (Err e) o p done failed = ap is_told failed
 
 -- two disks that are as they were hold what they held
-pub kept_held : (a b : Option Contents) (xs ys : List ℕ) (s : State) → a ≡ Some (fresh xs) → b ≡ Some (fresh ys) → held xs ys ≡ Ok s → CrashHolds a b (λ t. t ≡ s)
+pub kept_held : (a b : Option Contents) (xs ys : List ℕ) (s : State) → a ≡ Some (fresh xs) → b ≡ Some (fresh ys) → held xs ys ≡ Ok s → CrashHolds a b (λ t. t ≡ settled_part s)
 kept_held a b xs ys s is_a is_b holds =
     let calm_a : IsSettled a = subst (λ o. IsSettled o) (sym is_a) refl in
     let calm_b : IsSettled b = subst (λ o. IsSettled o) (sym is_b) refl in
     held_now a b s calm_a calm_b (λ c d is_c is_d.
     let same_a : xs ≡ c = same_told a xs c is_a is_c in
     let same_b : ys ≡ d = same_told b ys d is_b is_d in
-    sym (ap (λ (l : List ℕ). held l d) same_a) ∙ sym (ap (λ (l : List ℕ). held xs l) same_b) ∙ holds)
+    (s, sym (ap (λ (l : List ℕ). held l d) same_a) ∙ sym (ap (λ (l : List ℕ). held xs l) same_b) ∙ holds, sym (idle_part s (held_idle xs ys s holds))))
+
+-- a machine that two disks hold, in which no task waits
+pub opened_hold : (s : State) (a b : Option Contents) → s.queue ≡ [] → ((xs ys : List ℕ) → a ≡ Some (fresh xs) → b ≡ Some (fresh ys) → held xs ys ≡ Ok s) → Hold a b s
+opened_hold s a b idle holds = λ xs ys is_a is_b. (s, holds xs ys is_a is_b, sym (idle_part s idle))
+
+pub opened_durable : (m : DurableMachine) (j : Journal) (a b : Option Contents) → m.journal ≡ j → j.active ≢ None → Fits j a b → m.machine.finished ≡ j.count → m.machine.queue ≡ [] → IsSettled a → IsSettled b
+    → ((xs ys : List ℕ) → a ≡ Some (fresh xs) → b ≡ Some (fresh ys) → held xs ys ≡ Ok m.machine) → IsDurable m a b
+opened_durable m j a b journal active fits count idle calm_a calm_b holds = record {
+  active = rw journal active;
+  fits = rw journal fits;
+  count = omega (arith, ap (λ (i : Journal). i.count) journal, count, ap length idle);
+  settled_a = calm_a;
+  settled_b = calm_b;
+  holds = opened_hold m.machine a b idle holds;
+}
+
+-- where an image was found, a disk is active
+some_active : (image : Option ImageRows) (none active : Type 0) (state counts : ImageRows → Type 0) → is_some image ≡ true
+    → MatchOption image none (λ rows. active × state rows × counts rows) → active
+some_active None none active state counts some ready = absurd (cc (some))
+some_active (Some rows) none active state counts some ready = ready.0
+
+pub ready_active : (o : Opened) → is_some o.image ≡ true → IsReady o → o.journal.active ≢ None
+ready_active o some ready =
+    some_active o.image ((o.journal.active ≡ None) × (o.journal.count ≡ 0)) (o.journal.active ≢ None) (λ rows. IsState (image_view rows)) (λ rows. o.journal.count ≡ rows.changes + length o.changes.items) some ready

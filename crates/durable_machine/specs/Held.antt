@@ -1,12 +1,16 @@
--- The state that the bytes of two disks stand for: that of the active image, and after it the changes of the journal, one
--- after the other.
-use Rattle.std.specs.Prelude.{ℕ, ◌+◌, List, Option, Some, None, Result, Ok, Err}
+-- The state that the bytes of two disks stand for: that of the active image, and after it the tasks of the journal, run
+-- one after the other.
+use Rattle.std.specs.Prelude.{ℕ, ◌+◌, List, [], ◌∷◌, Option, Some, None, Result, Ok, Err}
 use Rattle.change_payloads.specs.Change.{Spot as PayloadSpot}
 use Rattle.change_journal.specs.Format.{Walk, shut, broken, entry, Spot, Stored, stored}
-use Rattle.search_routes.specs.State.{State}
-use Rattle.search_routes.specs.Machine.{empty_state}
+use Rattle.doc_values.specs.Changes.{ChangeData}
+use Rattle.task_queue.specs.declared.task.Task.{Task}
+use Rattle.queued_changes.specs.Needs.{fill_need}
+use Rattle.named_indexes.specs.Changes.{changed}
+use Rattle.named_indexes.specs.Needs.{need}
+use Rattle.search_routes.specs.State.{State, empty_state}
 use Rattle.search_routes.specs.Images.{state_of, image_need}
-use Rattle.search_routes.specs.Redo.{redone, redo_need}
+use Rattle.search_routes.specs.Redo.{redone, task_again}
 
 -- damage inside the payload that stands at a place of a disk
 abbrev pub damage_in : ℕ → ℕ → PayloadSpot → Spot
@@ -16,7 +20,7 @@ abbrev pub if_redone : ℕ → ℕ → Result State PayloadSpot → (State → R
 if_redone disk at (Ok s) rest = rest s
 if_redone disk at (Err spot) rest = Err (damage_in disk at spot)
 
--- the state after the changes of a journal, or the first payload that is damaged
+-- the state after the tasks of a journal, or the first payload that is damaged
 abbrev pub run_from : ℕ → State → Walk → Result State Spot
 run_from disk s (shut gate) = Ok s
 run_from disk s (broken place) = Ok s
@@ -35,20 +39,23 @@ held_in (Err spot) = Err spot
 unfoldable pub held : List ℕ → List ℕ → Result State Spot
 held a b = held_in (stored a b)
 
--- ---- how many stored documents opening needs to read: those of the image, and what each change needs
+-- ---- how many stored documents opening reads: those of the image, and what each batch of the journal's tasks needs
 
-abbrev pub need_after : Result State PayloadSpot → (State → ℕ) → ℕ
-need_after (Ok s) rest = rest s
-need_after (Err spot) rest = 0
+-- this task and those behind it, or none from a payload on that is damaged
+abbrev pub up_to_damage : Result (Task ChangeData) PayloadSpot → List (Task ChangeData) → List (Task ChangeData)
+up_to_damage (Ok t) ts = t ∷ ts
+up_to_damage (Err spot) ts = []
 
-abbrev pub run_need : State → Walk → ℕ
-run_need s (shut gate) = 0
-run_need s (broken place) = 0
-run_need s (entry at bytes records) = redo_need s bytes + need_after (redone s bytes) (λ t. run_need t records)
+-- the tasks of a journal, the first with this number, up to the first payload that is damaged
+abbrev pub tasks_from : ℕ → Walk → List (Task ChangeData)
+tasks_from number (shut gate) = []
+tasks_from number (broken place) = []
+tasks_from number (entry at bytes records) = up_to_damage (task_again number bytes) (tasks_from (number + 1) records)
 
 abbrev pub need_by : Option Stored → ℕ
 need_by None = 0
-need_by (Some s) = image_need s.state + run_need (state_of s.state) s.records
+need_by (Some s) = image_need s.state
+    + fill_need changed need (tasks_from s.state.changes s.records) (state_of s.state)
 
 abbrev pub need_in : Result (Option Stored) Spot → ℕ
 need_in (Ok s) = need_by s

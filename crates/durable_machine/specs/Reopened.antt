@@ -1,8 +1,12 @@
--- What making a machine again answers.
+-- What running the tasks of a journal again answers.
 use Rattle.std.specs.Prelude.{◌≡◌, ℕ, ◌+◌, ◌≤◌, length, Result, Ok, Err}
+use Rattle.change_payloads.specs.Change.{Spot as PayloadSpot}
 use Rattle.change_journal.specs.Format.{Walk, shut, broken, entry, Spot}
 use Rattle.change_journal.specs.declared.opening.JournalFault.{JournalFault}
 use Rattle.change_journal.specs.declared.opening.JournalFault.TheVariants.{DiskFault, Damaged, NoMemory}
+use Rattle.doc_values.specs.Changes.{ChangeData}
+use Rattle.task_queue.specs.declared.task.Task.{Task}
+use Rattle.search_routes.specs.Needs.{room_need}
 use Rattle.search_routes.specs.State.{State}
 use Rattle.durable_machine.specs.declared.machine.DurableMachine.{DurableMachine}
 
@@ -29,3 +33,8 @@ IsMade (Err fault) run = IsDamage fault run
 abbrev pub IsHeld : Result DurableMachine JournalFault → Result State Spot → Type 0
 IsHeld (Ok made) run = run ≡ Ok made.machine
 IsHeld (Err fault) run = IsDamage fault run
+
+-- how many stored documents are read before a task waits: those that making room needs, and none for a damaged payload
+abbrev pub task_need : Result (Task ChangeData) PayloadSpot → State → ℕ
+task_need (Ok t) s = room_need s
+task_need (Err spot) s = 0

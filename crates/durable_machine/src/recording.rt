@@ -1,21 +1,26 @@
-ghost use Rattle.std.specs.Prelude.{◌≡◌, ◌≢◌, ◌⊎◌, ◌+◌, ◌-◌, ◌<◌, ◌≤◌, ◌^◌, [], ◌∷◌, ℕ, List, None, Some, Ok, Err, IfOk, IfSome, OnOk, OnErr, length};
+ghost use Rattle.std.specs.Prelude.{◌≡◌, ◌≢◌, ◌⊎◌, ◌+◌, ◌-◌, ◌<◌, ◌≤◌, ◌^◌, ◌∷◌, ℕ, List, None, Some, Ok, Err, IfOk, OnOk, OnErr, length};
 ghost use Rattle.std.specs.Option.{option_map};
 ghost use Rattle.outside_io.specs.Disks.{fresh, settled};
 ghost use Rattle.outside_io.specs.Faults.{HasCause, Rose};
 ghost use Rattle.change_journal.specs.Fits.{BothTold, Fits, HasCount, IsDue, IsSettled, disk_on, next_side};
+ghost use Rattle.change_journal.specs.First.{First, journal_bytes};
 ghost use Rattle.change_journal.specs.Format.{stored};
 ghost use Rattle.change_journal.specs.Opens.{AnswersAll, IsReady, Stands};
 ghost use Rattle.change_journal.specs.Shut.{image_disk, is_told};
 ghost use Rattle.change_journal.specs.declared.opening.JournalFault.TheVariants.{DiskFault};
 ghost use Rattle.index_image.specs.Image.{state_at};
+ghost use Rattle.queued_changes.specs.Machine.{run_out};
+ghost use Rattle.named_indexes.specs.Changes.{changed};
 ghost use Rattle.search_routes.specs.State.{State};
 ghost use Rattle.search_routes.specs.Images.{Spells};
 ghost use Rattle.search_routes.specs.Redo.{redone};
-ghost use Rattle.durable_machine.specs.Durable.{CrashHolds, Hold, IsDurable};
+ghost use Rattle.durable_machine.specs.Durable.{CrashHolds, Hold, IsDurable, settled_part};
+ghost use Rattle.durable_machine.specs.Recorded.{AreTasks};
 
-use change_journal::{FirstJournal, Journal, JournalFault, Opened, Record, open, record};
+use change_journal::{FirstJournal, Journal, JournalFault, Opened, Record, open};
 use outside_io::{Disk, Failed};
 use search_base::NoMemory;
+use search_routes::Machine;
 use std::alloc::Global;
 
 /// Reads what two disks hold, and then makes it last: after `Ok` nothing is pending on them. It writes nothing.
@@ -27,7 +32,8 @@ pub(crate) fn read_and_sync<K: Disk>(
     ensures stored { BothTold (K.contents disk_a.old) (K.contents disk_b.old) (λ a b. AnswersAll result (stored a b)) }
     ensures fits { IfOk result (λ opened. Fits opened.journal (K.contents disk_a.new) (K.contents disk_b.new)) }
     ensures ready { IfOk result IsReady }
-    ensures now { IfOk result (λ opened. (xs ys : List ℕ) → K.contents disk_a.new ≡ Some (fresh xs) → K.contents disk_b.new ≡ Some (fresh ys)
+    ensures now { IfOk result
+        (λ opened. (xs ys : List ℕ) → K.contents disk_a.new ≡ Some (fresh xs) → K.contents disk_b.new ≡ Some (fresh ys)
         → Stands opened (stored xs ys)) }
     ensures settled_a { OnOk result (IsSettled (K.contents disk_a.new)) }
     ensures settled_b { OnOk result (IsSettled (K.contents disk_b.new)) }
@@ -35,7 +41,8 @@ pub(crate) fn read_and_sync<K: Disk>(
     ensures kept_b { (ys : List ℕ) → K.contents disk_b.old ≡ Some (fresh ys) → K.contents disk_b.new ≡ Some (fresh ys) }
     ensures told_a { is_told (K.contents disk_a.new) ≡ is_told (K.contents disk_a.old) }
     ensures told_b { is_told (K.contents disk_b.new) ≡ is_told (K.contents disk_b.old) }
-    ensures fault { result ≡ Err DiskFault → Rose (K.disk_faults disk_a.old) (K.disk_faults disk_a.new) ⊎ Rose (K.disk_faults disk_b.old) (K.disk_faults disk_b.new) }
+    ensures fault { result ≡ Err DiskFault → Rose (K.disk_faults disk_a.old) (K.disk_faults disk_a.new)
+        ⊎ Rose (K.disk_faults disk_b.old) (K.disk_faults disk_b.new) }
     ensures later_a { K.disk_faults disk_a.old ≤ K.disk_faults disk_a.new }
     ensures later_b { K.disk_faults disk_b.old ≤ K.disk_faults disk_b.new }
 {
@@ -57,7 +64,8 @@ fn sync_both<K: Disk>(disk_a: &mut K, disk_b: &mut K) -> Result<(), Failed>
     ensures kept_b { (ys : List ℕ) → K.contents disk_b.old ≡ Some (fresh ys) → K.contents disk_b.new ≡ Some (fresh ys) }
     ensures told_a { is_told (K.contents disk_a.new) ≡ is_told (K.contents disk_a.old) }
     ensures told_b { is_told (K.contents disk_b.new) ≡ is_told (K.contents disk_b.old) }
-    ensures cause { OnErr result (Rose (K.disk_faults disk_a.old) (K.disk_faults disk_a.new) ⊎ Rose (K.disk_faults disk_b.old) (K.disk_faults disk_b.new)) }
+    ensures cause { OnErr result (Rose (K.disk_faults disk_a.old) (K.disk_faults disk_a.new)
+        ⊎ Rose (K.disk_faults disk_b.old) (K.disk_faults disk_b.new)) }
     ensures later_a { K.disk_faults disk_a.old ≤ K.disk_faults disk_a.new }
     ensures later_b { K.disk_faults disk_b.old ≤ K.disk_faults disk_b.new }
 {
@@ -74,22 +82,20 @@ fn sync_one<K: Disk>(disk: &mut K) -> Result<(), Failed>
     disk.sync()
 }
 
-/// The record of a change, where there is one: its number and its payload. Its error is want of memory.
-pub(crate) fn entry_of(
-    alloc: Global,
-    number: u64,
-    payload: Option<Vec<u8>>,
-) -> Result<Option<Record>, NoMemory>
-    requires { IfSome payload (λ bytes. length bytes.items < 2 ^ 32) }
-    ensures { IfOk result (λ entry. entry ≡ option_map (λ bytes. record { number = number; payload = bytes.items }) payload) }
+/// The tasks that wait in a machine, as the journal behind an image. Its error is want of memory.
+pub(crate) fn first_of(alloc: Global, machine: &Machine) -> Result<FirstJournal, NoMemory>
+    ensures number { IfOk result (λ first. first.number ≡ machine.now.finished) }
+    ensures tasks { IfOk result (λ first. AreTasks machine.now.finished first.payloads machine.now.queue) }
 {
-    match payload {
-        None => Ok(None),
-        Some(payload) => Ok(Some(record(alloc, number, &payload)?)),
+    let mut first = FirstJournal::new(alloc, machine.finished());
+    for task in machine.queued() {
+        first.add(task.change.bytes())?;
     }
+    Ok(first)
 }
 
-/// Adds the record of a change that was made to the journal. `Failed`: a disk's count of faults rose.
+/// Adds the record of a task to the journal, which the disks hold then behind the others: it is the last to run.
+/// `Failed`: a disk's count of faults rose.
 pub(crate) fn append<K: Disk>(
     journal: &mut Journal,
     disk_a: &mut K,
@@ -100,15 +106,21 @@ pub(crate) fn append<K: Disk>(
     requires fits { Fits journal.old (K.contents disk_a.old) (K.contents disk_b.old) }
     requires number { entry.number ≡ journal.old.count }
     requires room { entry.number + 1 < 2 ^ 64 }
-    ensures durable { OnOk result ((s t : State) → IsDurable (record { machine = s; journal = journal.old }) (K.contents disk_a.old) (K.contents disk_b.old)
-        → redone s entry.payload ≡ Ok t → IsDurable (record { machine = t; journal = journal.new }) (K.contents disk_a.new) (K.contents disk_b.new)) }
-    ensures crash { OnErr result ((s t : State) → IsDurable (record { machine = s; journal = journal.old }) (K.contents disk_a.old) (K.contents disk_b.old)
-        → redone s entry.payload ≡ Ok t → CrashHolds (K.contents disk_a.new) (K.contents disk_b.new) (λ u. (u ≡ s) ⊎ (u ≡ t))) }
+    ensures durable { OnOk result ((s t : State)
+        → IsDurable (record { machine = s; journal = journal.old }) (K.contents disk_a.old) (K.contents disk_b.old)
+        → redone (run_out changed s) entry.payload ≡ Ok (run_out changed t)
+        → IsDurable (record { machine = t; journal = journal.new }) (K.contents disk_a.new) (K.contents disk_b.new)) }
+    ensures crash { OnErr result ((s t : State)
+        → IsDurable (record { machine = s; journal = journal.old }) (K.contents disk_a.old) (K.contents disk_b.old)
+        → redone (run_out changed s) entry.payload ≡ Ok (run_out changed t)
+        → CrashHolds (K.contents disk_a.new) (K.contents disk_b.new)
+        (λ u. (u ≡ settled_part s) ⊎ (u ≡ settled_part t))) }
     ensures grown { OnOk result (journal.new.grown ≡ journal.old.grown + length entry.payload + 13) }
     ensures generation { journal.new.generation ≡ journal.old.generation }
     ensures told_a { is_told (K.contents disk_a.new) ≡ is_told (K.contents disk_a.old) }
     ensures told_b { is_told (K.contents disk_b.new) ≡ is_told (K.contents disk_b.old) }
-    ensures cause { OnErr result (Rose (K.disk_faults disk_a.old) (K.disk_faults disk_a.new) ⊎ Rose (K.disk_faults disk_b.old) (K.disk_faults disk_b.new)) }
+    ensures cause { OnErr result (Rose (K.disk_faults disk_a.old) (K.disk_faults disk_a.new)
+        ⊎ Rose (K.disk_faults disk_b.old) (K.disk_faults disk_b.new)) }
     ensures later_a { K.disk_faults disk_a.old ≤ K.disk_faults disk_a.new }
     ensures later_b { K.disk_faults disk_b.old ≤ K.disk_faults disk_b.new }
 {
@@ -118,37 +130,45 @@ pub(crate) fn append<K: Disk>(
     }
 }
 
-/// Makes a checkpoint of an image that spells the state which the disks hold, with no change behind it; it takes no
+/// Makes a checkpoint of an image of the finished part of a machine, with its tasks that wait behind it; it takes no
 /// memory. `Failed`: a disk's count of faults rose.
 pub(crate) fn checkpoint<K: Disk>(
-    alloc: Global,
     journal: &mut Journal,
     disk_a: &mut K,
     disk_b: &mut K,
     image: &[u8],
+    first: &FirstJournal,
 ) -> Result<(), Failed>
     requires fits { Fits journal.old (K.contents disk_a.old) (K.contents disk_b.old) }
-    requires image { HasCount image.now journal.old.count }
+    requires image { HasCount image.now first.now.number }
+    requires held { journal.old.count ≡ first.now.number + length first.now.payloads }
     requires few { journal.old.generation < 2 ^ 64 - 1 }
     requires settled_a { IsSettled (K.contents disk_a.old) }
     requires settled_b { IsSettled (K.contents disk_b.old) }
     ensures durable { OnOk result ((s : State) → Spells image.now s (state_at image.now)
+        → AreTasks s.finished first.now.payloads s.queue
         → IsDurable (record { machine = s; journal = journal.new }) (K.contents disk_a.new) (K.contents disk_b.new)) }
-    ensures crash { OnErr result ((s : State) → Spells image.now s (state_at image.now) → Hold (K.contents disk_a.old) (K.contents disk_b.old) s
-        → CrashHolds (K.contents disk_a.new) (K.contents disk_b.new) (λ u. u ≡ s)) }
+    ensures crash { OnErr result ((s : State) → Spells image.now s (state_at image.now)
+        → AreTasks s.finished first.now.payloads s.queue
+        → Hold (K.contents disk_a.old) (K.contents disk_b.old) s
+        → CrashHolds (K.contents disk_a.new) (K.contents disk_b.new) (λ u. u ≡ settled_part s)) }
     ensures done { OnOk result (IsDue journal.new → ⊥) }
-    ensures made { OnOk result ((ys : List ℕ) → K.contents (disk_on (next_side journal.old.active) disk_a.old disk_b.old) ≡ Some (fresh ys)
-        → K.contents (disk_on (next_side journal.old.active) disk_a.new disk_b.new) ≡ Some (fresh (1 ∷ image_disk (journal.old.generation + 1) image.now (0 ∷ [])))) }
-    ensures other { disk_on (next_side journal.old.active) disk_b.new disk_a.new ≡ disk_on (next_side journal.old.active) disk_b.old disk_a.old }
+    ensures made { OnOk result ((ys : List ℕ)
+        → K.contents (disk_on (next_side journal.old.active) disk_a.old disk_b.old) ≡ Some (fresh ys)
+        → K.contents (disk_on (next_side journal.old.active) disk_a.new disk_b.new)
+        ≡ Some (fresh (1 ∷ image_disk (journal.old.generation + 1) image.now
+        (journal_bytes first.now.number first.now.payloads)))) }
+    ensures other { disk_on (next_side journal.old.active) disk_b.new disk_a.new
+        ≡ disk_on (next_side journal.old.active) disk_b.old disk_a.old }
     ensures stays { OnErr result (journal.new ≡ journal.old) }
     ensures told_a { is_told (K.contents disk_a.new) ≡ is_told (K.contents disk_a.old) }
     ensures told_b { is_told (K.contents disk_b.new) ≡ is_told (K.contents disk_b.old) }
-    ensures cause { OnErr result (Rose (K.disk_faults disk_a.old) (K.disk_faults disk_a.new) ⊎ Rose (K.disk_faults disk_b.old) (K.disk_faults disk_b.new)) }
+    ensures cause { OnErr result (Rose (K.disk_faults disk_a.old) (K.disk_faults disk_a.new)
+        ⊎ Rose (K.disk_faults disk_b.old) (K.disk_faults disk_b.new)) }
     ensures later_a { K.disk_faults disk_a.old ≤ K.disk_faults disk_a.new }
     ensures later_b { K.disk_faults disk_b.old ≤ K.disk_faults disk_b.new }
 {
-    let first = FirstJournal::new(alloc, journal.count());
-    match journal.checkpoint(disk_a, disk_b, image, &first) {
+    match journal.checkpoint(disk_a, disk_b, image, first) {
         Ok(()) => Ok(()),
         Err(Failed) => Err(Failed),
     }

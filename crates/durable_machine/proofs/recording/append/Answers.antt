@@ -1,6 +1,8 @@
 use Rattle.std.proofs.Common.{sym, ◌∙◌, arith}
+use Rattle.queued_changes.specs.Machine.{run_out}
+use Rattle.named_indexes.specs.Changes.{changed}
 use Rattle.durable_machine.proofs.Sides.{left_before}
-use Rattle.durable_machine.proofs.Runs.{redone_counts}
+use Rattle.durable_machine.proofs.Settled.{out_counts, out_queue, redone_counts}
 use Rattle.durable_machine.proofs.Crash.{change_held, torn_change}
 use Rattle.durable_machine.proofs.recording.append.Goals as goal
 
@@ -8,7 +10,8 @@ pub returns-in-Ok-clause-durable : goal.returns-in-Ok-clause-durable
 returns-in-Ok-clause-durable g c = λ s t was made. record {
   active = λ e. was.active (sym c.append.ensures.active ∙ e);
   fits = c.in-Ok.ensures.fits;
-  count = omega (arith, c.in-Ok.ensures.count, was.count, redone_counts s t c.args.entry.payload made);
+  count = let more = redone_counts (run_out changed s) c.args.entry.payload (run_out changed t) (out_queue s) made in
+      omega (arith, c.in-Ok.ensures.count, was.count, more, out_counts s, out_counts t);
   settled_a = c.in-Ok.ensures.settled_a was.settled_a;
   settled_b = c.in-Ok.ensures.settled_b was.settled_b;
   holds = change_held (g.K.Disk.contents c.args.disk_a.now) (g.K.Disk.contents c.args.disk_b.now) (g.K.Disk.contents c.append.new.disk_a) (g.K.Disk.contents c.append.new.disk_b)

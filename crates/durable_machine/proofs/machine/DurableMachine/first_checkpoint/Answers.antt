@@ -1,6 +1,7 @@
 use Rattle.std.proofs.Common.{◌≡◌, ◌∙◌, ◌+◌, ℕ, List, [], ◌∷◌, Option, Some, None, ap, subst, arith}
 use Rattle.outside_io.specs.Disks.{Contents, fresh}
 use Rattle.change_journal.specs.Fits.{FitsAt, disk_on, next_side}
+use Rattle.change_journal.specs.First.{First, journal_bytes}
 use Rattle.change_journal.specs.Shut.{image_disk}
 use Rattle.change_journal.specs.declared.journal.Side.{Side}
 use Rattle.durable_machine.proofs.Crash.{held_now}
@@ -19,9 +20,11 @@ returns-in-Ok-checkpoint-clause-made g c = λ xs was.
     let here = subst (λ s. FitsAt s j (g.K.Disk.contents a) (g.K.Disk.contents b)) c.requires.none c.requires.fits.disks in
     let one : j.generation + 1 ≡ 1 = omega (arith, here.2) in
     let made = subst (λ (s : Option Side). (ys : List ℕ) → g.K.Disk.contents (disk_on (next_side s) a b) ≡ Some (fresh ys)
-    → g.K.Disk.contents (disk_on (next_side s) c.checkpoint.new.disk_a c.checkpoint.new.disk_b) ≡ Some (fresh (1 ∷ image_disk (j.generation + 1) slice (0 ∷ []))))
+    → g.K.Disk.contents (disk_on (next_side s) c.checkpoint.new.disk_a c.checkpoint.new.disk_b) ≡ Some (fresh (1 ∷ image_disk (j.generation + 1) slice (journal_bytes c.new-first.result.number c.new-first.result.payloads))))
     c.requires.none c.in-Ok-checkpoint.ensures.made in
-    let first = made xs was ∙ ap (λ (n : ℕ). Some (fresh (1 ∷ image_disk n slice (0 ∷ [])))) one in
+    let none = ap (λ (f : First). journal_bytes f.number f.payloads) c.new-first.ensures in
+    let first = made xs was ∙ ap (λ (l : List ℕ). Some (fresh (1 ∷ image_disk (j.generation + 1) slice l))) none
+    ∙ ap (λ (n : ℕ). Some (fresh (1 ∷ image_disk n slice (0 ∷ [])))) one in
     (image, c.in-Ok.ensures.state, first ∙ ap (λ (l : List ℕ). Some (fresh (1 ∷ image_disk 1 l (0 ∷ [])))) c.deref.ensures.value)
 
 pub returns-in-Ok-checkpoint-clause-other : goal.returns-in-Ok-checkpoint-clause-other
