@@ -7,3 +7,4 @@ pub mod Visits
 pub mod FewWords
 pub mod Replying
 pub mod Telling
+pub mod Tasks

@@ -1,15 +1,16 @@
 -- Where serving a link stands.
-use Rattle.std.specs.Prelude.{◌≡◌, ℕ, ◌-◌, Bool, List, Some}
+use Rattle.std.specs.Prelude.{◌≡◌, ℕ, ◌-◌, Bool, false, List, Some}
 use Rattle.std.specs.Io.KnownBytes.{append_known, prepend_known}
 use Rattle.http_wire.specs.Stream.{fresh, most_requests, Follows}
 use Rattle.search_server.specs.LinkState.{LinkState}
-use Rattle.search_server.specs.Run.{Event, requests_of, replies}
+use Rattle.search_routes.specs.Chosen.{Event}
+use Rattle.search_server.specs.Run.{requests_of, replies}
 use Rattle.search_server.specs.Served.{join, Went}
 
 -- where serving stands: the n requests so far, their replies, and what is left
 pub record Progress (bytes : List ℕ) (start here : LinkState) (n : ℕ) (closes : Bool) : Type 0 where
   pub events : List Event
-  pub went : Went start here n events
+  pub went : Went start here n false events
   pub rest : List ℕ
   pub pending_is : here.pending ≡ Some rest
   pub follows : Follows (fresh bytes) (requests_of events) (record { left = most_requests - n; closed = closes; bytes = rest })

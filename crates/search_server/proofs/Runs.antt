@@ -4,10 +4,10 @@ use Rattle.std.specs.Io.KnownBytes.{prepend_known}
 use Rattle.std.proofs.lemmas.List.{append_assoc}
 use Rattle.http_wire.specs.Stream.{Request, Stream, Follows, Takes, IsAwake, after_request}
 use Rattle.search_routes.specs.State.{State}
-use Rattle.search_routes.specs.Needs.{needed_fetches}
+use Rattle.search_routes.specs.Chosen.{Event, after}
 use Rattle.search_routes.specs.Openings.{opened_by, most_opened_by}
 use Rattle.bucket_sort.specs.Opens.{LogState, Opens}
-use Rattle.search_server.specs.Run.{Event, requests_of, replies, reply_to, after, needs, Logs, most_over, after_event}
+use Rattle.search_server.specs.Run.{requests_of, replies, reply_to, needs, event_need, Logs, most_over, behind_event}
 
 -- one more request
 pub follows_more : (s : Stream) (qs : List Request) (t : Stream) (q : Request) (rest : List ℕ)
@@ -25,17 +25,17 @@ replies_more left s [] e = ap (λ n. reply_to n s e ∷ []) (omega arith)
 replies_more left s (f ∷ events) e =
     let n : left - 1 - length events ≡ left - length (f ∷ events) = omega arith in
     ap (λ v. reply_to left s f ∷ v)
-    (replies_more (left - 1) (after_event s f) events e
-    ∙ ap (λ n. replies (left - 1) (after_event s f) events ++ reply_to n (after (after_event s f) events) e ∷ []) n)
+    (replies_more (left - 1) (behind_event s f) events e
+    ∙ ap (λ n. replies (left - 1) (behind_event s f) events ++ reply_to n (after (behind_event s f) events) e ∷ []) n)
 
-pub after_more : (s : State) (events : List Event) (e : Event) → after s (events ++ e ∷ []) ≡ after_event (after s events) e
+pub after_more : (s : State) (events : List Event) (e : Event) → after s (events ++ e ∷ []) ≡ behind_event (after s events) e
 after_more s [] e = refl
-after_more s (f ∷ events) e = after_more (after_event s f) events e
+after_more s (f ∷ events) e = after_more (behind_event s f) events e
 
-pub needs_more : (s : State) (events : List Event) (e : Event) → needs s (events ++ e ∷ []) ≡ needs s events + needed_fetches (after s events) e.request
+pub needs_more : (s : State) (events : List Event) (e : Event) → needs s (events ++ e ∷ []) ≡ needs s events + event_need (after s events) e
 needs_more s [] e = omega arith
 needs_more s (f ∷ events) e =
-    let more = needs_more (after_event s f) events e in
+    let more = needs_more (behind_event s f) events e in
     omega (arith, more)
 
 -- the log of one more event
@@ -43,12 +43,12 @@ pub logs_more : (s : State) (events : List Event) (e : Event) (old here new : Lo
     → Logs s events old here → Opens e.starved (opened_by (after s events) e.request) here new → Logs s (events ++ e ∷ []) old new
 logs_more s [] e old here new logs opens = (new, subst (λ v. Opens e.starved (opened_by s e.request) v new) logs opens, refl)
 logs_more s (f ∷ events) e old here new (between, first, logs) opens =
-    (between, first, logs_more (after_event s f) events e between here new logs opens)
+    (between, first, logs_more (behind_event s f) events e between here new logs opens)
 
 pub most_more : (s : State) (events : List Event) (e : Event) → most_over s (events ++ e ∷ []) ≡ most_over s events + most_opened_by (after s events) e.request
 most_more s [] e = omega arith
 most_more s (f ∷ events) e =
-    let more = most_more (after_event s f) events e in
+    let more = most_more (behind_event s f) events e in
     omega (arith, more)
 
 pub requests_more : (events : List Event) (e : Event) → requests_of (events ++ e ∷ []) ≡ requests_of events ++ e.request ∷ []

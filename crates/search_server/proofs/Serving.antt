@@ -3,18 +3,22 @@ use Rattle.std.proofs.Common.{◌≡◌, ◌⊎◌, ℕ, ◌+◌, ◌-◌, ◌<�
 use Rattle.std.specs.Io.KnownBytes.{prepend_known, append_known}
 use Rattle.std.proofs.lemmas.List.{length-append}
 use Rattle.std.proofs.lemmas.Grind.{flat_map-append}
+use Rattle.std.proofs.lemmas.Bool.{false≢true}
+use Rattle.std.specs.Prelude.{◌≢◌}
 use Rattle.http_wire.specs.Head.{IsBlank}
 use Rattle.http_wire.specs.Stream.{Request, Stream, End, between, closed, spent, rest, bad, fresh, most_requests, Follows, Ends, IsRequest, IsBad, IsPart, IsOpen, after_request}
 use Rattle.http_wire.specs.Reply.{wire, refusal_answer, WrotePart}
 use Rattle.http_wire.specs.declared.HeadKind.{HeadKind}
 use Rattle.search_routes.specs.State.{State}
-use Rattle.search_routes.specs.Chosen.{state_after}
-use Rattle.search_routes.specs.Needs.{needed_fetches}
+use Rattle.queued_changes.specs.State.{accepted}
+use Rattle.search_routes.specs.Chosen.{Event, EndsIn, after, state_after, stepped}
+use Rattle.queued_changes.specs.Run.{answered}
+use Rattle.named_indexes.specs.Changes.{changed}
 use Rattle.search_routes.specs.Openings.{opened_by, most_opened_by}
 use Rattle.bucket_sort.specs.Opens.{LogState, Opens}
 use Rattle.search_server.specs.LinkState.{LinkState}
-use Rattle.search_server.specs.Run.{Event, requests_of, replies, reply_to, after, end_replies, Logs}
-use Rattle.search_server.specs.Turns.{Replied, ReplyCut, NotRecorded, NoneTaken, Quiet, TurnIs, end_by}
+use Rattle.search_server.specs.Run.{requests_of, replies, reply_to, behind_event, event_need, end_replies, Logs}
+use Rattle.search_server.specs.Turns.{Taken, Replied, NotFollowed, ReplyCut, NotRecorded, NoneTaken, Quiet, TurnIs, end_by}
 use Rattle.search_server.specs.declared.status.LinkEnd.{LinkEnd}
 use Rattle.search_server.specs.declared.turn.Turn.{Turn}
 use Rattle.search_server.specs.declared.turn.Turn.TheVariants as turn
@@ -25,7 +29,7 @@ use Rattle.durable_machine.specs.declared.machine.DurableMachine.{DurableMachine
 use Rattle.search_server.specs.Passed.{PassedIfDue}
 use Rattle.search_server.specs.Statuses.{DiskRose, IsCaused, IsGoing}
 use Rattle.search_server.proofs.Progress.{Progress, LeftBy}
-use Rattle.search_server.specs.Served.{join, Went, Served, Answers, FirstAnswers, CutAnswers, GivenAnswers, IsUnfinished, Unrecorded}
+use Rattle.search_server.specs.Served.{join, Spends, Went, Served, Answers, FirstAnswers, CutAnswers, GivenAnswers, IsUnfinished, Unrecorded}
 use Rattle.search_server.proofs.Runs.{follows_more, replies_more, after_more, needs_more, logs_more, most_more, requests_more, known_rest, given_of}
 use Rattle.http_wire.proofs.Writes.{append_known-append}
 
@@ -40,14 +44,17 @@ append_none : (known : Option (List ℕ)) → append_known known [] ≡ known
 append_none None = refl
 append_none (Some xs) = ap (λ (v : List ℕ). Some v) (append-nil xs)
 
-went_nowhere : (s : LinkState) → Went s s 0 []
-went_nowhere s = record { state = refl; fetched = omega arith; logged = refl; opened = omega arith; count = refl }
+went_nowhere : (s : LinkState) → Went s s 0 false []
+went_nowhere s = record { ends = refl; spends = record { fetched = omega arith; logged = refl; opened = omega arith; count = refl } }
 
 pub starts : (bytes : List ℕ) (start here : LinkState) → here.pending ≡ Some bytes → here.told ≡ start.told → here.state ≡ start.state
     → here.fetches ≡ start.fetches → here.log ≡ start.log → Progress bytes start here 0 false
 starts bytes start here pending told state fetches log = record {
   events = [];
-  went = record { state = state; fetched = omega (arith, fetches); logged = log; opened = omega (arith, ap (λ (v : LogState). v.opened) log); count = refl };
+  went = record {
+    ends = state;
+    spends = record { fetched = omega (arith, fetches); logged = log; opened = omega (arith, ap (λ (v : LogState). v.opened) log); count = refl };
+  };
   rest = bytes;
   pending_is = pending;
   follows = refl;
@@ -55,7 +62,7 @@ starts bytes start here pending told state fetches log = record {
 }
 
 -- a link from which nothing was read, and that was told nothing
-pub nothing_yet : (bytes : List ℕ) (s : LinkState) → FirstAnswers bytes s s 0
+pub nothing_yet : (bytes : List ℕ) (s : LinkState) → FirstAnswers bytes s s 0 false
 nothing_yet bytes s = record {
   events = [];
   went = went_nowhere s;
@@ -95,49 +102,76 @@ next_reply s0 s n events e at count =
     ∙ ap (λ m. replies most_requests s0 events ++ reply_to (most_requests - m) (after s0 events) e ∷ []) (sym count)
     ∙ ap (λ v. replies most_requests s0 events ++ reply_to (most_requests - n) v e ∷ []) (sym at)
 
--- the machine went through one event more
-went_more : (start here new : LinkState) (n : ℕ) (events : List Event) (e : Event) → Went start here n events
-    → new.state ≡ state_after here.state e.request e.starved → new.fetches ≤ here.fetches + needed_fetches here.state e.request
-    → Opens e.starved (opened_by here.state e.request) here.log new.log → new.log.opened ≤ here.log.opened + most_opened_by here.state e.request
-    → Went start new (n + 1) (events ++ e ∷ [])
-went_more start here new n events e went state fetched opens few =
+-- one request more was taken
+spends_more : (start here new : LinkState) (n : ℕ) (events : List Event) (e : Event) → Went start here n false events → Taken here new e
+    → Spends start new (n + 1) (events ++ e ∷ [])
+spends_more start here new n events e went one =
     let all = needs_more start.state events e in
-    let need : needed_fetches here.state e.request ≡ needed_fetches (after start.state events) e.request = ap (λ v. needed_fetches v e.request) went.state in
+    let need : event_need here.state e ≡ event_need (after start.state events) e = ap (λ v. event_need v e) went.ends in
     let most = most_more start.state events e in
-    let most_here : most_opened_by here.state e.request ≡ most_opened_by (after start.state events) e.request = ap (λ v. most_opened_by v e.request) went.state in
+    let most_here : most_opened_by here.state e.request ≡ most_opened_by (after start.state events) e.request = ap (λ v. most_opened_by v e.request) went.ends in
     record {
-      state = state ∙ ap (λ v. state_after v e.request e.starved) went.state ∙ sym (after_more start.state events e);
-      fetched = omega (arith, all, need, went.fetched, fetched);
-      logged = logs_more start.state events e start.log here.log new.log went.logged
-          (subst (λ v. Opens e.starved (opened_by v e.request) here.log new.log) went.state opens);
-      opened = omega (arith, most, most_here, went.opened, few);
-      count = omega (arith, went.count, length-append events (e ∷ []));
+      fetched = omega (arith, all, need, went.spends.fetched, one.fetched);
+      logged = logs_more start.state events e start.log here.log new.log went.spends.logged
+          (subst (λ v. Opens e.starved (opened_by v e.request) here.log new.log) went.ends one.opens);
+      opened = omega (arith, most, most_here, went.spends.opened, one.few);
+      count = omega (arith, went.spends.count, length-append events (e ∷ []));
     }
 
+-- the machine went through one event more
+went_more : (start here new : LinkState) (n : ℕ) (events : List Event) (e : Event) → Went start here n false events → Taken here new e
+    → new.state ≡ behind_event here.state e → Went start new (n + 1) false (events ++ e ∷ [])
+went_more start here new n events e went one state = record {
+  ends = state ∙ ap (λ v. behind_event v e) went.ends ∙ sym (after_more start.state events e);
+  spends = spends_more start here new n events e went one;
+}
+
+answered_is : (s : State) (e : Event) → state_after s e.request e.starved ≡ answered changed stepped s e.request e.starved
+answered_is s e = by_case e.starved
+  where
+    by_case : (b : Bool) → state_after s e.request b ≡ answered changed stepped s e.request b
+    by_case true = refl
+    by_case false = refl
+
+-- the same, and the batch behind its reply did not run
+went_marked : (start here new : LinkState) (n : ℕ) (events : List Event) (e : Event) → Went start here n false events → Taken here new e
+    → new.state ≡ state_after here.state e.request e.starved → Went start new (n + 1) true (events ++ e ∷ [])
+went_marked start here new n events e went one state = record {
+  ends = (events, e, refl, state ∙ ap (λ v. state_after v e.request e.starved) went.ends ∙ answered_is (after start.state events) e);
+  spends = spends_more start here new n events e went one;
+}
+
+-- no more was read or opened
+spends_so : (start here new : LinkState) (n : ℕ) (events : List Event) → Spends start here n events → new.fetches ≡ here.fetches → new.log ≡ here.log
+    → Spends start new n events
+spends_so start here new n events spends fetches log = record {
+  fetched = omega (arith, fetches, spends.fetched);
+  logged = subst (λ v. Logs start.state events start.log v) (sym log) spends.logged;
+  opened = omega (arith, ap (λ (v : LogState). v.opened) log, spends.opened);
+  count = spends.count;
+}
+
 -- it went no further
-went_so : (start here new : LinkState) (n : ℕ) (events : List Event) → Went start here n events → new.state ≡ here.state → new.fetches ≡ here.fetches
-    → new.log ≡ here.log → Went start new n events
-went_so start here new n events went state fetches log = record {
-  state = state ∙ went.state;
-  fetched = omega (arith, fetches, went.fetched);
-  logged = subst (λ v. Logs start.state events start.log v) (sym log) went.logged;
-  opened = omega (arith, ap (λ (v : LogState). v.opened) log, went.opened);
-  count = went.count;
+went_so : (start here new : LinkState) (n : ℕ) (mark : Bool) (events : List Event) → Went start here n mark events → new.state ≡ here.state → new.fetches ≡ here.fetches
+    → new.log ≡ here.log → Went start new n mark events
+went_so start here new n mark events went state fetches log = record {
+  ends = subst (λ v. EndsIn mark start.state events v) (sym state) went.ends;
+  spends = spends_so start here new n events went.spends fetches log;
 }
 
 pub goes_on : (bytes : List ℕ) (start old new : LinkState) (n : ℕ) (closes : Bool) → Progress bytes start old n false → n < most_requests
     → Replied (most_requests - n) old new closes → Progress bytes start new (n + 1) closes
 goes_on bytes start old new n closes p less r =
-    let l : Longer bytes p.events r.event new.pending n = longer bytes start old n r.event new.pending p less r.takes.0 r.takes.1 r.takes.2 in
+    let l : Longer bytes p.events r.event new.pending n = longer bytes start old n r.event new.pending p less r.taken.takes.0 r.taken.takes.1 r.taken.takes.2 in
     let F : Bool → Type 0 = λ v. Follows (fresh bytes) (requests_of (p.events ++ r.event ∷ [])) (record { left = most_requests - (n + 1); closed = v; bytes = l.rest }) in
     record {
       events = p.events ++ r.event ∷ [];
-      went = went_more start old new n p.events r.event p.went r.state r.fetched r.opens r.few;
+      went = went_more start old new n p.events r.event p.went r.taken r.state;
       rest = l.rest;
       pending_is = l.pending_is;
       follows = subst F r.closes_is l.follows;
       told_is = join_more start.told old.told new.told (replies most_requests start.state p.events) (reply_to (most_requests - n) old.state r.event) p.told_is r.told
-          ∙ ap (λ v. append_known start.told (join v)) (sym (next_reply start.state old.state n p.events r.event p.went.state p.went.count));
+          ∙ ap (λ v. append_known start.told (join v)) (sym (next_reply start.state old.state n p.events r.event p.went.ends p.went.spends.count));
     }
 
 -- ---- the ends
@@ -158,7 +192,7 @@ ended : (bytes : List ℕ) (start here final : LinkState) (n : ℕ) (closes : Bo
     → final.told ≡ here.told → final.state ≡ here.state → final.fetches ≡ here.fetches → final.log ≡ here.log → Answers bytes start final n end
 ended bytes start here final n closes end p ends none told state fetches log = record {
   events = p.events;
-  went = went_so start here final n p.events p.went state fetches log;
+  went = went_so start here final n false p.events p.went state fetches log;
   requests = (record { left = most_requests - n; closed = closes; bytes = p.rest }, p.follows, ends);
   told = told ∙ p.told_is ∙ with_nothing start.told (replies most_requests start.state p.events) end none;
 }
@@ -179,7 +213,7 @@ bad_answers : (bytes : List ℕ) (start old new final : LinkState) (n : ℕ) (ki
     → new.told ≡ append_known old.told (wire (refusal_answer kind) true) → LeftBy kept new final → Answers bytes start final n (bad kind number)
 bad_answers bytes start old new final n kind number kept p less q wrong told l = record {
   events = p.events;
-  went = went_so start old final n p.events p.went (l.state ∙ q.state) (l.fetches ∙ q.fetches) (l.log ∙ q.log);
+  went = went_so start old final n false p.events p.went (l.state ∙ q.state) (l.fetches ∙ q.fetches) (l.log ∙ q.log);
   requests = (
     record { left = most_requests - n; closed = false; bytes = p.rest },
     p.follows,
@@ -193,13 +227,14 @@ refusal_cut : (bytes : List ℕ) (start old new final : LinkState) (n : ℕ) (ki
     → n < most_requests → NoneTaken old new → IfSome old.pending (λ xs. IsBad xs kind number)
     → WrotePart old.told new.told (wire (refusal_answer kind) true) → LeftBy kept new final → CutAnswers bytes start final n
 refusal_cut bytes start old new final n kind number kept p less q wrong (size, short, told) l = record {
+  mark = false;
   events = p.events;
-  went = went_so start old final n p.events p.went (l.state ∙ q.state) (l.fetches ∙ q.fetches) (l.log ∙ q.log);
+  went = went_so start old final n false p.events p.went (l.state ∙ q.state) (l.fetches ∙ q.fetches) (l.log ∙ q.log);
   stream = record { left = most_requests - n; closed = false; bytes = p.rest };
   follows = p.follows;
   front = replies most_requests start.state p.events;
   last = wire (refusal_answer kind) true;
-  outputs = inr (kind, number, ((refl, awake n less), known_is old.pending p.rest (λ xs. IsBad xs kind number) p.pending_is wrong), refl);
+  outputs = (kind, number, ((refl, awake n less), known_is old.pending p.rest (λ xs. IsBad xs kind number) p.pending_is wrong), refl);
   told = (size, short, l.told ∙ told ∙ ap (λ v. append_known v (take size (wire (refusal_answer kind) true))) p.told_is);
 }
 
@@ -207,17 +242,18 @@ refusal_cut bytes start old new final n kind number kept p less q wrong (size, s
 reply_cut : (bytes : List ℕ) (start old new final : LinkState) (n : ℕ) (kept : List ℕ) → Progress bytes start old n false → n < most_requests
     → ReplyCut (most_requests - n) old new → LeftBy kept new final → CutAnswers bytes start final (n + 1)
 reply_cut bytes start old new final n kept p less r l =
-    let longer' : Longer bytes p.events r.event new.pending n = longer bytes start old n r.event new.pending p less r.takes.0 r.takes.1 r.takes.2 in
-    let went : Went start new (n + 1) (p.events ++ r.event ∷ []) = went_more start old new n p.events r.event p.went r.state r.fetched r.opens r.few in
+    let longer' : Longer bytes p.events r.event new.pending n = longer bytes start old n r.event new.pending p less r.taken.takes.0 r.taken.takes.1 r.taken.takes.2 in
+    let went : Went start new (n + 1) true (p.events ++ r.event ∷ []) = went_marked start old new n p.events r.event p.went r.taken r.state in
     let (size, short, told) = r.told in
     record {
+      mark = true;
       events = p.events ++ r.event ∷ [];
-      went = went_so start new final (n + 1) (p.events ++ r.event ∷ []) went l.state l.fetches l.log;
+      went = went_so start new final (n + 1) true (p.events ++ r.event ∷ []) went l.state l.fetches l.log;
       stream = record { left = most_requests - (n + 1); closed = r.event.request.closes; bytes = longer'.rest };
       follows = longer'.follows;
       front = replies most_requests start.state p.events;
       last = reply_to (most_requests - n) old.state r.event;
-      outputs = inl (sym (next_reply start.state old.state n p.events r.event p.went.state p.went.count));
+      outputs = sym (next_reply start.state old.state n p.events r.event p.went.ends p.went.spends.count);
       told = (size, short, l.told ∙ told ∙ ap (λ v. append_known v (take size (reply_to (most_requests - n) old.state r.event))) p.told_is);
     }
 
@@ -225,16 +261,32 @@ reply_cut bytes start old new final n kept p less r l =
 unrecorded : (bytes : List ℕ) (start old new final : LinkState) (n : ℕ) (kept : List ℕ) → Progress bytes start old n false → n < most_requests
     → NotRecorded old new → LeftBy kept new final → Unrecorded bytes start final (n + 1)
 unrecorded bytes start old new final n kept p less r l =
-    let longer' : Longer bytes p.events r.event new.pending n = longer bytes start old n r.event new.pending p less r.takes.0 r.takes.1 r.takes.2 in
-    let went : Went start new (n + 1) (p.events ++ r.event ∷ []) = went_more start old new n p.events r.event p.went r.state r.fetched r.opens r.few in
+    let longer' : Longer bytes p.events r.event new.pending n = longer bytes start old n r.event new.pending p less r.taken.takes.0 r.taken.takes.1 r.taken.takes.2 in
+    let spends : Spends start new (n + 1) (p.events ++ r.event ∷ []) = spends_more start old new n p.events r.event p.went r.taken in
     record {
       front = p.events;
       last = r.event;
-      went = went_so start new final (n + 1) (p.events ++ r.event ∷ []) went l.state l.fetches l.log;
+      spends = spends_so start new final (n + 1) (p.events ++ r.event ∷ []) spends l.fetches l.log;
       stream = record { left = most_requests - (n + 1); closed = r.event.request.closes; bytes = longer'.rest };
       follows = longer'.follows;
       told = l.told ∙ r.told ∙ p.told_is;
-      crash = rw (l.disk_a, l.disk_b, l.state, sym p.went.state) r.crash;
+      crash = rw (l.disk_a, l.disk_b, sym p.went.ends) r.crash;
+    }
+
+-- the batch behind a reply was put off
+put_off : (bytes : List ℕ) (start old new final : LinkState) (n : ℕ) (kept : List ℕ) → Progress bytes start old n false → n < most_requests
+    → NotFollowed (most_requests - n) old new → LeftBy kept new final → FirstAnswers bytes start final (n + 1) true
+put_off bytes start old new final n kept p less r l =
+    let longer' : Longer bytes p.events r.event new.pending n = longer bytes start old n r.event new.pending p less r.taken.takes.0 r.taken.takes.1 r.taken.takes.2 in
+    let went : Went start new (n + 1) true (p.events ++ r.event ∷ []) = went_marked start old new n p.events r.event p.went r.taken r.state in
+    record {
+      events = p.events ++ r.event ∷ [];
+      went = went_so start new final (n + 1) true (p.events ++ r.event ∷ []) went l.state l.fetches l.log;
+      stream = record { left = most_requests - (n + 1); closed = r.event.request.closes; bytes = longer'.rest };
+      follows = longer'.follows;
+      told = l.told
+          ∙ join_more start.told old.told new.told (replies most_requests start.state p.events) (reply_to (most_requests - n) old.state r.event) p.told_is r.told
+          ∙ ap (λ v. append_known start.told (join v)) (sym (next_reply start.state old.state n p.events r.event p.went.ends p.went.spends.count));
     }
 
 -- an end for bytes that are open
@@ -259,7 +311,7 @@ given_answers bytes start old new final n kept p less q opens l =
       unfinished = unfinished;
       answers = record {
         events = p.events;
-        went = went_so start old final n p.events p.went (l.state ∙ q.none.state) (l.fetches ∙ q.none.fetches) (l.log ∙ q.none.log);
+        went = went_so start old final n false p.events p.went (l.state ∙ q.none.state) (l.fetches ∙ q.none.fetches) (l.log ∙ q.none.log);
         requests = (record { left = most_requests - n; closed = false; bytes = kept }, follows, ends);
         told = l.told ∙ q.told ∙ p.told_is ∙ with_nothing start.told (replies most_requests start.state p.events) end none;
       };
@@ -268,11 +320,19 @@ given_answers bytes start old new final n kept p less q opens l =
 -- ---- a turn
 
 abbrev Promised : List ℕ → LinkState → LinkState → LinkEnd → Type 0
-Promised bytes start final end = Served bytes start final end.requests end.status
+Promised bytes start final end = Served bytes start final end.requests end.put_off end.status
 
-as_end : (status : Status) (requests passed : ℕ) (end : LinkEnd) → (P : LinkEnd → Type 0) → Some (record { status = status; requests = requests; passed = passed }) ≡ Some end
-    → P (record { status = status; requests = requests; passed = passed }) → P end
-as_end status requests passed end P ends p = let same : record { status = status; requests = requests; passed = passed } ≡ end = cc in subst P same p
+as_end : (status : Status) (requests passed : ℕ) (end : LinkEnd) → (P : LinkEnd → Type 0)
+    → Some (record { status = status; requests = requests; passed = passed; put_off = false }) ≡ Some end
+    → P (record { status = status; requests = requests; passed = passed; put_off = false }) → P end
+as_end status requests passed end P ends p =
+    let same : record { status = status; requests = requests; passed = passed; put_off = false } ≡ end = cc in subst P same p
+
+as_put_off : (requests passed : ℕ) (end : LinkEnd) → (P : LinkEnd → Type 0)
+    → Some (record { status = link.NoMemory; requests = requests; passed = passed; put_off = true }) ≡ Some end
+    → P (record { status = link.NoMemory; requests = requests; passed = passed; put_off = true }) → P end
+as_put_off requests passed end P ends p =
+    let same : record { status = link.NoMemory; requests = requests; passed = passed; put_off = true } ≡ end = cc in subst P same p
 
 -- what was written, by the turn that ended the link
 pub served_by : (bytes : List ℕ) (start old new final : LinkState) (n passed : ℕ) (kept : List ℕ) (t : Turn) (end : LinkEnd) → Progress bytes start old n false
@@ -281,6 +341,8 @@ served_by bytes start old new final n passed kept turn.Next end p less is ends l
 served_by bytes start old new final n passed kept turn.Closed end p less is ends l =
     let on = goes_on bytes start old new n true p less is in
     as_end link.Done (n + 1) passed end (Promised bytes start final) ends (closed, inr refl, ended bytes start new final (n + 1) true closed on refl refl l.told l.state l.fetches l.log)
+served_by bytes start old new final n passed kept turn.PutOff end p less is ends l =
+    as_put_off (n + 1) passed end (Promised bytes start final) ends (put_off bytes start old new final n kept p less is l)
 served_by bytes start old new final n passed kept turn.End end p less (q, blank) ends l =
     as_end link.Done n passed end (Promised bytes start final) ends (
       between,
@@ -305,7 +367,7 @@ served_by bytes start old new final n passed kept turn.DiskFault end p less (r, 
 served_by bytes start old new final n passed kept turn.NoMemory end p less q ends l =
     as_end link.NoMemory n passed end (Promised bytes start final) ends (record {
       events = p.events;
-      went = went_so start old final n p.events p.went (l.state ∙ q.none.state) (l.fetches ∙ q.none.fetches) (l.log ∙ q.none.log);
+      went = went_so start old final n false p.events p.went (l.state ∙ q.none.state) (l.fetches ∙ q.none.fetches) (l.log ∙ q.none.log);
       stream = record { left = most_requests - n; closed = false; bytes = p.rest };
       follows = p.follows;
       told = l.told ∙ q.told ∙ p.told_is;
@@ -330,6 +392,7 @@ disk_rose start old new final kept later (inr rose) l = let same = ap (λ d. d.f
 pub caused_by : (start old new final : LinkState) (left n passed : ℕ) (kept : List ℕ) (t : Turn) (end : LinkEnd) → Later start old → TurnIs left old new kept t → end_by n passed t ≡ Some end → LeftBy kept new final → Caused start final end
 caused_by start old new final left n passed kept turn.Next end later is ends l = absurd (cc)
 caused_by start old new final left n passed kept turn.Closed end later is ends l = as_end link.Done (n + 1) passed end (Caused start final) ends tt
+caused_by start old new final left n passed kept turn.PutOff end later is ends l = as_put_off (n + 1) passed end (Caused start final) ends tt
 caused_by start old new final left n passed kept turn.End end later is ends l = as_end link.Done n passed end (Caused start final) ends tt
 caused_by start old new final left n passed kept (turn.CutShort size) end later (q, some, part) ends l =
     as_end (link.CutShort size) n passed end (Caused start final) ends some
@@ -345,10 +408,35 @@ caused_by start old new final left n passed kept turn.DiskFault end later (r, ro
     as_end link.DiskFault (n + 1) passed end (Caused start final) ends (disk_rose start old new final kept later rose l)
 caused_by start old new final left n passed kept turn.NoMemory end later is ends l = as_end link.NoMemory n passed end (Caused start final) ends tt
 
+-- and what waits, where a batch was put off
+abbrev Waits : LinkState → LinkEnd → Type 0
+Waits final end = end.put_off ≡ true → (end.status ≡ link.NoMemory) × (final.state.queue ≢ [])
+
+-- nothing was put off
+none_waits : (status : Status) (requests passed : ℕ) (final : LinkState) (end : LinkEnd)
+    → Some (record { status = status; requests = requests; passed = passed; put_off = false }) ≡ Some end → Waits final end
+none_waits status requests passed final end ends = as_end status requests passed end (Waits final) ends (λ e. absurd (false≢true e))
+
+pub waits_by : (old new final : LinkState) (left n passed : ℕ) (kept : List ℕ) (t : Turn) (end : LinkEnd) → TurnIs left old new kept t → end_by n passed t ≡ Some end → LeftBy kept new final
+    → Waits final end
+waits_by old new final left n passed kept turn.Next end is ends l = absurd (cc)
+waits_by old new final left n passed kept turn.Closed end is ends l = none_waits link.Done (n + 1) passed final end ends
+waits_by old new final left n passed kept turn.PutOff end is ends l =
+    as_put_off (n + 1) passed end (Waits final) ends (λ e. (refl, λ none. is.waits (sym (ap (λ (s : State). s.queue) l.state) ∙ none)))
+waits_by old new final left n passed kept turn.End end is ends l = none_waits link.Done n passed final end ends
+waits_by old new final left n passed kept (turn.CutShort size) end is ends l = none_waits (link.CutShort size) n passed final end ends
+waits_by old new final left n passed kept (turn.Bad kind number) end is ends l = none_waits (link.BadHead kind number) n passed final end ends
+waits_by old new final left n passed kept turn.ReadFault end is ends l = none_waits link.ReadFault n passed final end ends
+waits_by old new final left n passed kept turn.ReplyFault end is ends l = none_waits link.WriteFault (n + 1) passed final end ends
+waits_by old new final left n passed kept (turn.RefusalFault kind number) end is ends l = none_waits link.WriteFault n passed final end ends
+waits_by old new final left n passed kept turn.DiskFault end is ends l = none_waits link.DiskFault (n + 1) passed final end ends
+waits_by old new final left n passed kept turn.NoMemory end is ends l = none_waits link.NoMemory n passed final end ends
+
 -- a turn after which a link goes on
 pub replied_by : (old new : LinkState) (left n passed : ℕ) (kept : List ℕ) (t : Turn) → TurnIs left old new kept t → end_by n passed t ≡ None → Replied left old new false
 replied_by old new left n passed kept turn.Next is ends = is
 replied_by old new left n passed kept turn.Closed is ends = absurd (cc)
+replied_by old new left n passed kept turn.PutOff is ends = absurd (cc)
 replied_by old new left n passed kept turn.End is ends = absurd (cc)
 replied_by old new left n passed kept (turn.CutShort size) is ends = absurd (cc)
 replied_by old new left n passed kept (turn.Bad kind number) is ends = absurd (cc)
@@ -365,7 +453,7 @@ went_on n passed t P (inr is) ends = is
 
 pub ended_well : (n passed : ℕ) (t : Turn) (end : LinkEnd) (P : Type 0) → (t ≡ turn.DiskFault) ⊎ P → end_by n passed t ≡ Some end → IsGoing end.status → P
 ended_well n passed t end P (inl fault) ends going =
-    absurd (going (let same : Some (record { status = link.DiskFault; requests = n + 1; passed = passed }) ≡ Some end = subst (λ v. end_by n passed v ≡ Some end) fault ends in cc))
+    absurd (going (let same : Some (record { status = link.DiskFault; requests = n + 1; passed = passed; put_off = false }) ≡ Some end = subst (λ v. end_by n passed v ≡ Some end) fault ends in cc))
 ended_well n passed t end P (inr is) ends going = is
 
 -- one turn more
@@ -373,11 +461,11 @@ pub due_later : (first old new : DurableMachine) (before passed : ℕ) → Passe
     → PassedIfDue first new passed
 due_later first old new before passed earlier later now due = or_before (now due)
   where
-    or_first : (0 < before) ⊎ (IsDue first.journal × (old.machine ≡ first.machine)) → new.machine ≡ old.machine
-        → (0 < passed) ⊎ (IsDue first.journal × (new.machine ≡ first.machine))
+    or_first : (0 < before) ⊎ (IsDue first.journal × (accepted old.machine ≡ accepted first.machine)) → accepted new.machine ≡ accepted old.machine
+        → (0 < passed) ⊎ (IsDue first.journal × (accepted new.machine ≡ accepted first.machine))
     or_first (inl some) same = inl (omega (arith, some, later))
     or_first (inr (is, was)) same = inr (is, same ∙ was)
 
-    or_before : (0 < passed) ⊎ (IsDue old.journal × (new.machine ≡ old.machine)) → (0 < passed) ⊎ (IsDue first.journal × (new.machine ≡ first.machine))
+    or_before : (0 < passed) ⊎ (IsDue old.journal × (accepted new.machine ≡ accepted old.machine)) → (0 < passed) ⊎ (IsDue first.journal × (accepted new.machine ≡ accepted first.machine))
     or_before (inl some) = inl some
     or_before (inr (is, same)) = or_first (earlier is) same

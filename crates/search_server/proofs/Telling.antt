@@ -1,5 +1,5 @@
 -- What tells goes on telling.
-use Rattle.std.proofs.Common.{◌≡◌, ◌⊎◌, inl, inr, ℕ, true, List, take, Option, Some, None, Result, Ok, Err, refl, sym, ap, ◌∙◌}
+use Rattle.std.proofs.Common.{◌≡◌, inl, inr, ℕ, true, List, take, Option, Some, None, Result, Ok, Err, refl, sym, ap, ◌∙◌}
 use Rattle.std.specs.Prelude.{is_some, OnOk, OnErr}
 use Rattle.std.specs.Option.{option_map}
 use Rattle.std.specs.Io.KnownBytes.{append_known, prepend_known}
@@ -17,7 +17,7 @@ use Rattle.search_server.specs.Turns.{Quiet, TurnIs}
 use Rattle.search_server.specs.declared.status.Status.{Status}
 use Rattle.search_server.specs.declared.status.Status.TheVariants as ended
 use Rattle.search_server.specs.declared.turn.Turn.{Turn}
-use Rattle.search_server.specs.declared.turn.Turn.TheVariants.{Next, Closed, End, CutShort, Bad, ReadFault, ReplyFault, RefusalFault, DiskFault, NoMemory}
+use Rattle.search_server.specs.declared.turn.Turn.TheVariants.{Next, Closed, PutOff, End, CutShort, Bad, ReadFault, ReplyFault, RefusalFault, DiskFault, NoMemory}
 
 -- ---- bytes behind those that are told, or before them
 
@@ -68,15 +68,16 @@ quiet_tells : (old new : LinkState) → Quiet old new → LinkGoesOnTelling old 
 quiet_tells old new is = (ap is_some is.none.pending, ap is_some is.told)
 
 pub turn_tells : (left : ℕ) (old new : LinkState) (kept : List ℕ) (turn : Turn) → TurnIs left old new kept turn → LinkGoesOnTelling old new
-turn_tells left old new kept Next is = (told_prepended is.takes.0 old.pending new.pending is.takes.1, told_appended old.told new.told (reply_to left old.state is.event) is.told)
-turn_tells left old new kept Closed is = (told_prepended is.takes.0 old.pending new.pending is.takes.1, told_appended old.told new.told (reply_to left old.state is.event) is.told)
+turn_tells left old new kept Next is = (told_prepended is.taken.takes.0 old.pending new.pending is.taken.takes.1, told_appended old.told new.told (reply_to left old.state is.event) is.told)
+turn_tells left old new kept Closed is = (told_prepended is.taken.takes.0 old.pending new.pending is.taken.takes.1, told_appended old.told new.told (reply_to left old.state is.event) is.told)
+turn_tells left old new kept PutOff is = (told_prepended is.taken.takes.0 old.pending new.pending is.taken.takes.1, told_appended old.told new.told (reply_to left old.state is.event) is.told)
 turn_tells left old new kept End is = quiet_tells old new is.0
 turn_tells left old new kept (CutShort n) is = quiet_tells old new is.0
 turn_tells left old new kept (Bad kind number) is = (ap is_some is.0.pending, told_appended old.told new.told (wire (refusal_answer kind) true) is.2)
 turn_tells left old new kept ReadFault is = quiet_tells old new is.0
-turn_tells left old new kept ReplyFault is = (told_prepended is.0.takes.0 old.pending new.pending is.0.takes.1, told_part old.told new.told (reply_to left old.state is.0.event) is.0.told)
+turn_tells left old new kept ReplyFault is = (told_prepended is.0.taken.takes.0 old.pending new.pending is.0.taken.takes.1, told_part old.told new.told (reply_to left old.state is.0.event) is.0.told)
 turn_tells left old new kept (RefusalFault kind number) is = (ap is_some is.0.pending, told_part old.told new.told (wire (refusal_answer kind) true) is.2)
-turn_tells left old new kept DiskFault is = (told_prepended is.0.takes.0 old.pending new.pending is.0.takes.1, ap is_some is.0.told)
+turn_tells left old new kept DiskFault is = (told_prepended is.0.taken.takes.0 old.pending new.pending is.0.taken.takes.1, ap is_some is.0.told)
 turn_tells left old new kept NoMemory is = quiet_tells old new is
 
 -- ---- the pipe of a door, and of the demo

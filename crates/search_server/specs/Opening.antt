@@ -6,7 +6,7 @@ use Rattle.bucket_sort.specs.Opens.{log_state}
 use Rattle.change_journal.specs.Format.{stored}
 use Rattle.search_routes.specs.State.{State}
 use Rattle.durable_machine.specs.Held.{held, opening_need}
-use Rattle.durable_machine.specs.Durable.{CrashHolds}
+use Rattle.durable_machine.specs.Durable.{CrashHolds, settled_part}
 use Rattle.search_server.specs.LinkState.{DiskState, Shared, disk_state}
 use Rattle.search_server.specs.Statuses.{DiskRose}
 use Rattle.search_server.specs.declared.status.Status.{Status}
@@ -50,11 +50,11 @@ ForBytes s P = (xs ys : List ℕ) → s.disk_a.contents ≡ Some (fresh xs) → 
 abbrev pub AsTheyWere : Unopened → DiskState → DiskState → Type 0
 AsTheyWere old a b = ForBytes old (λ xs ys. stored xs ys ≢ Ok None → (a.contents ≡ old.disk_a.contents) × (b.contents ≡ old.disk_b.contents))
 
--- The machine was opened: its state is the one that the disks held, and whatever a crash may now leave holds it. No
--- bucket was opened on the way.
+-- The machine was opened: its state is the one that the disks held, in which no task waits; and whatever a crash may
+-- now leave holds it. No bucket was opened on the way.
 pub record Opened (heard : Heard) (old : Unopened) (found : Shared) : Type 0 where
   pub state : ForBytes old (λ xs ys. held xs ys ≡ Ok found.state)
-  pub crash : CrashHolds found.disk_a.contents found.disk_b.contents (λ t. t ≡ found.state)
+  pub crash : CrashHolds found.disk_a.contents found.disk_b.contents (λ t. t ≡ settled_part found.state)
   pub fetched : ForBytes old (λ xs ys. found.fetches ≤ old.fetches + opening_need xs ys)
   pub log : found.log ≡ log_state heard old.openings
   pub untouched : AsTheyWere old found.disk_a found.disk_b
@@ -80,7 +80,7 @@ IsUnopened old new RequestsSpent = ⊥
 pub record NotOpened (old new : Unopened) (status : Status) : Type 0 where
   pub why : IsUnopened old new status
   pub kept : ForBytes old (λ xs ys. (s : State) → held xs ys ≡ Ok s
-      → CrashHolds new.disk_a.contents new.disk_b.contents (λ t. t ≡ s))
+      → CrashHolds new.disk_a.contents new.disk_b.contents (λ t. t ≡ settled_part s))
   pub fetched : ForBytes old (λ xs ys. new.fetches ≤ old.fetches + opening_need xs ys)
   pub openings : new.openings ≡ old.openings
   pub untouched : AsTheyWere old new.disk_a new.disk_b

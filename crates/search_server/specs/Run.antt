@@ -1,21 +1,17 @@
--- A run of the machine: requests one after the other, each of which may find no memory.
+-- A run of the machine: requests one after the other, each of which may find no memory. Behind a reply that is neither
+-- 202 nor the one for want of memory the oldest batch of tasks runs.
 use Rattle.std.specs.Prelude.{◌≡◌, ℕ, ◌+◌, ◌-◌, ◌==◌, ◌||◌, Bool, true, List, [], ◌∷◌, ◌++◌, map}
 use Rattle.http_wire.specs.Stream.{Request, End, between, closed, spent, rest, bad, most_requests}
 use Rattle.http_wire.specs.Reply.{wire, refusal_answer}
 use Rattle.search_routes.specs.State.{State}
-use Rattle.search_routes.specs.Chosen.{answer_of, state_after}
+use Rattle.search_routes.specs.Chosen.{Event, answer_of, followed}
 use Rattle.bucket_sort.specs.Opens.{LogState, Opens}
-use Rattle.search_routes.specs.Needs.{needed_fetches}
+use Rattle.search_routes.specs.Needs.{needed_fetches, follow_need}
 use Rattle.search_routes.specs.Openings.{opened_by, most_opened_by}
 
--- a request, and whether it finds no memory
-pub record Event : Type 0 where
-  pub request : Request
-  pub starved : Bool
-
--- the state after an event
-abbrev pub after_event : State → Event → State
-after_event s e = state_after s e.request e.starved
+-- the state as the next request finds it
+abbrev pub behind_event : State → Event → State
+behind_event s e = followed s e.request e.starved
 
 abbrev pub requests_of : List Event → List Request
 requests_of events = map (λ e. e.request) events
@@ -31,28 +27,27 @@ reply_to left s e = wire (answer_of s e.request e.starved) (says_close left e.re
 -- the replies to a run of events, one after the other, where so many requests may still come
 abbrev pub replies : ℕ → State → List Event → List (List ℕ)
 replies left s [] = []
-replies left s (e ∷ events) = reply_to left s e ∷ replies (left - 1) (after_event s e) events
+replies left s (e ∷ events) = reply_to left s e ∷ replies (left - 1) (behind_event s e) events
 
--- the state after a run
-abbrev pub after : State → List Event → State
-after s [] = s
-after s (e ∷ events) = after (after_event s e) events
+-- how many stored documents an event needs to read: those of the request, and those of the batch behind its reply
+abbrev pub event_need : State → Event → ℕ
+event_need s e = needed_fetches s e.request + follow_need s e.request e.starved
 
--- how many stored documents a run needs to read
+-- and a run
 abbrev pub needs : State → List Event → ℕ
 needs s [] = 0
-needs s (e ∷ events) = needed_fetches s e.request + needs (after_event s e) events
+needs s (e ∷ events) = event_need s e + needs (behind_event s e) events
 
 -- the log over a run: each request in turn opens its buckets
 abbrev pub Logs : State → List Event → LogState → LogState → Type 0
 Logs s [] old new = new ≡ old
 Logs s (e ∷ events) old new = (between : LogState) × Opens e.starved (opened_by s e.request) old between
-    × Logs (after_event s e) events between new
+    × Logs (behind_event s e) events between new
 
 -- how many buckets a run opens at most
 abbrev pub most_over : State → List Event → ℕ
 most_over s [] = 0
-most_over s (e ∷ events) = most_opened_by s e.request + most_over (after_event s e) events
+most_over s (e ∷ events) = most_opened_by s e.request + most_over (behind_event s e) events
 
 -- the reply to what ends a link, if there is one
 abbrev pub end_replies : End → List (List ℕ)

@@ -3,7 +3,7 @@ ghost use Rattle.std.specs.Prelude.{◌≡◌, ◌+◌, ◌++◌, ◌≤◌, fal
 ghost use Rattle.http_wire.specs.Wire.{request_of};
 ghost use Rattle.demo_input.specs.Steps.{steps};
 ghost use Rattle.demo_input.specs.Summary.{line_for};
-ghost use Rattle.search_routes.specs.Machine.{empty_state};
+ghost use Rattle.search_routes.specs.State.{empty_state};
 ghost use Rattle.search_routes.specs.Chosen.{answer_of, state_after};
 ghost use Rattle.search_routes.specs.Needs.{needed_fetches};
 ghost use Rattle.search_routes.specs.Openings.{most_opened_by};
@@ -58,7 +58,7 @@ fn add_line(
     Ok(())
 }
 
-// All that the demo prints.
+// All that the demo prints. Behind each reply all tasks that wait run.
 fn demo_text<F, G>(
     alloc: Global,
     count: u32,
@@ -77,13 +77,14 @@ fn demo_text<F, G>(
     while let Some(step) = demo.next(alloc)? {
         let Step { search, wire } = step;
         let body = reply_body(alloc, &mut machine, wire, log, fetches, openings)?;
+        machine.settle_all(alloc, fetches)?;
         add_line(alloc, &mut text, search, &body)?;
     }
     Ok(text)
 }
 
-/// Makes so many documents from a seed, sends them to a machine that holds nothing, searches it, and prints the totals
-/// and ids that it answers.
+/// Makes so many documents from a seed, sends them to a machine that holds nothing, lets it run their tasks, searches
+/// it, and prints the totals and ids that it answers.
 ///
 /// `Done`: all of it is written. `WriteFault`: a part is written and not the whole. `NoMemory`: nothing is.
 pub fn show_demo<P: Link, F, G>(

@@ -3,7 +3,7 @@ ghost use Rattle.std.specs.Prelude.{◌≡◌, ◌+◌, ◌++◌, ◌≤◌, len
 ghost use Rattle.std.specs.Io.KnownBytes.{append_known};
 ghost use Rattle.outside_io.specs.Faults.{HasCause};
 ghost use Rattle.http_wire.specs.Reply.{WrotePart};
-ghost use Rattle.search_server.specs.Lines.{link_line};
+ghost use Rattle.search_server.specs.Lines.{line_end as end_of_line, link_line};
 
 use crate::LinkEnd;
 use http_wire::write_all;
@@ -32,6 +32,14 @@ fn put_number(into: &mut [u8], at: usize, number: u64) -> usize
     put(into, at, Buffer::new().format(number).as_bytes())
 }
 
+// How a line ends, by whether a batch was put off.
+fn line_end(put_off: bool) -> &'static [u8]
+    ensures end { result.now ≡ end_of_line put_off }
+    ensures size { length result.now ≤ 9 }
+{
+    if put_off { b" put off\n" } else { b"\n" }
+}
+
 /// Tells how a link ended, in a line of its own. It takes no memory. `Failed`: the count of write faults rose, and a
 /// part of the line was written, not the whole.
 pub fn write_line<P: Link>(pipe: &mut P, number: u64, end: &LinkEnd) -> Result<(), Failed>
@@ -48,6 +56,6 @@ pub fn write_line<P: Link>(pipe: &mut P, number: u64, end: &LinkEnd) -> Result<(
     let at = put_number(&mut line, at, end.status.number() as u64);
     let at = put(&mut line, at, b" requests ");
     let at = put_number(&mut line, at, end.requests);
-    let at = put(&mut line, at, b"\n");
+    let at = put(&mut line, at, line_end(end.put_off));
     write_all(pipe, &line[..at])
 }

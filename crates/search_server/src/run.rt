@@ -1,5 +1,5 @@
 // What the program does for the words of the command line.
-ghost use Rattle.std.specs.Prelude.{◌≡◌, ◌↔◌, ◌≤◌, ℕ, Some, None, false, IfErr, IfOk};
+ghost use Rattle.std.specs.Prelude.{◌≡◌, ◌↔◌, ◌≤◌, ℕ, Bool, Some, None, false, IfErr, IfOk};
 ghost use Rattle.change_journal.specs.Shut.{is_told};
 ghost use Rattle.durable_machine.specs.Durable.{IsDurable};
 ghost use Rattle.bucket_sort.specs.Opens.{log_state};
@@ -90,10 +90,10 @@ pub fn run_search_server<P: Link, D: Door, K: Disk, F, G>(
         (unopened_state K.contents K.disk_faults fetches.old openings.old disk_a.old disk_b.old)
         (unopened_state K.contents K.disk_faults fetches.new openings.new disk_a.new disk_b.new)
         result (pipe.new ≡ pipe.old)
-        (λ found left. (requests passed : ℕ) × Serves
+        (λ found left. (requests passed : ℕ) × (put_off : Bool) × Serves
         (link_state P.left P.told P.read_faults P.write_faults pipe.old found)
         (link_state P.left P.told P.read_faults P.write_faults pipe.new left)
-        (record { status = result; requests = requests; passed = passed })) }
+        (record { status = result; requests = requests; passed = passed; put_off = put_off })) }
     ensures serve { (port connections : ℕ) → command_of words.now ≡ Some (Command.Serve port connections)
         → (P.left pipe.new ≡ P.left pipe.old) × (P.read_faults pipe.new ≡ P.read_faults pipe.old)
         × OpensAndServes ((BucketLog-box log).told log.value)

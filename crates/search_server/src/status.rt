@@ -70,4 +70,6 @@ pub struct LinkEnd {
     pub requests: u64,
     /// How many checkpoints were due and passed over for want of memory.
     pub passed: u64,
+    /// Whether the batch of tasks behind the last reply found no memory. Its tasks wait then, and the reply is whole.
+    pub put_off: bool,
 }

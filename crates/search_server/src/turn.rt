@@ -1,7 +1,12 @@
 // One turn of a link: one request and its reply.
-ghost use Rattle.std.specs.Prelude.{◌≡◌, ◌⊎◌, ◌==◌, ◌||◌, ◌<◌, ◌≤◌, ◌+◌, true, false, IfSome};
+ghost use Rattle.std.specs.Prelude.{◌≡◌, ◌≢◌, ◌⊎◌, ◌==◌, ◌||◌, ◌<◌, ◌≤◌, ◌+◌, true, false, [], Option, IfSome, OnOk, OnErr, if◌then◌else◌};
 ghost use Rattle.std.specs.Io.KnownBytes.{prepend_known};
+ghost use Rattle.outside_io.specs.Disks.{Contents};
 ghost use Rattle.change_journal.specs.Shut.{is_told};
+ghost use Rattle.queued_changes.specs.State.{accepted};
+ghost use Rattle.queued_changes.specs.Machine.{settle};
+ghost use Rattle.named_indexes.specs.Changes.{changed};
+ghost use Rattle.search_routes.specs.Needs.{batch_need};
 ghost use Rattle.durable_machine.specs.Durable.{IsDurable};
 ghost use Rattle.bucket_sort.specs.Opens.{log_state};
 ghost use Rattle.search_server.specs.LinkState.{link_state, shared_state};
@@ -13,7 +18,7 @@ use bucket_sort::BucketLog;
 use durable_machine::{Answered, DurableMachine};
 use http_wire::{HeadKind, Kept, WireEnd, read_request, write_refusal, write_reply};
 use outside_io::{Disk, Failed, Link};
-use search_base::Steps;
+use search_base::{NoMemory, Steps};
 use std::alloc::Global;
 
 /// What a turn came to.
@@ -23,6 +28,8 @@ pub enum Turn {
     Next,
     /// A reply was written to a request that asked to close.
     Closed,
+    /// A reply was written, and the batch of tasks behind it found no memory.
+    PutOff,
     End,
     CutShort { rest: u64 },
     /// A head was refused, and the answer to it was written.
@@ -45,9 +52,11 @@ impl Turn {
         ensures turn { result ≡ end_by before passed self }
         ensures passed { IfSome result (λ end. end.passed ≡ passed) }
     {
+        let put_off = matches!(self, Turn::PutOff);
         let (status, requests) = match self {
             Turn::Next => return None,
             Turn::Closed => (Status::Done, before + 1),
+            Turn::PutOff => (Status::NoMemory, before + 1),
             Turn::End => (Status::Done, before),
             Turn::CutShort { rest } => (Status::CutShort { rest }, before),
             Turn::Bad { kind, number } => (Status::BadHead { kind, number }, before),
@@ -61,6 +70,7 @@ impl Turn {
             status,
             requests,
             passed,
+            put_off,
         })
     }
 }
@@ -84,9 +94,33 @@ fn count(passed: &mut u64, is_passed: bool)
     }
 }
 
+// Runs the oldest batch of tasks where it comes behind the reply. Its error is want of memory: the batch waits, and all
+// is as it was.
+fn follow<F>(
+    alloc: Global,
+    machine: &mut DurableMachine,
+    follows: bool,
+    fetches: &mut Steps<F>,
+) -> Result<(), NoMemory>
+    ensures ran { OnOk result (machine.new.machine
+        ≡ (if follows then settle changed machine.old.machine else machine.old.machine)) }
+    ensures stays { OnErr result (machine.new.machine ≡ machine.old.machine) }
+    ensures waits { OnErr result (machine.old.machine.queue ≢ []) }
+    ensures journal { machine.new.journal ≡ machine.old.journal }
+    ensures accepted { accepted machine.new.machine ≡ accepted machine.old.machine }
+    ensures durable { (a b : Option Contents) → IsDurable machine.old a b → IsDurable machine.new a b }
+    ensures fetched { fetches.new ≤ fetches.old + (if follows then batch_need machine.old.machine else 0) }
+{
+    if follows {
+        machine.settle(alloc, fetches)?;
+    }
+    Ok(())
+}
+
 /// Reads one request and writes its reply, where `left` requests may still come. The reply is begun only once the
-/// request is recorded. `passed` counts the checkpoints that are due and were passed over. The log is told each bucket
-/// that the request opens.
+/// request is recorded, and behind one that is neither 202 nor the one for want of memory the oldest batch of tasks
+/// runs. `passed` counts the checkpoints that are due and were passed over. The log is told each bucket that the
+/// request opens.
 pub fn serve_one<P: Link, K: Disk, F, G>(
     alloc: Global,
     machine: &mut DurableMachine,
@@ -112,7 +146,7 @@ pub fn serve_one<P: Link, K: Disk, F, G>(
     ensures durable { (result ≡ Turn.DiskFault) ⊎ IsDurable machine.new (K.contents disk_a.new) (K.contents disk_b.new) }
     ensures due { (result ≡ Turn.DiskFault) ⊎ PassedIfDue machine.old machine.new passed.new }
     ensures passed { passed.old ≤ passed.new }
-    ensures passed_few { passed.new + machine.old.machine.changes ≤ passed.old + machine.new.machine.changes }
+    ensures passed_few { passed.new + accepted machine.old.machine ≤ passed.old + accepted machine.new.machine }
     ensures read_later { P.read_faults link.old ≤ P.read_faults link.new }
     ensures write_later { P.write_faults link.old ≤ P.write_faults link.new }
     ensures told_a { is_told (K.contents disk_a.new) ≡ is_told (K.contents disk_a.old) }
@@ -137,12 +171,16 @@ pub fn serve_one<P: Link, K: Disk, F, G>(
                     Answered {
                         reply,
                         passed: is_passed,
+                        follows,
                     },
                 ) => {
                     count(passed, is_passed);
                     match write_reply(link, &reply, says_close(closes, left)) {
                         Err(Failed) => Turn::ReplyFault,
-                        Ok(()) => { if closes { Turn::Closed } else { Turn::Next } }
+                        Ok(()) => match follow(alloc, machine, follows, fetches) {
+                            Err(NoMemory) => Turn::PutOff,
+                            Ok(()) => { if closes { Turn::Closed } else { Turn::Next } }
+                        },
                     }
                 }
             }

@@ -1,6 +1,6 @@
 ghost use Rattle.std.specs.Prelude.{◌<◌};
 
-use crate::checks::{add, bytes, check, text_of};
+use crate::checks::{add, bytes, check};
 use crate::disks::{crashed, empty_disk, serve_on};
 use http_wire::HeadKind;
 use outside_io::MemoryLink;
@@ -8,18 +8,21 @@ use search_server::{LinkEnd, Status};
 use std::alloc::Global;
 use std::process::Abort;
 
+// The task of the first request runs behind the reply to the second.
 const ADD_AND_SEARCH: &[u8] =
     b"POST /indexes/m/documents HTTP/1.1\r\ncontent-length: 254\r\n\r\n[{\"id\":1,\
     \"title\":\"The Dark Knight\",\"year\":2008,\"genres\":[\"Action\",\"Drama\"]\
     },{\"id\":2,\"title\":\"Dark Knight Rises\",\"year\":2012,\"genres\":[\"Action\"]\
     },{\"id\":3,\"title\":\"Knight of the Dark\",\"year\":1999},{\"id\":4,\"title\":\"Darkness\",\
-    \"year\":2002,\"genres\":[\"drama\"]}]POST /indexes/m/search HTTP/1.1\r\n\
+    \"year\":2002,\"genres\":[\"drama\"]}]POST /multi-search HTTP/1.1\r\n\
+    content-length: 14\r\n\r\n{\"queries\":[]}POST /indexes/m/search HTTP/1.1\r\n\
     content-length: 2\r\n\r\n{}";
 
 const ADDED_AND_FOUND: &[u8] =
-    b"HTTP/1.1 202 Accepted\r\ncontent-length: 83\r\ncontent-type: application/json\r\n\
-    \r\n{\"indexUid\":\"m\",\"status\":\"succeeded\",\"taskUid\":0,\"type\":\"documentAdditionOrUpdate\"}HTT\
-    P/1.1 200 OK\r\ncontent-length: 319\r\ncontent-type: application/json\r\n\
+    b"HTTP/1.1 202 Accepted\r\ncontent-length: 82\r\ncontent-type: application/json\r\n\
+    \r\n{\"indexUid\":\"m\",\"status\":\"enqueued\",\"taskUid\":0,\"type\":\"documentAdditionOrUpdate\"}\
+    HTTP/1.1 200 OK\r\ncontent-length: 14\r\ncontent-type: application/json\r\n\
+    \r\n{\"results\":[]}HTTP/1.1 200 OK\r\ncontent-length: 319\r\ncontent-type: application/json\r\n\
     \r\n{\"estimatedTotalHits\":4,\"hits\":[{\"genres\":[\"Action\",\"Drama\"]\
     ,\"id\":1,\"title\":\"The Dark Knight\",\"year\":2008},{\"genres\":[\"Action\"]\
     ,\"id\":2,\"title\":\"Dark Knight Rises\",\"year\":2012},{\"id\":3,\"title\":\"Knight of the Dark\",\
@@ -49,6 +52,7 @@ fn check_end(rt: &impl Abort, end: LinkEnd, status: Status, requests: u64) {
     check(rt, end.status == status, "status");
     check(rt, end.requests == requests, "requests");
     check(rt, end.passed == 0, "passed");
+    check(rt, !end.put_off, "no batch is put off");
 }
 
 // A new machine serves a link, which ends so and on which this is written.
@@ -70,7 +74,7 @@ fn check_page_at(rt: &impl Abort, alloc: Global, most: usize)
     requires { 0 < most }
 {
     let link = link(rt, alloc, ADD_AND_SEARCH, &[], most);
-    check_served(rt, alloc, link, Status::Done, 2, ADDED_AND_FOUND);
+    check_served(rt, alloc, link, Status::Done, 3, ADDED_AND_FOUND);
 }
 
 #[test]
@@ -225,57 +229,6 @@ fn line_ends_alone_are_passed_over(rt: HostRuntime) {
     check_served(&rt, alloc, link, Status::Done, 0, b"");
 }
 
-// A body, and why it has no documents.
-const REFUSED: [(&str, &str); 6] = [
-    ("x", "The body is not JSON."),
-    ("5", "The body is not a list."),
-    ("[{\"id\":1},7]", "Document 2 is not an object."),
-    (
-        "[{\"id\":1,\"a\":1.5}]",
-        "Document 1 has a number at `a` that is not whole.",
-    ),
-    ("[{\"id\":1},{\"a\":2}]", "Document 2 has no `id`."),
-    ("[{\"id\":\"a b\"}]", "Document 1 has an invalid id."),
-];
-
-// The documents of a body, and a request without a route.
-fn refused_link(rt: &impl Abort, alloc: Global, body: &str) -> MemoryLink {
-    let input = format!(in alloc;
-        "POST /indexes/m/documents HTTP/1.1\ncontent-length: {}\n\n{body}GET /none HTTP/1.1\n\n",
-        body.len()
-    );
-    link(rt, alloc, input.expect(rt, "memory").as_bytes(), &[], 4096)
-}
-
-fn check_refused(rt: &impl Abort, alloc: Global, body: &str, message: &str) {
-    let mut link = refused_link(rt, alloc, body);
-    let end = serve(rt, alloc, &mut link);
-    check_end(rt, end, Status::Done, 2);
-    let text = text_of(rt, link.written());
-    check(
-        rt,
-        text.starts_with("HTTP/1.1 400 Bad Request\r\n"),
-        message,
-    );
-    check(rt, text.contains(message), message);
-}
-
-#[test]
-fn refused_documents_leave_the_link_open(rt: HostRuntime) {
-    for (body, message) in &REFUSED {
-        check_refused(&rt, rt.alloc(), body, message);
-    }
-}
-
-#[test]
-fn documents_that_nest_too_deep_leave_the_link_open(rt: HostRuntime) {
-    let alloc = rt.alloc();
-    let mut body = "[".repeat(alloc, 128).expect(&rt, "memory");
-    let closing = "]".repeat(alloc, 128).expect(&rt, "memory");
-    body.push_str(&closing).expect(&rt, "memory");
-    check_refused(&rt, alloc, &body, "The body is not JSON.");
-}
-
 // What a crash leaves of the disks is opened again.
 #[test]
 fn a_link_that_failed_once_is_served_afterwards(rt: HostRuntime) {
@@ -288,17 +241,23 @@ fn a_link_that_failed_once_is_served_afterwards(rt: HostRuntime) {
     let mut disk_a = crashed(&rt, &disk_a, 0);
     let mut disk_b = crashed(&rt, &disk_b, 0);
     let end = serve_on(&rt, alloc, &mut link, &mut disk_a, &mut disk_b);
-    check_end(&rt, end, Status::Done, 2);
+    check_end(&rt, end, Status::Done, 3);
     check(&rt, link.written() == ADDED_AND_FOUND, "written");
 }
 
 // A target, a body, and the status and the body of the reply.
-const EXCHANGES: [(&str, &str, &str, &str); 6] = [
+const EXCHANGES: [(&str, &str, &str, &str); 7] = [
     (
         "/indexes",
         r#"{"uid":"e"}"#,
         "202 Accepted",
-        r#"{"indexUid":"e","status":"succeeded","taskUid":1,"type":"indexCreation"}"#,
+        r#"{"indexUid":"e","status":"enqueued","taskUid":1,"type":"indexCreation"}"#,
+    ),
+    (
+        "/multi-search",
+        r#"{"queries":[]}"#,
+        "200 OK",
+        r#"{"results":[]}"#,
     ),
     (
         "/indexes/e/search",
@@ -358,7 +317,7 @@ fn check_exchanges(rt: &impl Abort, alloc: Global, most: usize)
         add_reply(rt, alloc, status, answer, &mut output);
     }
     let link = link(rt, alloc, &input, &[], most);
-    check_served(rt, alloc, link, Status::Done, 8, &output);
+    check_served(rt, alloc, link, Status::Done, 10, &output);
 }
 
 #[test]

@@ -18,6 +18,12 @@ const FOUR: &str = r#"[{"id":1,"title":"The Dark Knight","year":2008,"genres":["
 {"id":2,"title":"Dark Knight Rises","year":2012,"genres":["Action"]},{"id":3,"title":"Knight of the Dark","year":1999},
 {"id":4,"title":"Darkness","year":2002,"genres":["drama"]}]"#;
 
+const SEVERAL: &str = "/multi-search";
+
+const NONE: &str = r#"{"queries":[]}"#;
+
+const NONE_FOUND: &str = r#"{"results":[]}"#;
+
 const SEARCH: &str = "/indexes/m/search";
 
 const DARK: &str = r#"{"q":"dark","attributesToRetrieve":["id"]}"#;
@@ -134,8 +140,8 @@ fn check_reply(rt: &impl Abort, reply: &str, status: &str, body: &str) {
     check(rt, reply.ends_with(body), body);
 }
 
-// A machine of the four documents is searched on one link, of which a log is told, and then for `dark` on the next, of
-// which a quiet one is told.
+// A machine of the four documents, which are added behind the reply to a request without searches, is searched on one
+// link, of which a log is told, and then for `dark` on the next, of which a quiet one is told.
 fn check_row(
     rt: &impl Abort,
     alloc: Global,
@@ -151,6 +157,8 @@ fn check_row(
     let (machine, a, b) = (&mut machine, &mut disk_a, &mut disk_b);
     let added = reply(rt, alloc, machine, a, b, log, ADD, FOUR);
     check_reply(rt, &added, "202 Accepted", "");
+    let followed = reply(rt, alloc, machine, a, b, log, SEVERAL, NONE);
+    check_reply(rt, &followed, "200 OK", NONE_FOUND);
     let found = reply(rt, alloc, machine, a, b, log, SEARCH, row.search);
     check_reply(rt, &found, row.status, row.body);
     check_text(rt, &heard(rt, alloc, log), row.told, row.search);

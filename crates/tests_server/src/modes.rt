@@ -171,8 +171,9 @@ fn words_that_are_no_command(rt: HostRuntime) {
 
 const TWO: &str = "GET /health HTTP/1.1\r\nHost: x\r\n\r\n|GET /health HT";
 
+// The second link finds the task of the first, which runs behind the first reply on it.
 const MADE_AND_SHOWN: &str = "POST /indexes HTTP/1.1\r\ncontent-length: 11\r\n\r\n{\"uid\":\"m\"}|\
-    GET /indexes/m HTTP/1.0\r\n\r\n";
+    GET /tasks/0 HTTP/1.1\r\n\r\nGET /indexes/m HTTP/1.0\r\n\r\n";
 
 const REFUSED: &str = "POST /indexes HTTP/1.1\r\n\r\n|";
 
@@ -185,8 +186,10 @@ const HEALTHY_AND_CUT: &str =
     {\"status\":\"available\"}||";
 
 const MADE_AND_SEEN: &str =
-    "HTTP/1.1 202 Accepted\r\ncontent-length: 72\r\ncontent-type: application/json\r\n\r\n\
-    {\"indexUid\":\"m\",\"status\":\"succeeded\",\"taskUid\":0,\"type\":\"indexCreation\"}|\
+    "HTTP/1.1 202 Accepted\r\ncontent-length: 71\r\ncontent-type: application/json\r\n\r\n\
+    {\"indexUid\":\"m\",\"status\":\"enqueued\",\"taskUid\":0,\"type\":\"indexCreation\"}|\
+    HTTP/1.1 200 OK\r\ncontent-length: 80\r\ncontent-type: application/json\r\n\r\n\
+    {\"error\":null,\"indexUid\":\"m\",\"status\":\"enqueued\",\"type\":\"indexCreation\",\"uid\":0}\
     HTTP/1.1 200 OK\r\ncontent-length: 29\r\ncontent-type: application/json\r\nconnection: close\r\n\r\n\
     {\"primaryKey\":null,\"uid\":\"m\"}|";
 
@@ -199,7 +202,7 @@ const FIRST: &str = "link 1 status 0 requests 1\n";
 
 const BOTH: &str = "link 1 status 0 requests 1\nlink 2 status 8 requests 0\n";
 
-const DONE: &str = "link 1 status 0 requests 1\nlink 2 status 0 requests 1\n";
+const DONE: &str = "link 1 status 0 requests 1\nlink 2 status 0 requests 2\n";
 
 const BAD: &str = "link 1 status 9 requests 0\nlink 2 status 0 requests 0\n";
 

@@ -14,7 +14,8 @@ const FIRST: &str = "0152414e4b49445801000000000000000d0000000000000001000000000
 const WITH_E: &str = "0152414e4b49445801000000000000000d0000000000000001000000000000000000000000 01
     0000000000000000 07000000 01 01000000 65 00 00";
 
-const MAKE_E: &str = "POST /indexes HTTP/1.1\r\nContent-Length: 11\r\n\r\n{\"uid\":\"e\"}";
+const MAKE_E_AND_F: &str = "POST /indexes HTTP/1.1\r\nContent-Length: 11\r\n\r\n{\"uid\":\"e\"}\
+    POST /indexes HTTP/1.1\r\nContent-Length: 11\r\n\r\n{\"uid\":\"f\"}";
 
 const LIST: &str = "GET /indexes HTTP/1.1\r\n\r\n";
 
@@ -140,12 +141,16 @@ const THREE: &str = "0152414e4b49445801000000000000000d0000000000000003000000000
 const INSIDE: &str =
     "0152414e4b49445801000000000000000e0000000000000001000000000000000001000000ff01";
 
-// The machine refuses to make an index again that is there.
+// An index is made again that is there: that task fails.
 const TAKEN: &str = "0152414e4b49445801000000000000000d0000000000000001000000000000000000000000 01
     0000000000000000 07000000 01 01000000 65 00 01 0100000000000000 07000000 01 01000000 65 00 00";
 
+// No request makes an index of this uid.
+const NO_UID: &str = "0152414e4b49445801000000000000000d0000000000000001000000000000000000000000 01
+    0000000000000000 07000000 01 01000000 20 00 00";
+
 // The status, disk 0, disk 1, the call from which disk 0 fails, disk 0 and disk 1 then.
-const OPENINGS: [(&str, &str, &str, u64, &str, &str); 11] = [
+const OPENINGS: [(&str, &str, &str, u64, &str, &str); 12] = [
     ("0", "", "", 40, FIRST, ""),
     ("0", "", "00 ff", 40, FIRST, "00 ff"),
     ("0", FIRST, "", 40, FIRST, ""),
@@ -153,7 +158,8 @@ const OPENINGS: [(&str, &str, &str, u64, &str, &str); 11] = [
     ("0 24 3", THREE, "", 40, THREE, ""),
     ("1 8 1", FIRST, FIRST, 40, FIRST, FIRST),
     ("0 37 255", INSIDE, "", 40, INSIDE, ""),
-    ("0 70 1", TAKEN, "", 40, TAKEN, ""),
+    ("0", TAKEN, "", 40, TAKEN, ""),
+    ("0 50 1", NO_UID, "", 40, NO_UID, ""),
     ("6", FIRST, "", 0, FIRST, ""),
     ("6", "", "", 2, "", ""),
     ("6", "", "", 3, "", ""),
@@ -182,50 +188,84 @@ fn what_opening_two_disks_comes_to(rt: HostRuntime) {
     }
 }
 
-// The call from which disk 0 fails, how many later writes the crash lets through, the status, and whether the change
-// is there.
-const STOPS: [(u64, u64, &str, bool); 9] = [
-    (4, 0, "6", false),
-    (5, 0, "6", false),
-    (5, 1, "6", false),
-    (6, 1, "6", false),
-    (7, 0, "6", false),
-    (7, 1, "6", true),
-    (8, 0, "6", false),
-    (8, 1, "6", true),
-    (9, 0, "0", true),
+const NONE: &str = r#""results":[],"total":0}"#;
+
+const E: &str = r#""results":[{"primaryKey":null,"uid":"e"}],"total":1}"#;
+
+const E_AND_F: &str =
+    r#""results":[{"primaryKey":null,"uid":"e"},{"primaryKey":null,"uid":"f"}],"total":2}"#;
+
+const NOTHING: &str = "";
+
+const FIRST_REPLY: &str =
+    "HTTP/1.1 202 Accepted\r\ncontent-length: 71\r\ncontent-type: application/json\r\n\r\n\
+    {\"indexUid\":\"e\",\"status\":\"enqueued\",\"taskUid\":0,\"type\":\"indexCreation\"}";
+
+const BOTH_REPLIES: &str =
+    "HTTP/1.1 202 Accepted\r\ncontent-length: 71\r\ncontent-type: application/json\r\n\r\n\
+    {\"indexUid\":\"e\",\"status\":\"enqueued\",\"taskUid\":0,\"type\":\"indexCreation\"}\
+    HTTP/1.1 202 Accepted\r\ncontent-length: 71\r\ncontent-type: application/json\r\n\r\n\
+    {\"indexUid\":\"f\",\"status\":\"enqueued\",\"taskUid\":1,\"type\":\"indexCreation\"}";
+
+// The call from which disk 0 fails, how many later writes the crash lets through, the status, what is told, and how the
+// list of indexes ends then.
+const STOPS: [(u64, u64, &str, &str, &str); 19] = [
+    (4, 0, "6", NOTHING, NONE),
+    (4, 1, "6", NOTHING, NONE),
+    (5, 0, "6", NOTHING, NONE),
+    (5, 1, "6", NOTHING, NONE),
+    (6, 0, "6", NOTHING, NONE),
+    (6, 1, "6", NOTHING, NONE),
+    (7, 0, "6", NOTHING, NONE),
+    (7, 1, "6", NOTHING, E),
+    (8, 0, "6", NOTHING, NONE),
+    (8, 1, "6", NOTHING, E),
+    (9, 0, "6", FIRST_REPLY, E),
+    (9, 1, "6", FIRST_REPLY, E),
+    (10, 0, "6", FIRST_REPLY, E),
+    (10, 1, "6", FIRST_REPLY, E),
+    (11, 0, "6", FIRST_REPLY, E),
+    (11, 1, "6", FIRST_REPLY, E_AND_F),
+    (12, 0, "6", FIRST_REPLY, E),
+    (12, 1, "6", FIRST_REPLY, E_AND_F),
+    (13, 0, "0", BOTH_REPLIES, E_AND_F),
 ];
 
 fn stopped(rt: &impl Abort, alloc: Global, from: u64) -> Outcome {
     let disk_a = disk(rt, alloc, FIRST, from);
     let disk_b = disk(rt, alloc, "", 40);
-    run(rt, alloc, MAKE_E, disk_a, disk_b)
+    run(rt, alloc, MAKE_E_AND_F, disk_a, disk_b)
 }
 
-// Whether the list of indexes after a crash has one.
-fn check_listed(rt: &impl Abort, alloc: Global, ran: &Outcome, kept: u64, is_there: bool) {
+// How the list of indexes ends after a crash.
+fn check_listed(rt: &impl Abort, alloc: Global, ran: &Outcome, kept: u64, listed: &str) {
     let disk_a = crashed(rt, &ran.disk_a, kept);
     let disk_b = crashed(rt, &ran.disk_b, kept);
     let again = run(rt, alloc, LIST, disk_a, disk_b);
     check_text(rt, &again.status, "0", "status");
-    check(rt, again.told.contains("\"total\":1") == is_there, "total");
+    check(rt, again.told.ends_with(listed), listed);
 }
 
-// A change is there or not after a crash, and there wherever its reply was begun. Disk 0 holds no index and fails from a
-// call on: opening makes the calls 0 to 4, the last of them a sync, and recording the change the calls 5 to 8.
+// A task is there or not after a crash, and there wherever its reply was begun, one that waits behind another too.
+// Disk 0 holds no index and fails from a call on: opening makes the calls 0 to 4, the last of them a sync, recording
+// the first task the calls 5 to 8, and the second, while the first waits, the calls 9 to 12.
 #[test]
-fn a_stop_while_a_change_is_recorded(rt: HostRuntime) {
+fn a_stop_while_a_task_waits_behind_another(rt: HostRuntime) {
     let alloc = rt.alloc();
-    for (from, kept, status, is_there) in &STOPS {
+    for (from, kept, status, told, listed) in &STOPS {
         let ran = stopped(&rt, alloc, *from);
         check_text(&rt, &ran.status, status, "status");
-        check(&rt, ran.told.is_empty() == (*status == "6"), status);
-        check_listed(&rt, alloc, &ran, *kept, *is_there);
+        check_text(&rt, &ran.told, told, listed);
+        check_listed(&rt, alloc, &ran, *kept, listed);
     }
 }
 
 const PATCH_HEAD: &[u8] =
     b"PATCH /indexes/e/settings HTTP/1.1\r\nContent-Length: 9000028\r\n\r\n{\"displayedAttributes\":[\"";
+
+// How a disk begins after the second checkpoint, of no index, where tasks wait.
+const CHECKPOINT: &str =
+    "0152414e4b49445802000000000000000d0000000000000001000000000000000000000000 01 0000000000000000";
 
 // Adds a request that gives the settings of `e` one displayed attribute of nine million bytes.
 fn add_patch(rt: &impl Abort, alloc: Global, letter: &str, input: &mut Vec<u8>) {
@@ -235,7 +275,8 @@ fn add_patch(rt: &impl Abort, alloc: Global, letter: &str, input: &mut Vec<u8>) 
     add(rt, input, b"\"]}");
 }
 
-// The second of two such patches makes the journal longer than 16 MiB, so that a checkpoint is made on disk 1.
+// The second of two such patches makes the journal longer than 16 MiB, so that a checkpoint is made on disk 1: an image
+// of no index, and both tasks, which still wait, as its journal.
 #[test]
 fn a_long_journal_ends_in_a_checkpoint(rt: HostRuntime) {
     let alloc = rt.alloc();
@@ -249,7 +290,7 @@ fn a_long_journal_ends_in_a_checkpoint(rt: HostRuntime) {
     check(&rt, end.status.number() == 0, "status");
     check(&rt, end.requests == 2, "requests");
     check(&rt, end.passed == 0, "passed");
-    let header = bytes_of(&rt, alloc, "0152414e4b4944580200000000000000");
-    check(&rt, disk_b.content().len() > 9_000_000, "length");
-    check(&rt, disk_b.content().starts_with(&header), "header");
+    let begins = bytes_of(&rt, alloc, CHECKPOINT);
+    check(&rt, disk_b.content().len() > 18_000_000, "length");
+    check(&rt, disk_b.content().starts_with(&begins), "begins");
 }

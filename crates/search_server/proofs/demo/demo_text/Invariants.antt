@@ -1,7 +1,7 @@
 use Rattle.std.proofs.Common.{◌≡◌, ◌+◌, ◌++◌, ◌≤◌, length, flat_map, string_bytes}
 use Rattle.demo_input.specs.Steps.{steps}
 use Rattle.demo_input.specs.Summary.{line_for}
-use Rattle.search_routes.specs.Machine.{empty_state}
+use Rattle.search_routes.specs.State.{empty_state}
 use Rattle.search_server.specs.Demo.{replied, demo_needs, demo_openings, demo_text}
 use Rattle.search_server.proofs.demo.demo_text.Given as goal
 

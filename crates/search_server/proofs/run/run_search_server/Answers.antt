@@ -46,7 +46,8 @@ returns-in-Some-Pipe-clause-pipe g c = λ is.
         (
           c.serve_link.result.requests,
           c.serve_link.result.passed,
-          record { promise = served.promise; telling = served.telling; cause = served.cause; crash = served.crash },
+          c.serve_link.result.put_off,
+          record { promise = served.promise; telling = served.telling; cause = served.cause; crash = served.crash; waits = served.waits },
         ),
       ),
     )

@@ -1,5 +1,6 @@
 use Rattle.std.proofs.Common.{◌≡◌, Some, None, [], false, refl, sym, subst, ap, ◌∙◌, ◌-◌, arith, inr}
 use Rattle.std.specs.Io.KnownBytes.{prepend_known}
+use Rattle.std.proofs.lemmas.Bool.{false≢true}
 use Rattle.durable_machine.specs.Durable.{IsDurable}
 use Rattle.durable_machine.proofs.Crash.{crash_now}
 use Rattle.bucket_sort.specs.Opens.{log_state}
@@ -7,7 +8,7 @@ use Rattle.search_server.specs.LinkState.{LinkState, link_state, shared_state}
 use Rattle.search_server.specs.Passed.{PassedIfDue}
 use Rattle.search_server.specs.Turns.{end_by}
 use Rattle.search_server.proofs.Progress.{LeftBy}
-use Rattle.search_server.proofs.Serving.{starts, goes_on, ends_spent, served_by, caused_by, replied_by, went_on, ended_well, due_later, nothing_yet}
+use Rattle.search_server.proofs.Serving.{starts, goes_on, ends_spent, served_by, caused_by, waits_by, replied_by, went_on, ended_well, due_later, nothing_yet}
 use Rattle.search_server.proofs.Telling.{turn_tells, without_kept}
 use Rattle.search_server.proofs.serve.serve_link.Goals as goal
 
@@ -20,6 +21,7 @@ returns-in_default-clause-promise g c =
       telling = (refl, refl);
       cause = tt;
       crash = λ going. crash_now c.args.machine.now start.disk_a.contents start.disk_b.contents c.requires.durable;
+      waits = λ e. absurd (false≢true e);
     }
 
 pub loop-served-init : goal.loop-served-init
@@ -112,6 +114,7 @@ returns-in-Some-clause-promise g c =
           c.serve_one-turn.ensures.turn ends left;
       crash = λ going. crash_now c.serve_one-turn.new.machine final.disk_a.contents final.disk_b.contents
           (ended_well n c.serve_one-turn.new.passed c.serve_one-turn.result c.in-Some.end (IsDurable c.serve_one-turn.new.machine (g.K.Disk.contents c.serve_one-turn.new.disk_a) (g.K.Disk.contents c.serve_one-turn.new.disk_b)) c.serve_one-turn.ensures.durable ends going);
+      waits = waits_by old new final (1000000 - n) n c.serve_one-turn.new.passed c.serve_one-turn.new.kept c.serve_one-turn.result c.in-Some.end c.serve_one-turn.ensures.turn ends left;
     }
 
 pub returns-clause-promise : goal.returns-clause-promise
@@ -129,4 +132,5 @@ returns-clause-promise g c =
       telling = (c.loop-served.invariant.left_telling, c.loop-served.invariant.told_telling);
       cause = tt;
       crash = λ going. crash_now c.loop-served.machine final.disk_a.contents final.disk_b.contents c.loop-served.invariant.durable;
+      waits = λ e. absurd (false≢true e);
     }

@@ -1,6 +1,7 @@
 use Rattle.std.proofs.Common.{◌≡◌, ◌+◌, ◌≤◌, ℕ, List, Some, false}
 use Rattle.std.specs.Io.KnownBytes.{prepend_known}
 use Rattle.change_journal.specs.Shut.{is_told}
+use Rattle.queued_changes.specs.State.{accepted}
 use Rattle.durable_machine.specs.Durable.{IsDurable}
 use Rattle.bucket_sort.specs.Opens.{log_state}
 use Rattle.search_server.specs.LinkState.{link_state, shared_state}
@@ -20,7 +21,7 @@ invariant-loop-served g l = record {
       l.served false;
   durable : IsDurable l.machine (g.K.Disk.contents l.disk_a) (g.K.Disk.contents l.disk_b);
   due : PassedIfDue l.fn.machine l.machine l.passed;
-  passed_few : l.passed + l.fn.machine.machine.changes ≤ l.machine.machine.changes;
+  passed_few : l.passed + accepted l.fn.machine.machine ≤ accepted l.machine.machine;
   read_later : g.P.Link.read_faults l.fn.link ≤ g.P.Link.read_faults l.link;
   write_later : g.P.Link.write_faults l.fn.link ≤ g.P.Link.write_faults l.link;
   left_telling : GoesOnTelling (g.P.Link.left l.fn.link) (g.P.Link.left l.link);
