@@ -11,7 +11,6 @@ that differ are told. Nothing tests these numbers.
 """
 import argparse
 import os
-import sys
 import tempfile
 
 import catalogue
@@ -29,9 +28,8 @@ def filled(binary, others, documents):
         batch = [made.document(number) for number in range(first, min(first + catalogue.BATCH, documents))]
         bodies.append([{name: one[name] for name in ("id", "title", "text")} for one in batch])
     for body in bodies:
-        status, reply, _ = program.ask("POST", "/indexes/c/documents", body)
-        if b" 202 " not in status:
-            sys.exit(f"{status} {reply[:200]}")
+        program.change("POST", "/indexes/c/documents", body)
+    program.settle()
     return program
 
 

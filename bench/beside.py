@@ -21,24 +21,24 @@ import catalogue
 def fill(program, many):
     """Loads both with the same documents, and tells the microseconds a document of each."""
     made = catalogue.Catalogue()
-    program.ask("PATCH", "/indexes/c/settings", {
+    program.change("PATCH", "/indexes/c/settings", {
         "searchableAttributes": ["title", "text"],
         "filterableAttributes": ["brand", "price"],
         "sortableAttributes": ["price"],
     })
+    program.settle()
     base = sqlite3.connect(":memory:")
     base.execute("create virtual table c using fts5(title, text, prefix='2')")
     ours, theirs = program.cpu(), 0.0
     for first in range(0, many, catalogue.BATCH):
         batch = [made.document(number) for number in range(first, min(first + catalogue.BATCH, many))]
-        status, reply, _ = program.ask("POST", "/indexes/c/documents", batch)
-        if b" 202 " not in status:
-            sys.exit(f"{status} {reply[:200]}")
+        program.change("POST", "/indexes/c/documents", batch)
         rows = [(document["id"], document["title"], document["text"]) for document in batch]
         begun = time.process_time()
         with base:
             base.executemany("insert into c(rowid, title, text) values (?, ?, ?)", rows)
         theirs += time.process_time() - begun
+    program.settle()
     return made, base, (program.cpu() - ours) / many * 1e6, theirs / many * 1e6
 
 

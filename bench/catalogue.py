@@ -5,8 +5,9 @@
 
 A document has a title of 6 words, a text of 40 and two attributes that are filtered and counted, `brand` (300 values)
 and `price`. It prints the processor time of the program for loading them, its memory beside their JSON, the time of a
-small replacement, and mean times of searches by class, each over the same words. The words are drawn so that the
-k-th is about k times rarer than the first. Nothing here is a test: it prints, and nothing depends on it.
+small replacement that is waited for, and mean times of searches by class, each over the same words. The words are
+drawn so that the k-th is about k times rarer than the first. Nothing here is a test: it prints, and nothing depends on
+it.
 """
 import json
 import os
@@ -64,6 +65,7 @@ class Program:
     def __init__(self, path):
         self.process = subprocess.Popen([path, "pipe"], stdin=subprocess.PIPE, stdout=subprocess.PIPE)
         self.out = self.process.stdout
+        self.task = None
 
     def ask(self, method, path, body=None):
         text = json.dumps(body, separators=(",", ":")).encode() if body is not None else b""
@@ -79,6 +81,22 @@ class Program:
             if line.lower().startswith(b"content-length:"):
                 length = int(line.split(b":")[1])
         return status, self.out.read(length), len(text)
+
+    def change(self, method, path, body):
+        """Sends a change, which must be accepted, and tells how many bytes its body has."""
+        status, reply, length = self.ask(method, path, body)
+        if b" 202 " not in status:
+            sys.exit(f"{status} {reply[:200]}")
+        self.task = json.loads(reply)["taskUid"]
+        return length
+
+    def settle(self):
+        """Waits until the last change was made, and so all before it."""
+        told = {"status": "enqueued"}
+        while told["status"] == "enqueued":
+            told = json.loads(self.ask("GET", f"/tasks/{self.task}")[1])
+        if told["status"] != "succeeded":
+            sys.exit(f"{told}")
 
     def cpu(self):
         with open(f"/proc/{self.process.pid}/schedstat") as file:
@@ -105,25 +123,25 @@ def main():
     many = int(sys.argv[2]) if len(sys.argv) > 2 else 100_000
     catalogue = Catalogue()
     program = Program(sys.argv[1])
-    program.ask("PATCH", "/indexes/c/settings", {
+    program.change("PATCH", "/indexes/c/settings", {
         "searchableAttributes": ["title", "text"],
         "filterableAttributes": ["brand", "price"],
         "sortableAttributes": ["price"],
     })
+    program.settle()
     print(f"{many} documents")
     empty, cpu, size = program.memory(), program.cpu(), 0
     for first in range(0, many, BATCH):
         batch = [catalogue.document(number) for number in range(first, min(first + BATCH, many))]
-        status, reply, length = program.ask("POST", "/indexes/c/documents", batch)
-        if b" 202 " not in status:
-            sys.exit(f"{status} {reply[:200]}")
-        size += length
+        size += program.change("POST", "/indexes/c/documents", batch)
+    program.settle()
     spent = program.cpu() - cpu
     print(f"load: {spent / many * 1e6:.1f} us of processor a document")
     print(f"memory: {(program.memory() - empty) / size:.2f} times their JSON of {size / many:.0f} bytes")
     cpu = program.cpu()
     for number in range(200):
-        program.ask("POST", "/indexes/c/documents", [catalogue.document(number * 37 % many)])
+        program.change("POST", "/indexes/c/documents", [catalogue.document(number * 37 % many)])
+        program.settle()
     print(f"one replaced: {(program.cpu() - cpu) / 200 * 1e6:.0f} us")
     rng = catalogue.rng
     common = catalogue.words[:2000]

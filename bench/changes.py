@@ -3,10 +3,11 @@
 
     bench/changes.py [BIN] [--rounds N]
 
-An index is loaded with 1,000, 10,000 and 100,000 small documents (about 80 bytes). Then requests of one document each are
-sent: new documents are added, stored ones replaced, updated and removed, and a page of twenty is listed from the middle on.
-For each kind it prints microseconds a request and, in brackets, the ratio to those at 1,000 documents. The best of the
-rounds counts. Nothing tests these numbers.
+An index is loaded with 1,000, 10,000 and 100,000 small documents (about 80 bytes). Then requests of one document each
+are sent: new documents are added, stored ones replaced, updated and removed, each with `GET /health` behind it, so
+that it is made by itself and not with up to 15 others; and a page of twenty is listed from the middle on. For each
+kind it prints microseconds of one and, in brackets, the ratio to those at 1,000 documents. The best of the rounds
+counts. Nothing tests these numbers.
 """
 import argparse
 import os
@@ -18,6 +19,8 @@ import time
 import load
 
 REQUESTS = 400
+ADDED = b'[{"id":%d,"tags":["red"],"title":"amber bridge cloud delta","year":2001}]'
+REPLACING = b'[{"id":%d,"tags":["blue"],"title":"delta ember forest garden","year":2002}]'
 
 
 def request(method, target, body=b""):
@@ -28,18 +31,21 @@ def one(method, document):
     return request(method, b"/indexes/shop/documents", document)
 
 
+def each_alone(changes):
+    """The changes, each made behind the reply to a request of its own."""
+    return [request for change in changes for request in (change, load.SETTLED[0])]
+
+
 def kinds(count):
     """Each kind of request, in the order in which they are sent. Ids are spread over the index."""
     step = max(count // REQUESTS, 1)
     spread = [1 + (step * k) % count for k in range(REQUESTS)]
     return [
-        ("add", [one(b"POST", b'[{"id":%d,"tags":["red"],"title":"amber bridge cloud delta","year":2001}]' % (count + k))
-                 for k in range(1, REQUESTS + 1)]),
-        ("replace", [one(b"POST", b'[{"id":%d,"tags":["blue"],"title":"delta ember forest garden","year":2002}]' % k)
-                     for k in spread]),
-        ("update", [one(b"PUT", b'[{"id":%d,"year":2003}]' % k) for k in spread]),
+        ("add", each_alone([one(b"POST", ADDED % (count + k)) for k in range(1, REQUESTS + 1)])),
+        ("replace", each_alone([one(b"POST", REPLACING % k) for k in spread])),
+        ("update", each_alone([one(b"PUT", b'[{"id":%d,"year":2003}]' % k) for k in spread])),
         ("list", [request(b"GET", b"/indexes/shop/documents?offset=%d&limit=20" % (count // 2))] * REQUESTS),
-        ("remove", [request(b"DELETE", b"/indexes/shop/documents/%d" % k) for k in spread]),
+        ("remove", each_alone([request(b"DELETE", b"/indexes/shop/documents/%d" % k) for k in spread])),
     ]
 
 
@@ -90,7 +96,7 @@ class Server:
 
 def measure(binary, count):
     server = Server(binary)
-    server.seconds([load.request(body) for body in load.bodies(count, 1000)])
+    server.seconds([load.request(body) for body in load.bodies(count, 1000)] + load.SETTLED)
     taken = {name: server.seconds(requests) / REQUESTS for name, requests in kinds(count)}
     server.end()
     return taken

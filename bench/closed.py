@@ -64,7 +64,7 @@ def main():
     wrong = 0
     with tempfile.TemporaryDirectory(prefix="closed-") as name:
         folder = pathlib.Path(name)
-        answer = b"".join(kill.answers([binary, "pipe"], folder, CHANGE + QUESTION)[1:])
+        answer = kill.answers([binary, "pipe"], folder, CHANGE + load.SETTLED[0] + QUESTION)[-1]
         before = kill.contents(folder)
         for word, ask in (("pipe", over_pipe), ("serve", over_serve)):
             for closed in itertools.chain(*(itertools.combinations(range(3), count) for count in range(4))):

@@ -56,7 +56,7 @@ def main():
     parser.add_argument("--searches", type=int, default=200)
     parser.add_argument("--rounds", type=int, default=5)
     asked = parser.parse_args()
-    begin = [load.request(body) for body in load.bodies(asked.documents, 1000)]
+    begin = [load.request(body) for body in load.bodies(asked.documents, 1000)] + load.SETTLED
     one = None
     for name, settings in (("no synonyms", {}), ("synonyms", {"synonyms": synonyms()})):
         first = [request(b"PATCH", b"/indexes/shop/settings", settings)] + begin

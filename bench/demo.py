@@ -56,11 +56,11 @@ def request(method, target, members):
 
 
 def loading(count, seed):
-    """The requests that fill the index."""
+    """The requests that fill the index, and wait until it is filled."""
     rows = list(documents(count, seed))
     batches = [rows[first:first + BATCH] for first in range(0, count, BATCH)]
     return [request(b"PATCH", b"/indexes/demo/settings", SETTINGS),
-            *(request(b"POST", b"/indexes/demo/documents", batch) for batch in batches)]
+            *(request(b"POST", b"/indexes/demo/documents", batch) for batch in batches), *load.SETTLED]
 
 
 def searches():

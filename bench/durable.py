@@ -3,12 +3,12 @@
 
     bench/durable.py [BIN] [--folder FOLDER] [--writes N]
 
-First one small document is replaced again and again through `rank_server pipe`, with the two files in FOLDER (the
-working folder where none is given) and then in memory, and beside it two small writes, each with a sync, are made in
-FOLDER by this script alone: what is left of the first time without the third is the program's own. Then documents of
-80 bytes and of 1 KiB are added in bodies of 1,000, the program ends, and is started again on the files that it left:
-once from a journal, and once from an image, where a checkpoint was made. The time of opening a document stands beside
-that of adding it. Times are by the clock, the least of three. Nothing tests these numbers.
+First one small document is replaced again and again through `rank_server pipe`, 16 times in one batch, with the two
+files in FOLDER (the working folder where none is given) and then in memory, and beside it two small writes, each with
+a sync, are made in FOLDER by this script alone: what is left of the first time without the third is the program's own.
+Then documents of 80 bytes and of 1 KiB are added in bodies of 1,000, the program ends, and is started again on the
+files that it left: once from a journal, and once from an image, where a checkpoint was made. The time of opening a
+document stands beside that of adding it. Times are by the clock, the least of three. Nothing tests these numbers.
 """
 import argparse
 import os
@@ -93,8 +93,8 @@ def opening(binary, make, count):
             server = pipe(binary, folder)
             ask(server, b"GET /health HTTP/1.1\r\n\r\n")
             begun = time.monotonic()
-            for body in bodies(make, count):
-                ask(server, body)
+            for sent in (*bodies(make, count), *load.SETTLED):
+                ask(server, sent)
             added.append(time.monotonic() - begun)
             ended(server)
             sizes = [os.path.getsize(pathlib.Path(folder) / name) for name in ("search-a.dat", "search-b.dat")

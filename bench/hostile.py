@@ -8,10 +8,11 @@ length and at the whole, by turns to each program, the first time to a program t
 whole length it prints the bytes of the request, processor seconds, the nanoseconds for each byte, and the memory that
 the program held at its peak above what it held before, in MB and for each byte; "grown" is the time against that of
 half the length (2 is linear). Of several programs each has in brackets its ratio to the first one, and replies that
-differ are told. The last lines are the worst shape of each program by time for each byte, and the requests of at most
-1 MiB over many documents that took more than a second. The least of the rounds counts. With --serve the request goes
-over a connection of its own. A program gets 6 GB of address space, and 300 seconds for a request. --scale 0.1 makes
-all requests a tenth as long. Nothing here is a test: it prints, and nothing depends on it.
+differ are told. A change counts until it was made. The last lines are the worst shape of each program by time for each
+byte, and the requests of at most 1 MiB over many documents that took more than a second. The least of the rounds
+counts. With --serve the request goes over a connection of its own. A program gets 6 GB of address space, and 300
+seconds for a request. --scale 0.1 makes all requests a tenth as long. Nothing here is a test: it prints, and nothing
+depends on it.
 """
 import argparse
 import collections
@@ -37,7 +38,8 @@ SETTINGS = {"searchableAttributes": ["name"], "filterableAttributes": ["size", "
 
 # A kind of request: over which documents, how long it is, what makes the bytes of one so long, whether it changes them.
 Shape = collections.namedtuple("Shape", "name documents length make changes")
-# What a request came to: its bytes, its status, its reply, processor seconds, and bytes of memory above what was held.
+# What a request came to: its bytes, its status, its reply or what was told of its task, processor seconds, and bytes
+# of memory above what was held.
 Spent = collections.namedtuple("Spent", "bytes status reply seconds memory")
 
 
@@ -150,7 +152,7 @@ class Program:
         self.ask(demo.request(b"PATCH", b"/indexes/c/settings", SETTINGS))
         for body in bodies(DOCUMENTS[documents]()):
             status, reply = self.ask(put_in(b"POST", body))
-            if status != 202:
+            if self.made(status, reply)[0] != 202:
                 sys.exit(f"{documents}: {reply.decode()}")
 
     def ask(self, sent):
@@ -163,6 +165,17 @@ class Program:
         self.process.stdin.flush()
         return demo.reply(self.read)
 
+    def made(self, status, reply):
+        """Waits until an accepted change was made: 202, or else what is told of its task. Other replies stay."""
+        if status != 202:
+            return status, reply
+        task = b"GET /tasks/%d HTTP/1.1\r\n\r\n" % json.loads(reply)["taskUid"]
+        while True:
+            _, told = self.ask(task)
+            found = json.loads(told)["status"]
+            if found != "enqueued":
+                return 202 if found == "succeeded" else found, told
+
     def read(self, most):
         out = self.process.stdout.fileno()
         return os.read(out, most) if select.select([out], [], [], MOST_SECONDS)[0] else b""
@@ -174,7 +187,7 @@ class Program:
         with open(f"/proc/{self.process.pid}/clear_refs", "w") as file:
             file.write("5")
         before, begun = self.held("VmRSS:"), demo.processor(self.process)
-        status, reply = self.ask(sent)
+        status, reply = self.made(*self.ask(sent))
         return Spent(len(sent), status, reply, demo.processor(self.process) - begun, self.held("VmHWM:") - before)
 
     def end(self):

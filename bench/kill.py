@@ -3,12 +3,13 @@
 
     bench/kill.py [BIN] [--times N] [--seed N] [--second COMMAND]
 
-Each round starts the program in the same folder and sends it random changes, one after the other. At a moment drawn at
-random it is killed. The two files must then hold all changes that were acknowledged, and of the others at most the one
-whose reply was awaited. Every tenth round, and after the last, the documents and settings of all indexes are asked of
-the program on these files, and of a machine that starts empty and is sent the same changes: the program itself in
-another folder, or COMMAND, which reads requests and writes replies, such as a second machine. All replies must be equal.
-SIGKILL stops the program and not the system, so it says nothing of what a file system does when power goes.
+Each round starts the program in the same folder and sends it random changes, one after the other, and reads between
+them, behind which the changes that wait are made. At a moment drawn at random it is killed. The two files must then
+hold all changes that were acknowledged, whether they were made or waited, and of the others at most the one whose reply
+was awaited. Every tenth round, and after the last, the documents and settings of all indexes are asked of the program
+on these files, and of a machine that starts empty and is sent the same changes: the program itself in another folder,
+or COMMAND, which reads requests and writes replies, such as a second machine. All replies must be equal. SIGKILL stops
+the program and not the system, so it says nothing of what a file system does when power goes.
 """
 import argparse
 import os
@@ -29,6 +30,8 @@ sys.path.append(os.path.join(os.path.dirname(os.path.abspath(__file__)), "..", "
 import read_disk
 
 UIDS = ("books", "films", "shop")
+# How many of the requests change nothing.
+READS = 0.2
 KEYS = ("searchableAttributes", "filterableAttributes", "sortableAttributes", "stopWords")
 
 
@@ -43,7 +46,7 @@ def large_body(draw):
 
 
 def change(draw):
-    """A request that changes something, if it is accepted."""
+    """A request that changes something, if its task does not fail."""
     uid, kind = draw.choice(UIDS).encode(), draw.randrange(12)
     if draw.random() < 0.02:
         body = large_body(draw)
@@ -80,7 +83,7 @@ def contents(folder):
 
 
 def held(folder):
-    """How many changes the two files hold."""
+    """How many changes the two files hold, those that waited too."""
     disks = contents(folder)
     found = read_disk.active(disks)
     if found is None:
@@ -91,13 +94,14 @@ def held(folder):
 
 
 def write_until_killed(binary, folder, draw, accepted):
-    """Sends changes until the program is killed. The acknowledged ones go to the list; answers the one left waiting."""
+    """Sends changes, and reads between them, until the program is killed. The acknowledged ones go to the list; answers
+    the request that was left without a reply."""
     server = subprocess.Popen([binary, "pipe"], cwd=folder, stdin=subprocess.PIPE, stdout=subprocess.PIPE)
     killer = threading.Timer(draw.expovariate(1 / 0.3), server.kill)
     killer.start()
     try:
         while True:
-            sent = change(draw)
+            sent = load.SETTLED[0] if draw.random() < READS else change(draw)
             try:
                 server.stdin.write(sent)
                 server.stdin.flush()
@@ -137,7 +141,8 @@ def compare(binary, second, folder, accepted):
                 shutil.copy(folder / name, other)
         ours = answers([binary, "pipe"], other, b"".join(asked))
     with tempfile.TemporaryDirectory(prefix="kill-") as other:
-        theirs = answers(second or [binary, "pipe"], other, b"".join(accepted + asked))[-len(asked):]
+        stream = b"".join(accepted + load.SETTLED + asked)
+        theirs = answers(second or [binary, "pipe"], other, stream)[-len(asked):]
     if ours != theirs:
         sys.exit("what was opened answers otherwise")
 
@@ -156,7 +161,7 @@ def main():
         for number in range(1, asked.times + 1):
             waiting = write_until_killed(binary, folder, draw, accepted)
             count = held(folder)
-            if not len(accepted) <= count <= len(accepted) + 1:
+            if not 0 <= count - len(accepted) <= (waiting not in load.SETTLED):
                 sys.exit(f"round {number}: {len(accepted)} changes were acknowledged, and {count} are held")
             if count > len(accepted):
                 accepted.append(waiting)

@@ -3,13 +3,13 @@
 
     bench/load.py [BIN] [--rounds N] [--no-words]
 
-Small documents (about 80 bytes) in bodies of 1,000: 1,000, 10,000 and 100,000 of them; then one body of nearly 16 MiB
-of catalogue-like documents (about 1 KiB), and one of nearly 16 MiB of small ones. For each it prints documents a second,
-the time a document against that of the first load, and the peak memory against the bytes of JSON sent: whole, and what the
-load adds to a process that has stored one document. That is counted without the pages of files (the program and its
-libraries), of which two runs of one process have up to 0.2 MB more or less. With `--no-words` the index searches no path,
-so that it keeps the documents alone. The shortest time of the rounds counts, and the median of the peaks. Nothing tests
-these numbers.
+Small documents (about 80 bytes) in bodies of 1,000: 1,000, 10,000 and 100,000 of them, of which up to 16 bodies wait
+and are then stored together; then one body of nearly 16 MiB of catalogue-like documents (about 1 KiB), and one of
+nearly 16 MiB of small ones. For each it prints documents a second, the time a document against that of the first load,
+and the peak memory against the bytes of JSON sent: whole, and what the load adds to a process that has stored one
+document. That is counted without the pages of files (the program and its libraries), of which two runs of one process
+have up to 0.2 MB more or less. With `--no-words` the index searches no path, so that it keeps the documents alone. The
+shortest time of the rounds counts, and the median of the peaks. Nothing tests these numbers.
 """
 import argparse
 import atexit
@@ -27,6 +27,8 @@ WORDS = ("amber bridge cloud delta ember forest garden harbor island jungle kett
 TAGS = "red green blue white".split()
 MOST_BODY = 16 * 1024 * 1024
 IN_MEMORY = "/dev/shm" if os.access("/dev/shm", os.W_OK) else None
+# At most 16 tasks wait, and behind each of these replies the oldest of them run: when the last one comes, all have run.
+SETTLED = [b"GET /health HTTP/1.1\r\n\r\n"] * 17
 BINARY = os.path.join(os.path.dirname(os.path.abspath(__file__)), "..", "crates", "rank_server", "out", "rank_server")
 
 
@@ -91,9 +93,10 @@ def entry(file, name):
         return next(int(line.split()[1]) * 1024 for line in lines if line.startswith(name))
 
 
-def run(binary, requests):
-    """(seconds, peak bytes, those without pages of files) until the last of the replies has come."""
+def run(binary, changes):
+    """(seconds, peak bytes, those without pages of files) until all of the changes are made."""
     server = started(binary, "pipe", stdin=subprocess.PIPE, stdout=subprocess.PIPE)
+    requests = changes + SETTLED
     begun = time.monotonic()
     writer = threading.Thread(target=send, args=(server.stdin, b"".join(requests)))
     writer.start()
@@ -110,7 +113,7 @@ def run(binary, requests):
     held = f"/proc/{server.pid}/smaps_rollup"
     own = peak - (entry(held, "Rss:") - entry(held, "Anonymous:"))
     server.stdin.close()
-    if server.wait() != 0 or replies.count(b"HTTP/1.1 202 ") != len(requests):
+    if server.wait() != 0 or replies.count(b"HTTP/1.1 202 ") != len(changes):
         sys.exit("load.py: a request was not accepted")
     return seconds, peak, own
 

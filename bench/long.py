@@ -25,6 +25,10 @@ TEXTS = {
 QUERIES = ("dark", "dark knight", '"dark knight"', "dark dark knight")
 
 
+# Behind its reply the document is stored.
+HEALTH = b"GET /health HTTP/1.1\r\nhost: a\r\n\r\n"
+
+
 def request(path, body):
     return b"POST %s HTTP/1.1\r\nhost: a\r\ncontent-length: %d\r\n\r\n%s" % (path, len(body), body)
 
@@ -33,7 +37,7 @@ def processor_time(binary, text, query, rounds):
     """Seconds of a process that adds the document and asks so many times."""
     document = json.dumps([{"id": 1, "text": text}]).encode()
     search = request(b"/indexes/a/search", json.dumps({"q": query, "limit": 0}).encode())
-    raw = request(b"/indexes/a/documents", document) + search * rounds
+    raw = request(b"/indexes/a/documents", document) + HEALTH + search * rounds
     with tempfile.TemporaryDirectory() as folder:
         before = resource.getrusage(resource.RUSAGE_CHILDREN)
         subprocess.run([binary, "pipe"], input=raw, cwd=folder, check=True, stdout=subprocess.DEVNULL)

@@ -30,11 +30,11 @@ MATCHING = (("all match", None, BEGIN_ALIKE), ("20,000 match", f"id >= {VALUES -
 
 
 class Server:
-    """A server that was sent some changes."""
+    """A server that made some changes."""
 
     def __init__(self, binary, changes):
         self.process = load.started(binary, "pipe", stdin=subprocess.PIPE, stdout=subprocess.PIPE)
-        self.spent(changes)
+        self.spent([*changes, *load.SETTLED])
 
     def ask(self, sent):
         self.process.stdin.write(sent)

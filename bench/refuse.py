@@ -1,30 +1,36 @@
 #!/usr/bin/env python3
-"""Refuses one allocation of `rank_server pipe` after the other, and compares what it answers with an undisturbed run.
+"""Refuses one allocation of `rank_server` after the other, and compares what it answers with an undisturbed run.
 
-    bench/refuse.py [BIN] [--stride N] [--row N] [--only sessions|checkpoint|growth]
+    bench/refuse.py [BIN] [--stride N] [--row N] [--only sessions|checkpoint|put_off|growth]
 
 A small library, which is compiled here and loaded before the C library, counts the program's allocations and refuses
-number N (with --row, that many from N on). Sessions are served once for each N, or for each that the stride meets: one
-of requests of every kind from an empty folder, one from the files that it left, and one in which a checkpoint comes
-due, with N from just before it on. Each time
+number N (with --row, that many from N on). Sessions of `pipe` are served once for each N, or for each that the stride
+meets: one of requests of every kind from an empty folder, one from the files that it left, one in which a checkpoint
+comes due, with N from just before it on, and one of batches. Each time
 
-- the program ends by itself, with status 0, or with 11 where it could not start or could not read a request,
+- the program ends by itself, with status 0, or with 11 where it could not start, could not read a request, or could not
+  run the batch behind a reply,
 - a reply is the one of an undisturbed program, or the one for want of memory; a request that got that changed nothing:
   all other replies are those of an undisturbed session without it,
 - what the two files hold then is what an undisturbed session leaves in which exactly the other requests were served.
 
+The session of batches goes over three connections of `serve` as well. There the line of a connection says where a batch
+was put off: then its tasks wait, the next connection is told so, and behind the first reply on it they run.
+
 Then an index of 2,000 and one of 20,000 documents is made, one document is replaced, and a search asks for one hit. The
-numbers at which the change answers that there is no memory are an interval, and so are those of the search, since two
+numbers at which the batch of that change finds no memory are an interval, and so are those of the search, since two
 runs are alike up to the refused allocation. Their ends are found by halving. From the one index to the other both
 lengths grow by fewer than 9,000, which a change that copies the index, or a search that takes memory for each document,
-could not keep. It needs cc, gcc or clang, and the C library of GNU. The sessions take some three minutes, the
-checkpoint six, the two indexes one and a half. It ends with status 1 if something is wrong.
+could not keep. It needs cc, gcc or clang, and the C library of GNU. The sessions take some four minutes, the
+checkpoint six, the batches one, the two indexes one and a half. It ends with status 1 if something is wrong.
 """
 import argparse
 import collections
 import os
 import pathlib
+import re
 import shutil
+import socket
 import subprocess
 import sys
 import tempfile
@@ -32,6 +38,7 @@ import time
 
 import demo
 import load
+import serve
 from kill import read_disk, replies
 
 LIBRARY = r"""
@@ -114,8 +121,11 @@ def ask(method, target, members=None):
     return demo.request(method, target, members)
 
 
+READ = load.SETTLED[0]
+
+
 def first_session():
-    """Requests of every kind, accepted and refused, from no index on."""
+    """Requests of every kind, accepted and refused, from no index on; some tasks run in one batch, and some fail."""
     shop, documents, search = b"/indexes/shop", b"/indexes/shop/documents", b"/indexes/shop/search"
     return [
         ask(b"GET", b"/health"),
@@ -124,7 +134,14 @@ def first_session():
             "filterableAttributes": ["brand", "colours", "price"], "sortableAttributes": ["price"],
             "stopWords": ["the"], "synonyms": {"seat": ["chair", "oak table"]}}),
         ask(b"POST", documents, GARDEN),
+        ask(b"GET", b"/tasks/2"),
         ask(b"PUT", documents, [{"id": 2, "price": 22}, {"id": 7, "name": "Lamp oil", "price": 5}]),
+        ask(b"PUT", documents, [{"id": 2, "sale": True}, {"name": "Lamp without an id"}]),
+        ask(b"PUT", documents, [{"id": 7, "brand": "Éclair"}]),
+        ask(b"GET", b"/tasks/1"),
+        READ,
+        READ,
+        ask(b"GET", b"/tasks/4"),
         ask(b"POST", documents, {"id": 3, "name": "Chair of a garden", "price": 36}),
         ask(b"DELETE", documents + b"/5"),
         ask(b"POST", documents + b"/delete-batch", [7, "none"]),
@@ -157,12 +174,16 @@ def first_session():
         ask(b"PATCH", shop + b"/settings", {
             "rankingRules": ["words", "price:asc", "exactness"], "searchableAttributes": ["name"],
             "filterableAttributes": ["size", "price"], "distinctAttribute": "colours"}),
+        ask(b"GET", b"/tasks/9"),
+        READ,
         ask(b"POST", search, {"q": "garden table", "showCosts": True, "facets": ["*"]}),
         ask(b"GET", shop + b"/settings"),
         ask(b"DELETE", shop + b"/settings"),
+        ask(b"GET", b"/tasks/900"),
         ask(b"POST", search, {"q": "lamp"}),
         ask(b"DELETE", b"/indexes/films"),
         ask(b"GET", shop),
+        ask(b"GET", b"/indexes/films"),
     ]
 
 
@@ -172,14 +193,33 @@ def second_session():
     return [
         ask(b"POST", search, {"q": "garden"}),
         ask(b"PUT", documents, [{"id": 1, "brand": "Nord and sons"}, {"id": 10, "name": "Garden hose"}]),
+        READ,
         ask(b"POST", search, {"q": "nord hose"}),
         ask(b"DELETE", documents),
         ask(b"POST", documents, [{"id": 1, "name": "Garden bench"}]),
+        READ,
+        READ,
         ask(b"POST", search, {"q": "garden b"}),
     ]
 
 
-QUESTIONS = [ask(b"GET", b"/indexes")] + [
+def batch_session():
+    """Changes that are made in three batches, of which the last has one that fails, each behind a read."""
+    documents = b"/indexes/shop/documents"
+    return [
+        ask(b"PATCH", b"/indexes/shop/settings", {"filterableAttributes": ["brand"]}),
+        ask(b"POST", documents, GARDEN[:3]),
+        ask(b"POST", documents, GARDEN[3:]),
+        READ,
+        ask(b"PUT", documents, [{"id": 1, "price": 50}]),
+        READ,
+        ask(b"PUT", documents, [{"name": "Lamp without an id"}]),
+        READ,
+    ]
+
+
+# What the two files hold, or what is there once all tasks have run.
+QUESTIONS = load.SETTLED + [ask(b"GET", b"/indexes")] + [
     ask(b"GET", b"/indexes/%s%s" % (uid, rest)) for uid in (b"shop", b"films")
     for rest in (b"/documents", b"/settings", b"/search?q=garden&showCosts=true")]
 
@@ -204,16 +244,19 @@ class Program:
         self.binary, self.room = os.path.abspath(binary), room
         self.library = compiled(room)
 
+    def environment(self, folder, first, row):
+        """That of a run in which `row` allocations are refused from number `first` on."""
+        return {**os.environ, "LD_PRELOAD": str(self.library), "REFUSE_COUNT": str(folder / "count"),
+                "REFUSE_FIRST": str(first), "REFUSE_BEHIND": str(first + row)}
+
     def run(self, requests, files=(), first=0, row=0):
         """Serves the requests from these files, with `row` allocations refused from number `first` on."""
         with tempfile.TemporaryDirectory(prefix="refuse-", dir=load.IN_MEMORY) as name:
             folder = pathlib.Path(name)
             for file, content in files:
                 (folder / file).write_bytes(content)
-            places = {"LD_PRELOAD": str(self.library), "REFUSE_COUNT": str(folder / "count"),
-                      "REFUSE_FIRST": str(first), "REFUSE_BEHIND": str(first + row)}
             done = subprocess.run([self.binary, "pipe"], cwd=folder, input=b"".join(requests), stdout=subprocess.PIPE,
-                                  env={**os.environ, **places}, timeout=300)
+                                  env=self.environment(folder, first, row), timeout=300)
             count = (folder / "count").read_text() if (folder / "count").exists() else "0"
             left = tuple((file, (folder / file).read_bytes()) for file in FILES if (folder / file).exists())
         # Where it ended otherwise, its last reply may be cut off.
@@ -258,7 +301,7 @@ class Session:
     def kind(self, run):
         """What the refused allocation came to."""
         if run.status == NO_MEMORY:
-            return "ended before the first reply" if not run.replies else "could not read on"
+            return "ended before the first reply" if not run.replies else "could not read on or run a batch"
         starved = sum(reply == STARVED for reply in run.replies)
         return "answered as ever" if starved == 0 else "one request starved" if starved == 1 else "several starved"
 
@@ -296,6 +339,9 @@ def checkpoint_session():
         ask(b"POST", documents, {"id": 1, "text": text}),
         ask(b"POST", documents, {"id": 2, "text": text}),
         ask(b"PUT", documents, {"id": 1, "text": "amber"}),
+        READ,
+        READ,
+        ask(b"GET", b"/tasks/3"),
         ask(b"GET", documents + b"/1"),
     ]
 
@@ -306,17 +352,142 @@ def checkpoint(program, stride, row):
     return Session(program, session).refuse_each(f"a checkpoint, from number {begin} on", stride, row, begin)
 
 
+# The line of a connection of `serve`: its status, and whether a batch was put off.
+LINE = re.compile(r"link \d+ status (\d+) requests \d+( put off)?\n")
+LINKS = 3
+
+
+def task(number):
+    return ask(b"GET", b"/tasks/%d" % number)
+
+
+def waits(reply):
+    return b'"status":"enqueued"' in reply
+
+
+class Served:
+    """What a run of `serve` on three connections came to: its status, its lines, and the replies on each connection.
+
+    The first has the session of batches. On the second the last task that was accepted is asked for, then what waits is
+    waited for, and then each task; on the third what is there."""
+
+    def __init__(self, program, folder, first, row):
+        port = serve.free_port()
+        words = [program.binary, "serve", str(port), str(LINKS)]
+        self.server = subprocess.Popen(words, cwd=folder, stdout=subprocess.PIPE, text=True,
+                                       env=program.environment(folder, first, row))
+        self.begun = self.over_link(port, batch_session())
+        self.accepted = sum(reply.startswith(b"HTTP/1.1 202 ") for reply in self.begun)
+        tasks = self.over_link(port, [task(self.accepted - 1), *load.SETTLED, *map(task, range(self.accepted))])
+        self.last, self.tasks = tasks[:1], tasks[1 + len(load.SETTLED):]
+        self.starved = STARVED in tasks
+        self.held = self.over_link(port, QUESTIONS)
+        self.told, _ = self.server.communicate(timeout=300)
+        self.status, self.lines = self.server.returncode, LINE.findall(self.told)
+        counted = folder / "count"
+        self.count = int(counted.read_text()) if counted.exists() else 0
+
+    def over_link(self, port, requests):
+        """The replies to these requests over a connection of their own, up to where it is closed."""
+        raw = b""
+        try:
+            with self.connected(port) as link:
+                link.sendall(b"".join(requests))
+                link.shutdown(socket.SHUT_WR)
+                while piece := link.recv(1 << 16):
+                    raw += piece
+        except OSError:
+            pass  # It was closed before all was read, or the program ended.
+        return replies(raw)
+
+    def connected(self, port):
+        while self.server.poll() is None:
+            try:
+                return socket.create_connection(("127.0.0.1", port))
+            except ConnectionRefusedError:
+                time.sleep(0.002)
+        raise OSError
+
+
+class PutOff:
+    """The session of batches over connections of `serve`, and what is wrong with disturbed runs of it."""
+
+    def __init__(self, program):
+        self.program, self.session = program, Session(program, batch_session())
+        self.whole = self.served(0, 0)
+        if self.whole.lines != [("0", "")] * LINKS or any(map(waits, self.whole.last)) or self.fault(self.whole):
+            sys.exit("an undisturbed run of `serve` does not serve each connection")
+
+    def served(self, first, row):
+        with tempfile.TemporaryDirectory(prefix="refuse-", dir=load.IN_MEMORY) as name:
+            return Served(self.program, pathlib.Path(name), first, row)
+
+    def fault(self, run):
+        """What is wrong with a run, or nothing."""
+        if run.status == NO_MEMORY and not run.told:
+            return None
+        if run.status != DONE or len(run.lines) != LINKS or LINE.sub("", run.told):
+            return f"it ended with {run.status} and told {run.told!r}"
+        if any((status, off) not in (("0", ""), ("11", ""), ("11", " put off")) for status, off in run.lines):
+            return f"it told {run.told!r}"
+        served = tuple(index for index, reply in enumerate(run.begun) if reply != STARVED)
+        wanted, held = self.session.of(served)
+        if [run.begun[index] for index in served] != wanted:
+            return f"the replies are {run.begun!r}"
+        if run.lines[0][1] and run.last != [STARVED] and not all(map(waits, run.last)):
+            return f"a batch was put off, and the last task does not wait: {run.last!r}"
+        if run.lines[1] == ("0", "") and not run.starved and any(map(waits, run.tasks)):
+            return f"a task waits still: {run.tasks!r}"
+        if run.lines[2] == ("0", "") and STARVED not in run.held and run.held != held:
+            return f"something else is held: {run.held!r} and not {held!r}"
+        return None
+
+    def kind(self, run):
+        """What the refused allocation came to."""
+        if not run.told:
+            return "did not start"
+        if any(off for _, off in run.lines):
+            return "a batch was put off"
+        return "served" if all(status == "0" for status, _ in run.lines) else "could not read on"
+
+    def refuse_each(self, stride, row):
+        """Refuses allocations in turn, prints what came of them, and answers how many runs were wrong."""
+        kinds, wrong, begun = collections.Counter(), 0, time.monotonic()
+        for number in range(0, self.whole.count, stride):
+            run = self.served(number, row)
+            fault = self.fault(run)
+            if fault:
+                wrong += 1
+                if wrong <= 5:
+                    print(f"batches over connections, allocation {number}: {fault[:500]}", file=sys.stderr)
+            kinds[self.kind(run)] += 1
+        told = ", ".join(f"{kind} {count}" for kind, count in sorted(kinds.items()))
+        print(f"batches over {LINKS} connections: {self.whole.count:,} allocations, {sum(kinds.values()):,} refused in "
+              f"turn in {time.monotonic() - begun:.0f} s: {told}; wrong {wrong}", flush=True)
+        return wrong
+
+
+def put_off(program, stride, row):
+    """Refuses allocations of batches, on `pipe` and over connections."""
+    wrong = Session(program, batch_session()).refuse_each("batches", stride, row)
+    return wrong + PutOff(program).refuse_each(stride, row)
+
+
 def growth_session(documents):
     garden = [{"id": number, "title": "cloud garden"} for number in range(1, documents + 1)]
     return [
         ask(b"PATCH", b"/indexes/shop/settings", {"filterableAttributes": ["id"]}),
         ask(b"POST", b"/indexes/shop/documents", garden),
+        READ,
+        READ,
         ask(b"POST", b"/indexes/shop/documents", [{"id": 1, "title": "cloud bridge"}]),
+        READ,
         ask(b"POST", b"/indexes/shop/search", {"q": "cloud garden", "limit": 1}),
     ]
 
 
-CHANGE, SEARCH = 2, 3
+# The read behind which the change is made, and the search.
+CHANGE, SEARCH = 5, 6
 
 
 class Growth:
@@ -327,7 +498,8 @@ class Growth:
         self.whole, self.moments = program.run(self.requests), {}
 
     def moment(self, number):
-        """A number that grows along the session: twice the request that is read, and one more where it is answered."""
+        """A number that grows along the session: twice the request that is read, and one more where it is answered. What
+        a batch finds counts for the next request."""
         while number < self.whole.count:
             run = self.program.run(self.requests, (), number, 1)
             if run.status == NO_MEMORY:
@@ -349,10 +521,10 @@ class Growth:
                 low = middle + 1
         return low
 
-    def length(self, request):
-        """How many numbers there are at which this request starves."""
-        first = self.first_at(2 * request + 1, 0, self.whole.count)
-        return self.first_at(2 * request + 2, first, self.whole.count) - first
+    def length(self, moment):
+        """How many numbers there are at this moment."""
+        first = self.first_at(moment, 0, self.whole.count)
+        return self.first_at(moment + 1, first, self.whole.count) - first
 
 
 def growth(program):
@@ -360,7 +532,7 @@ def growth(program):
     lengths = []
     for documents in (2000, 20000):
         index = Growth(program, documents)
-        lengths.append([index.length(CHANGE), index.length(SEARCH)])
+        lengths.append([index.length(2 * CHANGE + 2), index.length(2 * SEARCH + 1)])
         print(f"{documents:>10,} {index.whole.count:>12,} {lengths[-1][0]:>8,} {lengths[-1][1]:>8,}", flush=True)
     growths = [after - before for before, after in zip(*lengths)]
     print(f"{'growth':>10} {'below 9,000':>12} {growths[0]:>8,} {growths[1]:>8,}")
@@ -373,7 +545,7 @@ def main():
     parser.add_argument("binary", nargs="?", default=load.BINARY)
     parser.add_argument("--stride", type=int, default=1)
     parser.add_argument("--row", type=int, default=1)
-    parser.add_argument("--only", choices=("sessions", "checkpoint", "growth"))
+    parser.add_argument("--only", choices=("sessions", "checkpoint", "put_off", "growth"))
     asked = parser.parse_args()
     wrong = 0
     with tempfile.TemporaryDirectory(prefix="refuse-") as room:
@@ -382,6 +554,8 @@ def main():
             wrong += sessions(program, asked.stride, asked.row)
         if asked.only in (None, "checkpoint"):
             wrong += checkpoint(program, asked.stride, asked.row)
+        if asked.only in (None, "put_off"):
+            wrong += put_off(program, asked.stride, asked.row)
         if asked.only in (None, "growth"):
             wrong += growth(program)
     if wrong:

@@ -30,13 +30,12 @@ def loaded(path, matching, many, which):
     found = set(rng.sample(range(many), matching)) if which == "any" else \
         {number for number in range(many) if prices[number] >= many - matching}
     program = Program(path)
-    program.ask("PATCH", "/indexes/c/settings", {"searchableAttributes": ["text"], "sortableAttributes": ["price"]})
+    program.change("PATCH", "/indexes/c/settings", {"searchableAttributes": ["text"], "sortableAttributes": ["price"]})
     for first in range(0, many, BATCH):
         batch = [{"id": number, "text": "word" if number in found else "other", "price": prices[number]}
                  for number in range(first, min(first + BATCH, many))]
-        status, reply, _ = program.ask("POST", "/indexes/c/documents", batch)
-        if b" 202 " not in status:
-            sys.exit(f"{status} {reply[:200]}")
+        program.change("POST", "/indexes/c/documents", batch)
+    program.settle()
     return program
 
 

@@ -4,10 +4,12 @@
     bench/stream.py COMMAND [ROWS]
 
 ROWS is a file of a request on each line: a method, a target and, where there is one, a body, with one blank between.
-They are put before the last request of crates/rank_pipe/stdin, which is cut short. Then COMMAND, run by the shell in a
-copy of crates/rank_pipe/data, is given the requests, and what it writes and its status go into the files `stdout` and
-`status` beside them. It is a second machine, written independently from the same rules, and never this program: look at
-each reply that is new or another one. It prints these.
+They are put before the last request of crates/rank_pipe/stdin, which is cut short. An accepted change waits, and the
+oldest ones that wait are made behind the reply to each request that is answered otherwise than by 202; so put as many
+such requests, as `GET /tasks/17`, between a change and what reads it as there are batches. Then COMMAND, run by the
+shell in a copy of crates/rank_pipe/data, is given the requests, and what it writes and its status go into the files
+`stdout` and `status` beside them. It is a second machine, written independently from the same rules, and never this
+program: look at each reply that is new or another one. It prints these.
 """
 import pathlib
 import re

@@ -3,10 +3,10 @@
 
     examples/read_disk.py [FOLDER] [--documents]
 
-Written from docs/FORMAT.md, and from docs/API.md for the changes that are accepted. It prints the file that counts, its
-image index by index, and each change that the journal behind it records; with --documents also the documents that are
-held after all of these, a line of JSON each. Where rank_server would end with status 7 it names the file, the place,
-the byte there and the field that begins with it, and ends with 1.
+Written from docs/FORMAT.md, and from docs/API.md for the changes that are accepted. It prints the file that counts,
+its image index by index, and each task that the journal behind it records, with what became of it; with --documents
+also the documents that are held after all of these, a line of JSON each. Where rank_server would end with status 7 it
+names the file, the place, the byte there and the field that begins with it, and ends with 1.
 """
 import json
 import pathlib
@@ -38,7 +38,7 @@ class Damaged(Exception):
 
 
 class Refused(Exception):
-    """A change that no server accepts."""
+    """A change that no server accepts, or a task that fails."""
 
 
 # ---- JSON as it is printed
@@ -240,9 +240,9 @@ def read_index(fields):
 
 
 def image(fields):
-    """The count of changes, and the indexes by their uids."""
+    """The count of finished tasks, and the indexes by their uids."""
     fields.number(1, "the version of the image", lambda n: n == 1)
-    changes = fields.number(8, "the count of changes", lambda n: n <= MOST_CHANGES)
+    changes = fields.number(8, "the count of tasks", lambda n: n <= MOST_CHANGES)
     indexes, last = {}, ""
     for _ in range(fields.number(4, "the number of indexes", lambda n: n <= MOST_INDEXES)):
         last = fields.text("the uid of an index", lambda uid, least=last: UID.fullmatch(uid) and least < uid)
@@ -273,15 +273,15 @@ def change(fields):
 def journal(disk, content, gate, count):
     """The payloads behind an image, each as the place where it begins and where it ends."""
     fields = Fields(disk, content, gate, len(content))
-    while fields.number(1, f"the gate in front of change {count}"):
-        fields.number(8, f"the number of change {count}", lambda number, wanted=count: number == wanted)
-        payload, start = fields.piece(4, f"change {count}")
+    while fields.number(1, f"the gate in front of task {count}"):
+        fields.number(8, f"the number of task {count}", lambda number, wanted=count: number == wanted)
+        payload, start = fields.piece(4, f"task {count}")
         yield start, start + len(payload)
         count += 1
 
 
 def store(index, kind, key, documents):
-    """Puts documents into an index."""
+    """Puts documents into an index, all of them or none."""
     if index.key and key not in (None, index.key):
         raise Refused("the primary key is another one")
     if documents and not (index.key or key):
@@ -289,48 +289,67 @@ def store(index, kind, key, documents):
         if len(names) != 1:
             raise Refused("the primary key cannot be told")
         key = names[0]
-    index.key = index.key or key
+    key, placed, paths = index.key or key, {}, set()
     for document in documents:
-        external = external_id(document, index.key)
+        external = external_id(document, key)
         if external is None:
             raise Refused("a document has no id")
-        before = index.documents.get(external)
-        if before is None:
-            index.next_id += 1
-        index.documents[external] = {**before, **document} if before and kind == "update" else document
-        index.paths.update(paths_of(document))
-    if index.next_id > MOST_IDS or len(index.paths) > MOST_PATHS:
+        before = placed.get(external) or index.documents.get(external)
+        placed[external] = {**before, **document} if before and kind == "update" else document
+        paths.update(paths_of(document))
+    next_id = index.next_id + sum(external not in index.documents for external in placed)
+    if next_id > MOST_IDS or len(index.paths | paths) > MOST_PATHS:
         raise Refused("the index has too many documents or paths")
+    index.key, index.next_id = key, next_id
+    index.paths |= paths
+    index.documents.update(placed)
 
 
 def perform(indexes, kind, uid, said):
-    """Makes a change, or says why no server accepts it; then some of it may be made."""
+    """Makes a change, or says why its task fails, and then makes none."""
     index = indexes.get(uid)
-    if not UID.fullmatch(uid) or said == "" or (kind in ("replace", "update") and said[0] == ""):
-        raise Refused("a uid or a primary key is none")
-    if kind == "patch" and not is_patch(said):
-        raise Refused("the settings have a member that is none")
     if index is None and kind in ("drop", "remove", "clear", "reset"):
         raise Refused("there is no such index")
     if index is not None and kind == "create":
         raise Refused("the index is there already")
-    if index is None:
-        index = indexes[uid] = Index(said if kind == "create" else None)
-    if len(indexes) > MOST_INDEXES:
+    if index is None and len(indexes) == MOST_INDEXES:
         raise Refused("there are too many indexes")
     if kind == "drop":
         del indexes[uid]
-    elif kind in ("replace", "update"):
+        return
+    if index is None:
+        index = Index(said if kind == "create" else None)
+    if kind in ("replace", "update"):
         store(index, kind, *said)
     elif kind == "remove":
         for external in said:
             index.documents.pop(external, None)
     elif kind == "clear":
         index.documents = {}
+    indexes[uid] = index
 
 
-def change_line(number, kind, uid, said):
-    return f"change {number}: {kind} {uid}" + (f", {len(said[1])} documents" if kind in ("replace", "update") else "")
+def ensure_accepted(number, kind, uid, said):
+    """Says why no server accepts a change under this number."""
+    if number >= MOST_CHANGES:
+        raise Refused("there are too many changes")
+    if not UID.fullmatch(uid) or said == "" or (kind in ("replace", "update") and said[0] == ""):
+        raise Refused("a uid or a primary key is none")
+    if kind == "patch" and not is_patch(said):
+        raise Refused("the settings have a member that is none")
+
+
+def run(indexes, asked):
+    """Runs a task and says what became of it."""
+    try:
+        perform(indexes, *asked)
+    except Refused as refused:
+        return f", failed: {refused}"
+    return ""
+
+
+def task_line(number, kind, uid, said):
+    return f"task {number}: {kind} {uid}" + (f", {len(said[1])} documents" if kind in ("replace", "update") else "")
 
 
 def held(contents, tell=lambda line: None):
@@ -343,19 +362,17 @@ def held(contents, tell=lambda line: None):
     content = contents[disk]
     changes, indexes = image(Fields(disk, content, HEADER, HEADER + length))
     payloads = list(journal(disk, content, HEADER + length, changes))
-    tell(f"{FILES[disk]} counts, generation {generation}: an image of {length} bytes after {changes} changes")
+    tell(f"{FILES[disk]} counts, generation {generation}: an image of {length} bytes after {changes} tasks")
     for uid, index in indexes.items():
         tell(f"index {uid}: key {index.key}, {len(index.documents)} documents, next id {index.next_id}, "
              f"{len(index.paths)} paths")
     for number, (start, end) in enumerate(payloads, changes):
         asked = change(Fields(disk, content, start, end))
         try:
-            if number >= MOST_CHANGES:
-                raise Refused("there are too many changes")
-            perform(indexes, *asked)
+            ensure_accepted(number, *asked)
         except Refused as refused:
-            raise Damaged(disk, start, content, f"change {number}, which no server accepts: {refused}") from None
-        tell(change_line(number, *asked))
+            raise Damaged(disk, start, content, f"task {number}, whose change no server accepts: {refused}") from None
+        tell(task_line(number, *asked) + run(indexes, asked))
     return indexes
 
 
