@@ -287,7 +287,7 @@ body_takes byte bytes x fits some few e =
     (λ n6. or_kind byte 7 bytes (patch_at bytes) (Ok (reset, bytes)) x (patch_takes bytes x fits)
     (λ n7 h. let last : 8 ≡ byte = omega arith in subst (λ (k : ℕ). IsBody k bytes x) last (is_body 8 bytes (reset, bytes) x h (nothing, refl))))))))) e
 
-kind_takes : (bytes : List ℕ) (x : ℕ × List ℕ) → IsBytes bytes → kind_at bytes ≡ Ok x → Takes bytes (x.0 ∷ []) x.1 × ((0 < x.0) × (x.0 ≤ 8))
+pub kind_takes : (bytes : List ℕ) (x : ℕ × List ℕ) → IsBytes bytes → kind_at bytes ≡ Ok x → Takes bytes (x.0 ∷ []) x.1 × ((0 < x.0) × (x.0 ≤ 8))
 unfolding kind_at
 kind_takes [] x fits e = absurd cc
 kind_takes (byte ∷ bytes) x fits e =

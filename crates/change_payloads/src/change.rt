@@ -3,7 +3,7 @@ ghost use Rattle.doc_values.specs.Changes.{ChangeData, replace, update, kind_vie
 ghost use Rattle.change_payloads.specs.Answers.{Gives, Decodes};
 ghost use Rattle.change_payloads.specs.Spelling.{change as spelling};
 ghost use Rattle.change_payloads.specs.Fits.{IsChange};
-ghost use Rattle.change_payloads.specs.Change.{kind_at, create_at, stored_with, remove_at, patch_at, body_at, whole_change, change_at, spot};
+ghost use Rattle.change_payloads.specs.Change.{kind_at as kind_in, create_at, stored_with, remove_at, patch_at, body_at, whole_change, change_at, spot};
 
 use crate::fault::{ImageFault, ReadFault};
 use crate::fields::{documents, optional, text, u8_at};
@@ -49,7 +49,7 @@ pub fn damage(bytes: &[u8], left: usize) -> ImageFault
 fn whole(alloc: Global, bytes: &[u8]) -> Result<Change, ReadFault>
     ensures { Gives change_view result (whole_change bytes.now) }
 {
-    let (byte, rest) = kind_byte(bytes)?;
+    let (byte, rest) = kind_at(bytes)?;
     let (uid, rest) = text(alloc, rest)?;
     let (kind, rest) = body(alloc, byte, rest)?;
     if !rest.is_empty() {
@@ -58,10 +58,10 @@ fn whole(alloc: Global, bytes: &[u8]) -> Result<Change, ReadFault>
     Ok(Change { uid, kind })
 }
 
-/// The byte of a kind of change.
+/// The byte of one of the eight kinds of changes, and the bytes behind it. Another byte, or no byte, is damage there.
 #[tactic(auto, unfolding(crate::specs::Change::kind_at))]
-fn kind_byte(bytes: &[u8]) -> Result<(u8, &[u8]), ReadFault>
-    ensures { Gives (λ x. (x.0, x.1.now)) result (kind_at bytes.now) }
+pub fn kind_at(bytes: &[u8]) -> Result<(u8, &[u8]), ReadFault>
+    ensures { Gives (λ x. (x.0, x.1.now)) result (kind_in bytes.now) }
 {
     let (byte, rest) = u8_at(bytes)?;
     if byte == 0 || byte > 8 {

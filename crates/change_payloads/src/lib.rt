@@ -13,7 +13,7 @@ mod fields;
 mod json;
 mod writing;
 
-pub use change::{damage, decode_change};
+pub use change::{damage, decode_change, kind_at};
 pub use fault::{ImageFault, ReadFault};
 pub use fields::{optional, text, u8_at, u32_at};
 pub use writing::{encode_change, put_length, put_optional, put_word};

@@ -1,5 +1,6 @@
 -- Where a payload is damaged, no change is spelled so far.
-use Rattle.std.proofs.Common.{◌≡◌, ℕ, zero, suc, ◌+◌, ◌≤◌, Bool, true, false, cond, ltb, eqb, List, [], ◌∷◌, ◌++◌, length, take, drop, map, Option, Some, None, Result, Ok, Err, refl, sym, subst, append-nil, arith}
+use Rattle.std.proofs.Common.{◌≡◌, ℕ, zero, suc, ◌+◌, ◌≤◌, ◌<◌, Bool, true, false, cond, ltb, eqb, List, [], ◌∷◌, ◌++◌, length, take, drop, map, Option, Some, None, Result, Ok, Err, refl, sym, subst, append-nil, arith}
+use Rattle.std.proofs.lemmas.Bool.{le-ltb, ne_eqb}
 use Rattle.std.proofs.lemmas.List.{length-drop, length-take}
 use Rattle.std.specs.Int.{Width, w32, byte_len, from_le_bytes, to_le_bytes}
 use Rattle.std.specs.List.{AllByRecursion}
@@ -84,7 +85,7 @@ counted_within : (bytes : List ℕ) → Within (length bytes) (counted_at bytes)
 unfolding counted_at
 counted_within bytes = within_bind (length bytes) (number_at w32 bytes) (λ n. documents_at n.0 n.1) (number_within w32 bytes) (λ n. documents_within n.0 n.1)
 
-kind_within : (bytes : List ℕ) → Within (length bytes) (kind_at bytes)
+pub kind_within : (bytes : List ℕ) → Within (length bytes) (kind_at bytes)
 unfolding kind_at
 kind_within [] = omega arith
 kind_within (byte ∷ bytes) = within_either (length (byte ∷ bytes)) (eqb byte 0 || ltb 8 byte) (Err (length (byte ∷ bytes))) (Ok (byte, bytes)) (omega arith) (omega arith)
@@ -186,6 +187,12 @@ kind_again (remove ids) rest = refl
 kind_again clear rest = refl
 kind_again (patch members) rest = refl
 kind_again reset rest = refl
+
+pub known_kind_again : (kind : ℕ) (rest : List ℕ) → 0 < kind → kind ≤ 8 → kind_at ((kind ∷ []) ++ rest) ≡ Ok (kind, rest)
+unfolding kind_at
+known_kind_again kind rest some known =
+    let not_zero : eqb kind 0 ≡ false = ne_eqb kind 0 (λ e. omega (arith, e, some)) in
+    rw (not_zero, le-ltb 8 kind known) refl
 
 -- ---- the whole
 

@@ -1,32 +1,35 @@
 -- Where an image is damaged, no state is spelled so far.
-use Rattle.std.proofs.Common.{◌≡◌, ℕ, zero, suc, ◌+◌, ◌≤◌, ◌<◌, ◌^◌, Bool, true, false, cond, ltb, eqb, List, [], ◌∷◌, ◌++◌, length, Option, Some, None, Result, Ok, Err, refl, sym, subst, append_assoc, append-nil, arith}
+use Rattle.std.proofs.Common.{◌≡◌, ℕ, zero, suc, ◌+◌, ◌≤◌, ◌<◌, ◌^◌, ◌⊎◌, inl, inr, Bool, true, false, cond, ltb, eqb, List, [], ◌∷◌, ◌++◌, length, Option, Some, None, Result, Ok, Err, refl, sym, ap, ◌∙◌, subst, append_assoc, append-nil, arith}
 use Rattle.std.proofs.lemmas.Bool.{le-ltb, lt-ltb}
 use Rattle.std.proofs.lemmas.List.{take_at, drop_at, length-append}
 use Rattle.std.proofs.lemmas.List.Concat.{flat_map-cons}
 use Rattle.std.proofs.lemmas.Nat.{from_le_bytes-to_le_bytes_8}
 use Rattle.std.specs.Int.{Width, w32, w64, to_le_bytes}
 use Rattle.std.specs.List.{flat_map, AllByRecursion}
-use Rattle.std.specs.Prelude.{◌&&◌, not, unwrap_or}
+use Rattle.std.specs.Prelude.{◌&&◌, ◌||◌, not, unwrap_or}
 use Rattle.std.specs.Str.{is_utf8}
+use Rattle.search_base.specs.declared.outcome.OutcomeRow.{OutcomeRow}
 use Rattle.serde_json.specs.Written.{compact_text}
 use Rattle.doc_values.specs.Ids.{is_uid}
 use Rattle.index_settings.specs.View.{SettingsView}
 use Rattle.index_image.specs.Layout.{settings_text, long}
-use Rattle.index_image.specs.State.{settings_of, EachAfter, is_above, is_next, external_ids, most_documents, IsPrimaryKey, IsNew, IsPlaced, IsIndex, IsState}
+use Rattle.index_image.specs.State.{settings_of, EachAfter, is_above, is_next, external_ids, most_documents, most_outcomes, IsPrimaryKey, IsNew, IsPlaced, IsIndex, IsState}
 use Rattle.index_image.specs.declared.rows.ImageDocument.{ImageDocument}
 use Rattle.change_payloads.specs.Fields.{◌>>=◌, number_at, piece_at, held_or, utf8_of, text_at, optional_at}
-use Rattle.change_payloads.specs.Change.{Spot, spot, or_spot}
+use Rattle.change_payloads.specs.Change.{Spot, spot, kind_at, or_spot}
 use Rattle.change_payloads.specs.Fits.{IsText, IsKey}
 use Rattle.change_payloads.specs.Spelling.{text}
 use Rattle.change_payloads.proofs.Again.{wide_again, number_again, text_again}
 use Rattle.index_image.specs.Fits.{ArePrinted, IsKept, HasIndexText, HasImage}
-use Rattle.index_image.specs.Image.{up_to_at, allowed, list_at, counted_list_at, uid_at, if_some_text, key_at, path_at, settings_at, id_at, fitting, fitting_at, image_document_at, index_at, version_at, whole_image, state_at}
+use Rattle.index_image.specs.Image.{up_to_at, allowed, list_at, counted_list_at, uid_at, if_some_text, key_at, path_at, settings_at, id_at, fitting, fitting_at, image_document_at, index_at, version_at, outcome_uid_at, row_at, outcome_at, outcomes_at, whole_image, state_at}
 use Rattle.index_image.specs.Names.{has_name}
+use Rattle.index_image.specs.Outcomes.{is_row, IsOutcome, HasOutcomeText}
 use Rattle.index_image.specs.Rows.{IndexData, ImageData}
 use Rattle.damage_laws.specs.Agrees.{AgreesThrough}
-use Rattle.damage_laws.specs.Fields.{optional_fields, list_fields, path_fields, document_fields, index_fields, image_fields}
+use Rattle.damage_laws.specs.Fields.{optional_fields, list_fields, path_fields, document_fields, index_fields, outcome_fields, AreFields}
+use Rattle.index_image.proofs.Lists.{each_after}
 use Rattle.damage_laws.proofs.Tells.{Within, IsBounded, IsReader, NoneSoFar, Tells, within_bind, left_bind, within_either, nothing_tells, plain_tells, field_tells, then_tells, map_tells}
-use Rattle.damage_laws.proofs.ChangeTells.{PieceWithin, number_within, piece_within, held_within, optional_within, optional_tells, left_none, none_behind}
+use Rattle.damage_laws.proofs.ChangeTells.{PieceWithin, number_within, piece_within, held_within, optional_within, kind_within, optional_tells, known_kind_again, left_none, none_behind}
 
 -- ---- what fields leave
 
@@ -109,6 +112,34 @@ with_id_reader key paths before id = within_bind (length id.1) (fitting_at key p
 document_within : (key : List ℕ) (paths : List (List ℕ)) (next_id : ℕ) (before : List ImageDocument) (bytes : List ℕ) → Within (length bytes) (image_document_at key paths next_id before bytes)
 unfolding image_document_at
 document_within key paths next_id before bytes = within_bind (length bytes) (id_at next_id before bytes) (with_id key paths before) (id_within next_id before bytes) (with_id_reader key paths before)
+
+outcome_uid_within : (bytes : List ℕ) → Within (length bytes) (outcome_uid_at bytes)
+unfolding outcome_uid_at
+outcome_uid_within bytes = allowed_within (length bytes) (text_at bytes) (λ uid. is_uid uid.0) (text_piece bytes)
+
+row_within : (bytes : List ℕ) → Within (length bytes) (row_at bytes)
+unfolding row_at
+row_within [] = omega arith
+row_within (byte ∷ bytes) = within_either (length (byte ∷ bytes)) (is_row byte) (Ok (byte, bytes)) (Err (length (byte ∷ bytes))) (omega arith) (omega arith)
+
+abbrev with_row : ℕ → List ℕ → ℕ × List ℕ → Result (OutcomeRow × List ℕ) ℕ
+with_row kind uid row = Ok (record { uid = uid; kind = kind; row = row.0 }, row.1)
+
+abbrev with_outcome_uid : ℕ → List ℕ × List ℕ → Result (OutcomeRow × List ℕ) ℕ
+with_outcome_uid kind uid = row_at uid.1 >>= with_row kind uid.0
+
+abbrev with_kind : ℕ × List ℕ → Result (OutcomeRow × List ℕ) ℕ
+with_kind kind = outcome_uid_at kind.1 >>= with_outcome_uid kind.0
+
+outcome_uid_reader : (kind : ℕ) → IsReader (with_outcome_uid kind)
+outcome_uid_reader kind uid = within_bind (length uid.1) (row_at uid.1) (with_row kind uid.0) (row_within uid.1) (λ row. omega arith)
+
+kind_reader : IsReader with_kind
+kind_reader kind = within_bind (length kind.1) (outcome_uid_at kind.1) (with_outcome_uid kind.0) (outcome_uid_within kind.1) (outcome_uid_reader kind.0)
+
+outcome_within : (before : List OutcomeRow) (bytes : List ℕ) → Within (length bytes) (outcome_at bytes)
+unfolding outcome_at
+outcome_within before bytes = within_bind (length bytes) (kind_at bytes) with_kind (kind_within bytes) kind_reader
 
 -- ---- an index, from its last field to its first
 
@@ -267,53 +298,111 @@ index_tells B before i h t =
     then_tells B (uid_at before) after_uid i.uid i (text i.uid ∷ []) (optional_fields i.key ++ f3)
     (field_tells B (uid_at before) i.uid (text i.uid) (λ rest. uid_again before i.uid rest t.uid h.uid h.above)) uid_reader keyed
 
+outcome_uid_again : (uid rest : List ℕ) → IsText uid → is_uid uid ≡ true → outcome_uid_at (text uid ++ rest) ≡ Ok (uid, rest)
+unfolding outcome_uid_at
+outcome_uid_again uid rest h valid = rw (text_again uid rest h, valid) refl
+
+row_again : (row : ℕ) (rest : List ℕ) → is_row row ≡ true → row_at ((row ∷ []) ++ rest) ≡ Ok (row, rest)
+unfolding row_at
+row_again row rest h = rw h refl
+
+outcome_tells : (B : Type 0) (before : List OutcomeRow) (o : OutcomeRow) → IsOutcome o → HasOutcomeText o → Tells B outcome_at o (outcome_fields o)
+unfolding outcome_at
+outcome_tells B before o h t =
+    let row : Tells B (λ rest. with_outcome_uid o.kind (o.uid, rest)) o ((o.row ∷ []) ∷ []) =
+    map_tells B row_at (λ row. record { uid = o.uid; kind = o.kind; row = row }) o.row ((o.row ∷ []) ∷ [])
+    (field_tells B row_at o.row (o.row ∷ []) (λ rest. row_again o.row rest h.row)) in
+    let uid : Tells B (λ rest. with_kind (o.kind, rest)) o (text o.uid ∷ (o.row ∷ []) ∷ []) =
+    then_tells B outcome_uid_at (with_outcome_uid o.kind) o.uid o (text o.uid ∷ []) ((o.row ∷ []) ∷ [])
+    (field_tells B outcome_uid_at o.uid (text o.uid) (λ rest. outcome_uid_again o.uid rest t h.uid)) (outcome_uid_reader o.kind) row in
+    then_tells B kind_at with_kind o.kind o ((o.kind ∷ []) ∷ []) (text o.uid ∷ (o.row ∷ []) ∷ [])
+    (field_tells B kind_at o.kind (o.kind ∷ []) (λ rest. known_kind_again o.kind rest h.some_kind h.known_kind)) kind_reader uid
+
 -- ---- the whole
 
-version_again : (rest : List ℕ) → version_at ((1 ∷ []) ++ rest) ≡ Ok (1, rest)
+version_again : (version : ℕ) (rest : List ℕ) → (version ≡ 1) ⊎ (version ≡ 2) → version_at ((version ∷ []) ++ rest) ≡ Ok (version, rest)
 unfolding version_at
-version_again rest = refl
+version_again version rest (inl one) = rw one refl
+version_again version rest (inr two) = rw two refl
 
 version_within : (bytes : List ℕ) → Within (length bytes) (version_at bytes)
 unfolding version_at
 version_within [] = omega arith
-version_within (byte ∷ bytes) = within_either (length (byte ∷ bytes)) (eqb byte 1) (Ok (byte, bytes)) (Err (length (byte ∷ bytes))) (omega arith) (omega arith)
+version_within (byte ∷ bytes) = within_either (length (byte ∷ bytes)) (eqb byte 1 || eqb byte 2) (Ok (byte, bytes)) (Err (length (byte ∷ bytes))) (omega arith) (omega arith)
 
-abbrev after_indexes : ℕ → List IndexData × List ℕ → Result ImageData ℕ
-after_indexes changes indexes = cond (eqb (length indexes.1) 0) (Ok (record { changes = changes; indexes = indexes.0 })) (Err (length indexes.1))
+outcomes_within : (version changes : ℕ) (bytes : List ℕ) → Within (length bytes) (outcomes_at version changes bytes)
+unfolding outcomes_at
+outcomes_within version changes bytes =
+    within_either (length bytes) (eqb version 1) (Ok ([], bytes)) (counted_list_at (λ before. outcome_at) (most_outcomes changes) bytes)
+    (omega arith) (counted_list_within (λ before. outcome_at) outcome_within (most_outcomes changes) bytes)
 
-abbrev after_changes : ℕ × List ℕ → Result ImageData ℕ
-after_changes changes = counted_list_at index_at 1000 changes.1 >>= after_indexes changes.0
+abbrev after_outcomes : ℕ → List IndexData → List OutcomeRow × List ℕ → Result ImageData ℕ
+after_outcomes changes indexes outcomes =
+    cond (eqb (length outcomes.1) 0) (Ok (record { changes = changes; indexes = indexes; outcomes = outcomes.0 })) (Err (length outcomes.1))
+
+abbrev after_indexes : ℕ → ℕ → List IndexData × List ℕ → Result ImageData ℕ
+after_indexes version changes indexes = outcomes_at version changes indexes.1 >>= after_outcomes changes indexes.0
+
+abbrev after_changes : ℕ → ℕ × List ℕ → Result ImageData ℕ
+after_changes version changes = counted_list_at index_at 1000 changes.1 >>= after_indexes version changes.0
 
 abbrev after_version : ℕ × List ℕ → Result ImageData ℕ
-after_version version = up_to_at w64 1000000000 version.1 >>= after_changes
+after_version version = up_to_at w64 1000000000 version.1 >>= after_changes version.0
 
-indexes_bounded : (changes : ℕ) → IsBounded (after_indexes changes)
-indexes_bounded changes indexes = left_none (record { changes = changes; indexes = indexes.0 }) indexes.1
+outcomes_bounded : (changes : ℕ) (indexes : List IndexData) → IsBounded (after_outcomes changes indexes)
+outcomes_bounded changes indexes outcomes = left_none (record { changes = changes; indexes = indexes; outcomes = outcomes.0 }) outcomes.1
 
-changes_bounded : IsBounded after_changes
-changes_bounded changes = left_bind (length changes.1) (counted_list_at index_at 1000 changes.1) (after_indexes changes.0) (counted_list_within index_at index_within 1000 changes.1) (indexes_bounded changes.0)
+indexes_bounded : (version changes : ℕ) → IsBounded (after_indexes version changes)
+indexes_bounded version changes indexes =
+    left_bind (length indexes.1) (outcomes_at version changes indexes.1) (after_outcomes changes indexes.0) (outcomes_within version changes indexes.1) (outcomes_bounded changes indexes.0)
+
+changes_bounded : (version : ℕ) → IsBounded (after_changes version)
+changes_bounded version changes =
+    left_bind (length changes.1) (counted_list_at index_at 1000 changes.1) (after_indexes version changes.0) (counted_list_within index_at index_within 1000 changes.1) (indexes_bounded version changes.0)
 
 version_bounded : IsBounded after_version
-version_bounded version = left_bind (length version.1) (up_to_at w64 1000000000 version.1) after_changes (up_to_within w64 1000000000 version.1) changes_bounded
+version_bounded version =
+    left_bind (length version.1) (up_to_at w64 1000000000 version.1) (after_changes version.0) (up_to_within w64 1000000000 version.1) (changes_bounded version.0)
 
-whole_none : (s : ImageData) → IsState s → HasImage s → NoneSoFar whole_image (image_fields s)
+-- up to the indexes the two versions are read alike
+front_none : (version : ℕ) (s : ImageData) (last : List (List ℕ)) → (version ≡ 1) ⊎ (version ≡ 2) → IsState s → HasImage s → NoneSoFar (λ rest. after_indexes version s.changes (s.indexes, rest)) last
+    → NoneSoFar whole_image ((version ∷ []) ∷ to_le_bytes w64 s.changes ∷ (list_fields index_fields s.indexes ++ last))
 unfolding whole_image
-whole_none s h t =
-    let f2 = list_fields index_fields s.indexes in
-    let indexes : NoneSoFar (λ rest. after_changes (s.changes, rest)) f2 =
-    subst (NoneSoFar (λ rest. after_changes (s.changes, rest))) (append-nil f2)
-    (counted_list_tells ImageData index_at index_fields IsIndex HasIndexText index_within (index_tells ImageData) 1000 s.indexes h.few (omega arith) h.indexes t
-    (after_indexes s.changes) [] (indexes_bounded s.changes) (none_behind s)) in
-    let changes : NoneSoFar (λ rest. after_version (1, rest)) (to_le_bytes w64 s.changes ∷ f2) =
+front_none version s last known h t behind =
+    let f2 = list_fields index_fields s.indexes ++ last in
+    let indexes : NoneSoFar (λ rest. after_changes version (s.changes, rest)) f2 =
+    counted_list_tells ImageData index_at index_fields IsIndex HasIndexText index_within (index_tells ImageData) 1000 s.indexes h.few (omega arith) h.indexes t.0
+    (after_indexes version s.changes) last (indexes_bounded version s.changes) behind in
+    let changes : NoneSoFar (λ rest. after_version (version, rest)) (to_le_bytes w64 s.changes ∷ f2) =
     field_tells ImageData (up_to_at w64 1000000000) s.changes (to_le_bytes w64 s.changes) (λ rest. changes_again 1000000000 s.changes rest h.changes (let few = h.changes in omega arith))
-    after_changes f2 changes_bounded indexes in
-    field_tells ImageData version_at 1 (1 ∷ []) version_again after_version (to_le_bytes w64 s.changes ∷ f2) version_bounded changes
+    (after_changes version) f2 (changes_bounded version) indexes in
+    field_tells ImageData version_at version (version ∷ []) (λ rest. version_again version rest known) after_version (to_le_bytes w64 s.changes ∷ f2) version_bounded changes
 
-pub no_state_so_far : (bytes : List ℕ) (damage : Spot) (s : ImageData) → state_at bytes ≡ Err damage → IsState s → HasImage s → AgreesThrough damage.place (image_fields s) bytes → ⊥
-no_state_so_far bytes damage s fails h t agrees = by (whole_image bytes) refl fails
+outcomes_none : (s : ImageData) → IsState s → HasImage s → NoneSoFar (λ rest. after_indexes 2 s.changes (s.indexes, rest)) (list_fields outcome_fields s.outcomes)
+unfolding outcomes_at
+outcomes_none s h t =
+    subst (NoneSoFar (λ rest. after_indexes 2 s.changes (s.indexes, rest))) (append-nil (list_fields outcome_fields s.outcomes))
+    (counted_list_tells ImageData (λ before. outcome_at) outcome_fields (λ before. IsOutcome) HasOutcomeText outcome_within (outcome_tells ImageData)
+    (most_outcomes s.changes) s.outcomes h.few_outcomes (omega arith) (each_after IsOutcome [] s.outcomes h.outcomes) t.1
+    (after_outcomes s.changes s.indexes) [] (outcomes_bounded s.changes s.indexes) (none_behind s))
+
+no_outcomes_none : (s : ImageData) → NoneSoFar (λ rest. after_indexes 1 s.changes (s.indexes, rest)) []
+unfolding outcomes_at
+no_outcomes_none s = none_behind (record { changes = s.changes; indexes = s.indexes; outcomes = [] })
+
+whole_none : (s : ImageData) (fields : List (List ℕ)) → IsState s → HasImage s → AreFields fields s → NoneSoFar whole_image fields
+whole_none s fields h t (inl are) =
+    subst (NoneSoFar whole_image) (sym are) (front_none 2 s (list_fields outcome_fields s.outcomes) (inr refl) h t (outcomes_none s h t))
+whole_none s fields h t (inr (none, are)) =
+    let without : (list_fields index_fields s.indexes ++ []) ≡ list_fields index_fields s.indexes = append-nil (list_fields index_fields s.indexes) in
+    let all = ap (λ (l : List (List ℕ)). (1 ∷ []) ∷ to_le_bytes w64 s.changes ∷ l) without ∙ sym are in
+    subst (NoneSoFar whole_image) all (front_none 1 s [] (inl refl) h t (no_outcomes_none s))
+
+pub no_state_so_far : (bytes : List ℕ) (damage : Spot) (s : ImageData) (fields : List (List ℕ)) → state_at bytes ≡ Err damage → IsState s → HasImage s → AreFields fields s → AgreesThrough damage.place fields bytes → ⊥
+no_state_so_far bytes damage s fields fails h t are agrees = by (whole_image bytes) refl fails
   where
     by : (r : Result ImageData ℕ) → whole_image bytes ≡ r → or_spot bytes r ≡ Err damage → ⊥
     by (Ok x) at e = absurd cc
     by (Err left) at e =
         let same : spot bytes left ≡ damage = cc in
-        whole_none s h t bytes left at (subst (λ (d : Spot). AgreesThrough d.place (image_fields s) bytes) (sym same) agrees)
+        whole_none s fields h t are bytes left at (subst (λ (d : Spot). AgreesThrough d.place fields bytes) (sym same) agrees)

@@ -1,17 +1,19 @@
 -- The fields of a spelling, one after the other, are the spelling.
-use Rattle.std.proofs.Common.{◌≡◌, ℕ, List, [], ◌∷◌, ◌++◌, length, map, Option, Some, None, refl, sym, ap, ap₂, ◌∙◌, append_assoc, append-nil}
+use Rattle.std.proofs.Common.{◌≡◌, ℕ, inl, inr, List, [], ◌∷◌, ◌++◌, length, map, Option, Some, None, refl, sym, ap, ap₂, ◌∙◌, append_assoc, append-nil}
 use Rattle.std.proofs.lemmas.List.Concat.{flat_map-cons}
 use Rattle.std.specs.Int.{w32, w64, to_le_bytes}
 use Rattle.std.specs.List.{flat_map}
 use Rattle.serde_json.specs.Data.{Data}
 use Rattle.serde_json.specs.Written.{compact_text}
+use Rattle.search_base.specs.declared.outcome.OutcomeRow.{OutcomeRow}
 use Rattle.doc_values.specs.Changes.{KindData, create, drop_index, replace, update, remove, clear, patch, reset, ChangeData}
 use Rattle.index_image.specs.declared.rows.ImageDocument.{ImageDocument}
 use Rattle.change_payloads.specs.Spelling.{text, optional, json, texts_data, documents, kind_byte, body, change}
-use Rattle.index_image.specs.Layout.{long, document_bytes, list_bytes, index_bytes, image_bytes, settings_text}
+use Rattle.index_image.specs.Layout.{long, document_bytes, list_bytes, index_bytes, image_bytes, first_image_bytes, IsSpelled, settings_text}
+use Rattle.index_image.specs.Outcomes.{outcome_bytes}
 use Rattle.index_image.specs.Rows.{IndexData, ImageData}
 use Rattle.damage_laws.specs.Agrees.{joined}
-use Rattle.damage_laws.specs.Fields.{optional_fields, documents_fields, body_fields, change_fields, list_fields, path_fields, document_fields, index_fields, image_fields}
+use Rattle.damage_laws.specs.Fields.{optional_fields, documents_fields, body_fields, change_fields, list_fields, path_fields, document_fields, index_fields, outcome_fields, image_fields, first_image_fields, AreFields}
 
 joined-append : (fs gs : List (List ℕ)) → joined (fs ++ gs) ≡ joined fs ++ joined gs
 joined-append [] gs = refl
@@ -71,5 +73,19 @@ index_joined i =
     let key_is = joined-append (optional_fields i.key) f3 ∙ ap₂ (λ (s t : List ℕ). s ++ t) (optional_joined i.key) (ap (λ (t : List ℕ). to_le_bytes w32 i.next_id ++ t) paths_are) in
     ap (λ (t : List ℕ). text i.uid ++ t) key_is
 
-pub image_joined : (s : ImageData) → joined (image_fields s) ≡ image_bytes s
-image_joined s = ap (λ (t : List ℕ). 1 ∷ (to_le_bytes w64 s.changes ++ t)) (list_joined index_fields index_bytes index_joined s.indexes)
+outcome_joined : (o : OutcomeRow) → joined (outcome_fields o) ≡ outcome_bytes o
+outcome_joined o = refl
+
+image_joined : (s : ImageData) → joined (image_fields s) ≡ image_bytes s
+image_joined s =
+    let indexes = list_joined index_fields index_bytes index_joined s.indexes in
+    let outcomes = list_joined outcome_fields outcome_bytes outcome_joined s.outcomes in
+    ap (λ (t : List ℕ). 2 ∷ (to_le_bytes w64 s.changes ++ t))
+    (joined-append (list_fields index_fields s.indexes) (list_fields outcome_fields s.outcomes) ∙ ap₂ (λ (i o : List ℕ). i ++ o) indexes outcomes)
+
+first_image_joined : (s : ImageData) → joined (first_image_fields s) ≡ first_image_bytes s
+first_image_joined s = ap (λ (t : List ℕ). 1 ∷ (to_le_bytes w64 s.changes ++ t)) (list_joined index_fields index_bytes index_joined s.indexes)
+
+pub fields_joined : (s : ImageData) (fields : List (List ℕ)) → AreFields fields s → IsSpelled (joined fields) s
+fields_joined s fields (inl are) = inl (ap joined are ∙ image_joined s)
+fields_joined s fields (inr (none, are)) = inr (none, ap joined are ∙ first_image_joined s)

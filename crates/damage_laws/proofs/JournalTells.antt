@@ -1,12 +1,11 @@
 -- Where a journal is damaged, no entry is spelled so far.
 use Rattle.std.proofs.Common.{◌≡◌, ◌≢◌, ℕ, zero, suc, ◌+◌, ◌-◌, ◌<◌, ◌≤◌, ◌^◌, min, Bool, true, false, cond, leb, eqb, List, [], ◌∷◌, ◌++◌, length, take, drop, Result, Ok, Err, refl, sym, ap, subst, ◌∙◌, append_assoc, arith}
 use Rattle.std.proofs.lemmas.Bool.{le-leb, eq-eqb, eqb-true}
-use Rattle.std.proofs.lemmas.List.{take_at, drop_at, length-append, length-take}
+use Rattle.std.proofs.lemmas.List.{take_at, drop_at, length-append}
 use Rattle.std.proofs.lemmas.Nat.{from_le_bytes-to_le_bytes_4, from_le_bytes-to_le_bytes_8}
 use Rattle.std.specs.Int.{w32, w64, from_le_bytes, to_le_bytes}
 use Rattle.std.specs.Prelude.{◌&&◌}
-use Rattle.change_payloads.specs.Spelling.{text}
-use Rattle.change_journal.specs.Format.{Field, payload, bad_field, Walk, shut, broken, entry, size_in, field_size, field_in, walk_field, walk, end_of}
+use Rattle.change_journal.specs.Format.{Field, payload, bad_field, Walk, shut, size_in, field_size, field_in, walk_field, walk, end_of}
 use Rattle.damage_laws.specs.Journal.{Entry, journal_fields, AreEntries}
 use Rattle.damage_laws.specs.Agrees.{AgreesThrough}
 

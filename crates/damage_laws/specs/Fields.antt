@@ -1,9 +1,10 @@
 -- The fields of a change and of a state as they are spelled. A text or a value is one field with its length.
-use Rattle.std.specs.Prelude.{ℕ, List, [], ◌∷◌, ◌++◌, length, map, Option, Some, None}
+use Rattle.std.specs.Prelude.{◌≡◌, ◌⊎◌, ℕ, List, [], ◌∷◌, ◌++◌, length, map, Option, Some, None}
 use Rattle.std.specs.Int.{w32, w64, to_le_bytes}
 use Rattle.std.specs.List.{flat_map}
 use Rattle.serde_json.specs.Data.{Data}
 use Rattle.serde_json.specs.Written.{compact_text}
+use Rattle.search_base.specs.declared.outcome.OutcomeRow.{OutcomeRow}
 use Rattle.doc_values.specs.Changes.{KindData, create, drop_index, replace, update, remove, clear, patch, reset, ChangeData}
 use Rattle.change_payloads.specs.Spelling.{text, json, texts_data, kind_byte}
 use Rattle.index_image.specs.declared.rows.ImageDocument.{ImageDocument}
@@ -50,5 +51,18 @@ abbrev pub index_fields : IndexData → List (List ℕ)
 index_fields i =
     text i.uid ∷ (optional_fields i.key ++ (to_le_bytes w32 i.next_id ∷ (list_fields path_fields i.paths ++ (long (settings_text i.settings) ∷ list_fields document_fields i.documents))))
 
+-- one byte, the uid, and one byte
+abbrev pub outcome_fields : OutcomeRow → List (List ℕ)
+outcome_fields o = (o.kind ∷ []) ∷ text o.uid ∷ (o.row ∷ []) ∷ []
+
+-- version 2
 abbrev pub image_fields : ImageData → List (List ℕ)
-image_fields s = (1 ∷ []) ∷ to_le_bytes w64 s.changes ∷ list_fields index_fields s.indexes
+image_fields s = (2 ∷ []) ∷ to_le_bytes w64 s.changes ∷ (list_fields index_fields s.indexes ++ list_fields outcome_fields s.outcomes)
+
+-- version 1, which has no outcomes
+abbrev pub first_image_fields : ImageData → List (List ℕ)
+first_image_fields s = (1 ∷ []) ∷ to_le_bytes w64 s.changes ∷ list_fields index_fields s.indexes
+
+-- these are the fields of the state in one of the two versions
+abbrev pub AreFields : List (List ℕ) → ImageData → Type 0
+AreFields fields s = (fields ≡ image_fields s) ⊎ ((s.outcomes ≡ []) × (fields ≡ first_image_fields s))

@@ -7,12 +7,12 @@ use Rattle.change_payloads.specs.Fits.{IsChange}
 use Rattle.change_payloads.specs.Spelling.{change}
 use Rattle.index_image.specs.Fits.{HasImage}
 use Rattle.index_image.specs.Image.{state_at}
-use Rattle.index_image.specs.Layout.{image_bytes}
+use Rattle.index_image.specs.Layout.{IsSpelled}
 use Rattle.index_image.specs.Rows.{ImageData}
 use Rattle.index_image.specs.State.{IsState}
 use Rattle.change_journal.specs.Format.{walk, end_of}
 use Rattle.damage_laws.specs.Agrees.{AgreesThrough, joined}
-use Rattle.damage_laws.specs.Fields.{change_fields, image_fields}
+use Rattle.damage_laws.specs.Fields.{change_fields, AreFields}
 use Rattle.damage_laws.specs.Journal.{Entry, journal_fields, AreEntries}
 
 abbrev pub NoChangeIsSpelledSoFar : Type 0
@@ -20,8 +20,8 @@ NoChangeIsSpelledSoFar = (bytes : List ℕ) (damage : Spot) (c : ChangeData) →
     → AgreesThrough damage.place (change_fields c) bytes → ⊥
 
 abbrev pub NoStateIsSpelledSoFar : Type 0
-NoStateIsSpelledSoFar = (bytes : List ℕ) (damage : Spot) (s : ImageData) → state_at bytes ≡ Err damage → IsState s
-    → HasImage s → AgreesThrough damage.place (image_fields s) bytes → ⊥
+NoStateIsSpelledSoFar = (bytes : List ℕ) (damage : Spot) (s : ImageData) (fields : List (List ℕ)) → state_at bytes ≡ Err damage
+    → IsState s → HasImage s → AreFields fields s → AgreesThrough damage.place fields bytes → ⊥
 
 -- the same of a journal whose first gate stands at a place, behind so many changes
 abbrev pub NoEntryIsSpelledSoFar : Type 0
@@ -35,4 +35,4 @@ abbrev pub FieldsSpellChanges : Type 0
 FieldsSpellChanges = (c : ChangeData) → joined (change_fields c) ≡ change c
 
 abbrev pub FieldsSpellStates : Type 0
-FieldsSpellStates = (s : ImageData) → joined (image_fields s) ≡ image_bytes s
+FieldsSpellStates = (s : ImageData) (fields : List (List ℕ)) → AreFields fields s → IsSpelled (joined fields) s

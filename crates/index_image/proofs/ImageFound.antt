@@ -1,10 +1,12 @@
 -- What is read as a state is its spelling, and the state is one that an image may hold.
-use Rattle.std.proofs.Common.{◌≡◌, ℕ, ◌+◌, ◌<◌, true, cond, eqb, List, [], ◌∷◌, ◌++◌, length, Option, Some, None, Result, Ok, Err, refl, sym, ap, subst, ◌∙◌, append-nil}
-use Rattle.std.proofs.lemmas.Bool.{ltb-true, eqb-true, and_parts, not-true}
+use Rattle.std.proofs.Common.{◌≡◌, ℕ, ◌+◌, ◌<◌, ◌≤◌, ◌⊎◌, inl, inr, true, cond, eqb, List, [], ◌∷◌, ◌++◌, length, Option, Some, None, Result, Ok, Err, refl, sym, ap, subst, ◌∙◌, append-nil, arith}
+use Rattle.std.proofs.lemmas.Bool.{ltb-true, eqb-true, and_parts, not-true, or_cases}
 use Rattle.std.proofs.lemmas.Slice.Eq.{bytes_eq-Decides}
 use Rattle.std.specs.Int.{w32, w64, to_le_bytes}
-use Rattle.std.specs.Prelude.{IfOk, ◌&&◌, not, option_and_then, unwrap_or, nat_lt}
+use Rattle.std.specs.List.{AllByRecursion}
+use Rattle.std.specs.Prelude.{IfOk, ◌&&◌, ◌||◌, not, option_and_then, unwrap_or, nat_lt}
 use Rattle.std.specs.Str.{is_utf8, bytes_eq}
+use Rattle.search_base.specs.declared.outcome.OutcomeRow.{OutcomeRow}
 use Rattle.serde_json.specs.Data.{Data}
 use Rattle.serde_json.specs.Read.{read}
 use Rattle.serde_json.specs.Written.{compact_text}
@@ -18,16 +20,17 @@ use Rattle.change_payloads.specs.declared.fault.ImageFault.{ImageFault}
 use Rattle.index_image.specs.declared.rows.ImageDocument.{ImageDocument}
 use Rattle.index_image.specs.declared.rows.ImageRows.{ImageRows}
 use Rattle.change_payloads.specs.Answers.{Decodes}
-use Rattle.change_payloads.specs.Change.{or_spot}
+use Rattle.change_payloads.specs.Change.{kind_at, or_spot}
 use Rattle.change_payloads.specs.Fields.{◌>>=◌, number_at, piece_at, held_or, text_at, optional_at}
-use Rattle.index_image.specs.Image.{up_to_at, allowed, counted_list_at, uid_at, if_some_text, key_at, path_at, settings_at, id_at, if_fits, fitting, fitting_at, image_document_at, index_at, version_at, whole_image, state_at}
-use Rattle.index_image.specs.Layout.{long, settings_text, document_bytes, list_bytes, index_bytes, image_bytes}
+use Rattle.index_image.specs.Image.{up_to_at, allowed, counted_list_at, uid_at, if_some_text, key_at, path_at, settings_at, id_at, if_fits, fitting, fitting_at, image_document_at, index_at, version_at, outcome_uid_at, row_at, outcome_at, outcomes_at, whole_image, state_at}
+use Rattle.index_image.specs.Outcomes.{is_row, outcome_bytes, IsOutcome}
+use Rattle.index_image.specs.Layout.{long, settings_text, document_bytes, list_bytes, index_bytes, IsSpelled}
 use Rattle.index_image.specs.Names.{has_name}
 use Rattle.index_image.specs.Rows.{IndexData, ImageData, image_view}
 use Rattle.change_payloads.specs.Spelling.{text, optional}
-use Rattle.index_image.specs.State.{is_above, settings_of, printed_at, if_printed, is_next, external_ids, fits, most_documents, IsPrimaryKey, IsNew, IsPlaced, IsIndex, IsState}
-use Rattle.change_payloads.proofs.Found.{IsBytes, IsBytes-rest, Takes, Takes-then, bind_ok, guard_ended, ok_is, if_some, some_is, then_some, held_ok, number_takes, text_takes, optional_takes, document_own, nil_from_length}
-use Rattle.index_image.proofs.Lists.{up_to_takes, counted_takes}
+use Rattle.index_image.specs.State.{is_above, settings_of, printed_at, if_printed, is_next, external_ids, fits, most_documents, most_outcomes, IsPrimaryKey, IsNew, IsPlaced, IsIndex, IsState}
+use Rattle.change_payloads.proofs.Found.{IsBytes, IsBytes-rest, Takes, Takes-then, bind_ok, guard_ended, ok_is, if_some, some_is, then_some, held_ok, number_takes, text_takes, optional_takes, document_own, kind_takes, nil_from_length}
+use Rattle.index_image.proofs.Lists.{all_each, up_to_takes, counted_takes}
 use Rattle.index_image.proofs.LongFields.{changes_take, long_takes}
 
 -- ---- the fields of an index
@@ -190,39 +193,119 @@ index_takes before bytes x fit e =
 
 -- ---- states
 
-version_takes : (bytes : List ℕ) (x : ℕ × List ℕ) → IsBytes bytes → version_at bytes ≡ Ok x → Takes bytes (1 ∷ []) x.1
+version_takes : (bytes : List ℕ) (x : ℕ × List ℕ) → IsBytes bytes → version_at bytes ≡ Ok x → Takes bytes (x.0 ∷ []) x.1 × ((x.0 ≡ 1) ⊎ (x.0 ≡ 2))
 unfolding version_at
 version_takes [] x fit e = absurd cc
 version_takes (byte ∷ bytes) x fit e =
-    let g = guard_ended (eqb byte 1) (length (byte ∷ bytes)) (byte, bytes) x e in
-    subst (λ (y : ℕ × List ℕ). Takes (byte ∷ bytes) (1 ∷ []) y.1) g.1 (record { parts = ap (λ (b : ℕ). b ∷ bytes) (eqb-true byte 1 g.0); rest_fits = IsBytes-rest byte bytes fit })
+    let g = guard_ended (eqb byte 1 || eqb byte 2) (length (byte ∷ bytes)) (byte, bytes) x e in
+    subst (λ (y : ℕ × List ℕ). Takes (byte ∷ bytes) (y.0 ∷ []) y.1 × ((y.0 ≡ 1) ⊎ (y.0 ≡ 2))) g.1
+    (record { parts = refl; rest_fits = IsBytes-rest byte bytes fit }, either (or_cases (eqb byte 1) (eqb byte 2) g.0))
+  where
+    either : (eqb byte 1 ≡ true) ⊎ (eqb byte 2 ≡ true) → (byte ≡ 1) ⊎ (byte ≡ 2)
+    either (inl one) = inl (eqb-true byte 1 one)
+    either (inr two) = inr (eqb-true byte 2 two)
+
+-- ---- outcomes
+
+outcome_uid_takes : (bytes : List ℕ) (x : List ℕ × List ℕ) → IsBytes bytes → outcome_uid_at bytes ≡ Ok x → Takes bytes (text x.0) x.1 × (is_uid x.0 ≡ true)
+unfolding outcome_uid_at
+outcome_uid_takes bytes x fits e =
+    let a = bind_ok (text_at bytes) (λ uid. allowed (is_uid uid.0) uid) x e in
+    let g = guard_ended (is_uid a.0.0) (length a.0.0 + length a.0.1) a.0 x a.2 in
+    subst (λ (y : List ℕ × List ℕ). Takes bytes (text y.0) y.1 × (is_uid y.0 ≡ true)) g.1 (text_takes bytes a.0.0 a.0.1 fits a.1, g.0)
+
+row_takes : (bytes : List ℕ) (x : ℕ × List ℕ) → IsBytes bytes → row_at bytes ≡ Ok x → Takes bytes (x.0 ∷ []) x.1 × (is_row x.0 ≡ true)
+unfolding row_at
+row_takes [] x fit e = absurd cc
+row_takes (byte ∷ bytes) x fit e =
+    let g = guard_ended (is_row byte) (length (byte ∷ bytes)) (byte, bytes) x e in
+    subst (λ (y : ℕ × List ℕ). Takes (byte ∷ bytes) (y.0 ∷ []) y.1 × (is_row y.0 ≡ true)) g.1 (record { parts = refl; rest_fits = IsBytes-rest byte bytes fit }, g.0)
+
+abbrev with_row : ℕ → List ℕ → ℕ × List ℕ → Result (OutcomeRow × List ℕ) ℕ
+with_row kind uid row = Ok (record { uid = uid; kind = kind; row = row.0 }, row.1)
+
+abbrev with_outcome_uid : ℕ → List ℕ × List ℕ → Result (OutcomeRow × List ℕ) ℕ
+with_outcome_uid kind uid = row_at uid.1 >>= with_row kind uid.0
+
+outcome_takes : (before : List OutcomeRow) (bytes : List ℕ) (x : OutcomeRow × List ℕ) → IsBytes bytes → outcome_at bytes ≡ Ok x → Takes bytes (outcome_bytes x.0) x.1 × IsOutcome x.0
+unfolding outcome_at
+outcome_takes before bytes x fit e =
+    let k = bind_ok (kind_at bytes) (λ kind. outcome_uid_at kind.1 >>= with_outcome_uid kind.0) x e in
+    let u = bind_ok (outcome_uid_at k.0.1) (with_outcome_uid k.0.0) x k.2 in
+    let r = bind_ok (row_at u.0.1) (with_row k.0.0 u.0.0) x u.2 in
+    let kind = kind_takes bytes k.0 fit k.1 in
+    let uid = outcome_uid_takes k.0.1 u.0 kind.0.rest_fits u.1 in
+    let row = row_takes u.0.1 r.0 uid.0.rest_fits r.1 in
+    let t2 = Takes-then k.0.1 (text u.0.0) u.0.1 (r.0.0 ∷ []) r.0.1 uid.0 row.0 in
+    let t1 = Takes-then bytes (k.0.0 ∷ []) k.0.1 (text u.0.0 ++ r.0.0 ∷ []) r.0.1 kind.0 t2 in
+    let found : OutcomeRow × List ℕ = (record { uid = u.0.0; kind = k.0.0; row = r.0.0 }, r.0.1) in
+    subst (λ (y : OutcomeRow × List ℕ). Takes bytes (outcome_bytes y.0) y.1 × IsOutcome y.0) (ok_is found x r.2)
+    (t1, record { some_kind = kind.1.0; known_kind = kind.1.1; uid = uid.1; row = row.1 })
 
 record IsFound (bytes : List ℕ) (s : ImageData) : Type 0 where
-  spelled : bytes ≡ image_bytes s
+  spelled : IsSpelled bytes s
   state : IsState s
 
-abbrev finished : ℕ → List IndexData × List ℕ → Result ImageData ℕ
-finished n is = cond (eqb (length is.1) 0) (Ok (record { changes = n; indexes = is.0 })) (Err (length is.1))
+abbrev finished : ℕ → List IndexData → List OutcomeRow × List ℕ → Result ImageData ℕ
+finished n is os = cond (eqb (length os.1) 0) (Ok (record { changes = n; indexes = is; outcomes = os.0 })) (Err (length os.1))
 
-abbrev with_changes : ℕ × List ℕ → Result ImageData ℕ
-with_changes n = counted_list_at index_at 1000 n.1 >>= finished n.0
+abbrev with_indexes : ℕ → ℕ → List IndexData × List ℕ → Result ImageData ℕ
+with_indexes version n is = outcomes_at version n is.1 >>= finished n is.0
+
+abbrev with_changes : ℕ → ℕ × List ℕ → Result ImageData ℕ
+with_changes version n = counted_list_at index_at 1000 n.1 >>= with_indexes version n.0
+
+-- the outcomes, or none in version 1
+record AreOutcomes (version changes : ℕ) (bytes : List ℕ) (y : List OutcomeRow × List ℕ) : Type 0 where
+  takes : ((version ≡ 1) × (y ≡ ([], bytes))) ⊎ ((version ≡ 2) × Takes bytes (list_bytes outcome_bytes y.0) y.1)
+  few : length y.0 ≤ most_outcomes changes
+  each : AllByRecursion IsOutcome y.0
+
+outcomes_take : (version changes : ℕ) (bytes : List ℕ) (y : List OutcomeRow × List ℕ) → IsBytes bytes → (version ≡ 1) ⊎ (version ≡ 2) → outcomes_at version changes bytes ≡ Ok y → AreOutcomes version changes bytes y
+unfolding outcomes_at
+outcomes_take version changes bytes y fit (inl one) e =
+    let same : ([], bytes) ≡ y = ok_is ([], bytes) y (sym (ap (λ (v : ℕ). outcomes_at v changes bytes) one) ∙ e) in
+    record {
+      takes = inl (one, sym same);
+      few = subst (λ (z : List OutcomeRow × List ℕ). length z.0 ≤ most_outcomes changes) same (omega arith);
+      each = subst (λ (z : List OutcomeRow × List ℕ). AllByRecursion IsOutcome z.0) same tt;
+    }
+outcomes_take version changes bytes y fit (inr two) e =
+    let t = counted_takes OutcomeRow (λ before. outcome_at) outcome_bytes (λ before. IsOutcome) outcome_takes (most_outcomes changes) bytes y fit (sym (ap (λ (v : ℕ). outcomes_at v changes bytes) two) ∙ e) in
+    record { takes = inr (two, t.takes); few = t.few; each = all_each IsOutcome [] y.0 t.each }
+
+-- the bytes of the fields, one after the other
+spell : (bytes v n i : List ℕ) (version changes : ℕ) (is : List IndexData) (y : List OutcomeRow × List ℕ) → Takes bytes (version ∷ []) v → Takes v (to_le_bytes w64 changes) n → Takes n (list_bytes index_bytes is) i
+    → ((version ≡ 1) × (y ≡ ([], i))) ⊎ ((version ≡ 2) × Takes i (list_bytes outcome_bytes y.0) y.1) → y.1 ≡ [] → IsSpelled bytes (record { changes = changes; indexes = is; outcomes = y.0 })
+spell bytes v n i version changes is y first second third (inl (one, none)) nothing =
+    let t2 = Takes-then v (to_le_bytes w64 changes) n (list_bytes index_bytes is) i second third in
+    let t1 = Takes-then bytes (version ∷ []) v (to_le_bytes w64 changes ++ list_bytes index_bytes is) i first t2 in
+    let all : List ℕ = to_le_bytes w64 changes ++ list_bytes index_bytes is in
+    let rest : i ≡ [] = sym (ap (λ (z : List OutcomeRow × List ℕ). z.1) none) ∙ nothing in
+    inr (ap (λ (z : List OutcomeRow × List ℕ). z.0) none, t1.parts ∙ ap (λ (r : List ℕ). (version ∷ all) ++ r) rest ∙ append-nil (version ∷ all) ∙ ap (λ (b : ℕ). b ∷ all) one)
+spell bytes v n i version changes is y first second third (inr (two, fourth)) nothing =
+    let t3 = Takes-then n (list_bytes index_bytes is) i (list_bytes outcome_bytes y.0) y.1 third fourth in
+    let t2 = Takes-then v (to_le_bytes w64 changes) n (list_bytes index_bytes is ++ list_bytes outcome_bytes y.0) y.1 second t3 in
+    let all : List ℕ = to_le_bytes w64 changes ++ (list_bytes index_bytes is ++ list_bytes outcome_bytes y.0) in
+    let t1 = Takes-then bytes (version ∷ []) v all y.1 first t2 in
+    inl (t1.parts ∙ ap (λ (r : List ℕ). (version ∷ all) ++ r) nothing ∙ append-nil (version ∷ all) ∙ ap (λ (b : ℕ). b ∷ all) two)
 
 whole_found : (bytes : List ℕ) (s : ImageData) → IsBytes bytes → whole_image bytes ≡ Ok s → IsFound bytes s
 unfolding whole_image
 whole_found bytes s fit e =
-    let v = bind_ok (version_at bytes) (λ version. up_to_at w64 1000000000 version.1 >>= with_changes) s e in
-    let n = bind_ok (up_to_at w64 1000000000 v.0.1) with_changes s v.2 in
-    let i = bind_ok (counted_list_at index_at 1000 n.0.1) (finished n.0.0) s n.2 in
-    let g = guard_ended (eqb (length i.0.1) 0) (length i.0.1) (record { changes = n.0.0; indexes = i.0.0 }) s i.2 in
+    let v = bind_ok (version_at bytes) (λ version. up_to_at w64 1000000000 version.1 >>= with_changes version.0) s e in
+    let n = bind_ok (up_to_at w64 1000000000 v.0.1) (with_changes v.0.0) s v.2 in
+    let i = bind_ok (counted_list_at index_at 1000 n.0.1) (with_indexes v.0.0 n.0.0) s n.2 in
+    let o = bind_ok (outcomes_at v.0.0 n.0.0 i.0.1) (finished n.0.0 i.0.0) s i.2 in
+    let g = guard_ended (eqb (length o.0.1) 0) (length o.0.1) (record { changes = n.0.0; indexes = i.0.0; outcomes = o.0.0 }) s o.2 in
     let first = version_takes bytes v.0 fit v.1 in
-    let second = changes_take 1000000000 v.0.1 n.0 first.rest_fits n.1 in
+    let second = changes_take 1000000000 v.0.1 n.0 first.0.rest_fits n.1 in
     let third = counted_takes IndexData index_at index_bytes IsIndex index_takes 1000 n.0.1 i.0 second.0.rest_fits i.1 in
-    let t2 = Takes-then v.0.1 (to_le_bytes w64 n.0.0) n.0.1 (list_bytes index_bytes i.0.0) i.0.1 second.0 third.takes in
-    let t1 = Takes-then bytes (1 ∷ []) v.0.1 (to_le_bytes w64 n.0.0 ++ list_bytes index_bytes i.0.0) i.0.1 first t2 in
-    let all : List ℕ = image_bytes (record { changes = n.0.0; indexes = i.0.0 }) in
-    let nothing : i.0.1 ≡ [] = nil_from_length i.0.1 (eqb-true _ _ g.0) in
-    let ended : bytes ≡ all = t1.parts ∙ ap (λ (r : List ℕ). all ++ r) nothing ∙ append-nil all in
-    subst (IsFound bytes) g.1 (record { spelled = ended; state = record { changes = second.1; few = third.few; indexes = third.each } })
+    let fourth = outcomes_take v.0.0 n.0.0 i.0.1 o.0 third.takes.rest_fits first.1 o.1 in
+    let made : ImageData = record { changes = n.0.0; indexes = i.0.0; outcomes = o.0.0 } in
+    let nothing : o.0.1 ≡ [] = nil_from_length o.0.1 (eqb-true _ _ g.0) in
+    let spelled : IsSpelled bytes made = spell bytes v.0.1 n.0.1 i.0.1 v.0.0 n.0.0 i.0.0 o.0 first.0 second.0 third.takes fourth.takes nothing in
+    subst (IsFound bytes) g.1 (record { spelled = spelled; state = record { changes = second.1; few = third.few; indexes = third.each; few_outcomes = fourth.few; outcomes = fourth.each } })
 
 at_spot : (bytes : List ℕ) (r : Result ImageData ℕ) (s : ImageData) → or_spot bytes r ≡ Ok s → r ≡ Ok s
 at_spot bytes (Ok x) s e = cc
@@ -231,7 +314,7 @@ at_spot bytes (Err left) s e = absurd cc
 state_found : (bytes : List ℕ) (s : ImageData) → IsBytes bytes → state_at bytes ≡ Ok s → IsFound bytes s
 state_found bytes s fit e = whole_found bytes s fit (at_spot bytes (whole_image bytes) s e)
 
-pub is_spelled : (bytes : List ℕ) (r : Result ImageRows ImageFault) → IsBytes bytes → Decodes image_view r (state_at bytes) → IfOk r (λ rows. bytes ≡ image_bytes (image_view rows))
+pub is_spelled : (bytes : List ℕ) (r : Result ImageRows ImageFault) → IsBytes bytes → Decodes image_view r (state_at bytes) → IfOk r (λ rows. IsSpelled bytes (image_view rows))
 is_spelled bytes (Ok rows) fit given = (state_found bytes (image_view rows) fit given).spelled
 is_spelled bytes (Err fault) fit given = tt
 

@@ -1,16 +1,18 @@
 -- The state of an image, by its fields in order.
-use Rattle.std.specs.Prelude.{ℕ, zero, suc, ◌+◌, ◌&&◌, ◌==◌, not, Bool, List, [], ◌∷◌, ◌++◌, length, nat_lt, if◌then◌else◌, Option, None, Some, option_and_then, unwrap_or, Result, Ok, Err}
+use Rattle.std.specs.Prelude.{ℕ, zero, suc, ◌+◌, ◌&&◌, ◌||◌, ◌==◌, not, Bool, List, [], ◌∷◌, ◌++◌, length, nat_lt, if◌then◌else◌, Option, None, Some, option_and_then, unwrap_or, Result, Ok, Err}
 use Rattle.std.specs.Int.{Width, w32, w64}
+use Rattle.search_base.specs.declared.outcome.OutcomeRow.{OutcomeRow}
 use Rattle.serde_json.specs.Data.{Data}
 use Rattle.doc_values.specs.Ids.{is_uid}
 use Rattle.doc_values.specs.Stored.{document_at}
 use Rattle.index_settings.specs.View.{SettingsView}
 use Rattle.index_image.specs.declared.rows.ImageDocument.{ImageDocument}
-use Rattle.change_payloads.specs.Change.{Spot, or_spot}
+use Rattle.change_payloads.specs.Change.{Spot, kind_at, or_spot}
 use Rattle.change_payloads.specs.Fields.{◌>>=◌, byte_at, number_at, piece_at, held_or, text_at, optional_at}
 use Rattle.index_image.specs.Names.{has_name}
+use Rattle.index_image.specs.Outcomes.{is_row}
 use Rattle.index_image.specs.Rows.{IndexData, ImageData}
-use Rattle.index_image.specs.State.{is_above, settings_of, is_next, external_ids, fits, most_documents}
+use Rattle.index_image.specs.State.{is_above, settings_of, is_next, external_ids, fits, most_documents, most_outcomes}
 
 -- a number that is not above another
 unfoldable pub up_to_at : Width → ℕ → List ℕ → Result (ℕ × List ℕ) ℕ
@@ -87,18 +89,40 @@ index_at before bytes = do
   documents ← counted_list_at (image_document_at (unwrap_or key.0 []) paths.0 next_id.0) (most_documents key.0) settings.1
   Ok (record { uid = uid.0; key = key.0; next_id = next_id.0; paths = paths.0; settings = settings.0; documents = documents.0 }, documents.1)
 
--- version 1
+-- version 1 or 2
 unfoldable pub version_at : List ℕ → Result (ℕ × List ℕ) ℕ
 version_at bytes = do
   byte ← byte_at bytes
-  if byte.0 == 1 then Ok byte else Err (length bytes)
+  if byte.0 == 1 || byte.0 == 2 then Ok byte else Err (length bytes)
+
+unfoldable pub outcome_uid_at : List ℕ → Result (List ℕ × List ℕ) ℕ
+outcome_uid_at bytes = do
+  uid ← text_at bytes
+  allowed (is_uid uid.0) uid
+
+unfoldable pub row_at : List ℕ → Result (ℕ × List ℕ) ℕ
+row_at bytes = do
+  byte ← byte_at bytes
+  if is_row byte.0 then Ok byte else Err (length bytes)
+
+unfoldable pub outcome_at : List ℕ → Result (OutcomeRow × List ℕ) ℕ
+outcome_at bytes = do
+  kind ← kind_at bytes
+  uid ← outcome_uid_at kind.1
+  row ← row_at uid.1
+  Ok (record { uid = uid.0; kind = kind.0; row = row.0 }, row.1)
+
+-- the outcomes of an image of a version that counts so many changes: none in version 1
+unfoldable pub outcomes_at : ℕ → ℕ → List ℕ → Result (List OutcomeRow × List ℕ) ℕ
+outcomes_at version changes bytes = if version == 1 then Ok ([], bytes) else counted_list_at (λ before. outcome_at) (most_outcomes changes) bytes
 
 unfoldable pub whole_image : List ℕ → Result ImageData ℕ
 whole_image bytes = do
   version ← version_at bytes
   changes ← up_to_at w64 1000000000 version.1
   indexes ← counted_list_at index_at 1000 changes.1
-  if length indexes.1 == 0 then Ok (record { changes = changes.0; indexes = indexes.0 }) else Err (length indexes.1)
+  outcomes ← outcomes_at version.0 changes.0 indexes.1
+  if length outcomes.1 == 0 then Ok (record { changes = changes.0; indexes = indexes.0; outcomes = outcomes.0 }) else Err (length outcomes.1)
 
 -- the state of all the bytes, or the damage
 abbrev pub state_at : List ℕ → Result ImageData Spot

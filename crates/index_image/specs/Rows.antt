@@ -1,5 +1,6 @@
 -- What contracts see of the rows of an image: each vector is a list.
 use Rattle.std.specs.Prelude.{ℕ, List, map, Option}
+use Rattle.search_base.specs.declared.outcome.OutcomeRow.{OutcomeRow}
 use Rattle.index_settings.specs.View.{SettingsView}
 use Rattle.index_image.specs.declared.rows.ImageDocument.{ImageDocument}
 use Rattle.index_image.specs.declared.rows.ImageIndex.{ImageIndex}
@@ -16,6 +17,7 @@ pub record IndexData : Type 0 where
 pub record ImageData : Type 0 where
   pub changes : ℕ
   pub indexes : List IndexData
+  pub outcomes : List OutcomeRow
 
 abbrev pub index_view : ImageIndex → IndexData
 index_view i = record {
@@ -28,4 +30,4 @@ index_view i = record {
 }
 
 abbrev pub image_view : ImageRows → ImageData
-image_view r = record { changes = r.changes; indexes = map index_view r.indexes.items }
+image_view r = record { changes = r.changes; indexes = map index_view r.indexes.items; outcomes = r.outcomes.items }

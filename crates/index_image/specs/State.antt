@@ -1,8 +1,8 @@
 -- Which states an image may hold.
-use Rattle.std.specs.Prelude.{◌≡◌, ℕ, ◌<◌, ◌≤◌, List, [], ◌∷◌, ◌++◌, length, Bool, true, false, ◌&&◌, not, nat_lt, Option, Some, None, option_and_then, unwrap_or, if◌then◌else◌, bytes_eq}
+use Rattle.std.specs.Prelude.{◌≡◌, ℕ, min, ◌<◌, ◌≤◌, List, [], ◌∷◌, ◌++◌, length, Bool, true, false, ◌&&◌, not, nat_lt, Option, Some, None, option_and_then, unwrap_or, if◌then◌else◌, bytes_eq}
 use Rattle.std.specs.Result.{result_ok}
 use Rattle.std.specs.Cmp.Lexicographic.{slice_cmp}
-use Rattle.std.specs.List.{list_all}
+use Rattle.std.specs.List.{list_all, AllByRecursion}
 use Rattle.std.specs.Ordering.{nat_cmp, is_lt}
 use Rattle.std.specs.Str.{is_utf8}
 use Rattle.serde_json.specs.Data.{Data}
@@ -15,6 +15,7 @@ use Rattle.index_settings.specs.Table.{defaults}
 use Rattle.index_image.specs.declared.rows.ImageDocument.{ImageDocument}
 use Rattle.index_image.specs.Layout.{settings_text}
 use Rattle.index_image.specs.Names.{has_name}
+use Rattle.index_image.specs.Outcomes.{IsOutcome}
 use Rattle.index_image.specs.Rows.{IndexData, ImageData}
 
 -- P holds of each member and of those before it; `before` stand before the first
@@ -77,6 +78,10 @@ abbrev pub most_documents : Option (List ℕ) → ℕ
 most_documents None = 0
 most_documents (Some key) = 1000000
 
+-- how many outcomes a state may have after so many changes
+abbrev pub most_outcomes : ℕ → ℕ
+most_outcomes changes = min 1000 changes
+
 -- ---- states
 
 -- a primary key is not empty
@@ -108,3 +113,5 @@ pub record IsState (s : ImageData) : Type 0 where
   pub changes : s.changes ≤ 1000000000
   pub few : length s.indexes ≤ 1000
   pub indexes : EachAfter IsIndex [] s.indexes
+  pub few_outcomes : length s.outcomes ≤ most_outcomes s.changes
+  pub outcomes : AllByRecursion IsOutcome s.outcomes

@@ -9,13 +9,15 @@ ghost use Rattle.index_image.specs.Rows.{index_view, image_view};
 ghost use Rattle.change_payloads.specs.Spelling.{text as text_bytes};
 ghost use Rattle.index_image.specs.State.{IsState};
 
+use crate::image::VERSION;
+use crate::outcomes::put_outcomes;
 use crate::rows::{ImageDocument, ImageIndex, ImageRows};
 use change_payloads::{put_length, put_optional, put_word};
 use index_settings::{Settings, to_json};
 use search_base::{NoMemory, Word};
 use std::alloc::Global;
 
-/// The image of a state, version 1. `decode` gives the state back, where it is one that an image may hold.
+/// The image of a state, version 2. `decode` gives the state back, where it is one that an image may hold.
 ///
 /// A uid, a key, a path or a list of 2^32 bytes or members counts as one for which there is no memory.
 pub fn encode(alloc: Global, rows: &ImageRows) -> Result<Vec<u8>, NoMemory>
@@ -31,9 +33,10 @@ fn encoded(alloc: Global, rows: &ImageRows) -> Result<Vec<u8>, NoMemory>
     ensures texts { OnOk result (HasImage (image_view rows.now)) }
 {
     let mut out = Vec::new(alloc);
-    out.push(1)?;
+    out.push(VERSION)?;
     out.extend_from_slice(&rows.changes.to_le_bytes())?;
     put_indexes(alloc, &mut out, &rows.indexes)?;
+    put_outcomes(&mut out, &rows.outcomes)?;
     Ok(out)
 }
 

@@ -1,6 +1,6 @@
 use doc_values::DocumentText;
 use index_settings::Settings;
-use search_base::{DocId, Word};
+use search_base::{DocId, OutcomeRow, Word};
 
 /// A document under its internal id.
 #[derive(Drop)]
@@ -20,9 +20,11 @@ pub struct ImageIndex {
     pub documents: Vec<ImageDocument>,
 }
 
-/// A state: the count of changes, and the indexes by uids. Contracts see it through `image_view`.
+/// A state: the count of changes, the indexes by uids, and the outcomes of the last of these changes, the oldest first.
+/// Contracts see it through `image_view`.
 #[derive(Drop)]
 pub struct ImageRows {
     pub changes: u64,
     pub indexes: Vec<ImageIndex>,
+    pub outcomes: Vec<OutcomeRow>,
 }

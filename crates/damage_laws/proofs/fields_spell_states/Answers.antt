@@ -1,5 +1,5 @@
-use Rattle.damage_laws.proofs.Joined.{image_joined}
+use Rattle.damage_laws.proofs.Joined.{fields_joined}
 use Rattle.damage_laws.proofs.fields_spell_states.Goals as goal
 
 pub returns : goal.returns
-returns c = image_joined
+returns c = fields_joined
