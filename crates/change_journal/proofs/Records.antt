@@ -3,7 +3,7 @@ use Rattle.std.proofs.Common.{◌≡◌, ◌≢◌, ℕ, suc, ◌+◌, ◌<◌, 
 use Rattle.std.proofs.lemmas.List.{drop_more, drop_all, drop-drop}
 use Rattle.std.specs.Prelude.{Some, Ok, Err}
 use Rattle.std.specs.Option.{option_map}
-use Rattle.change_journal.specs.Format.{Field, payload, bad_field, field_in, Walk, shut, broken, entry, walk_field, walk, payloads, end_of, look, opened, found_at, active_of, by_state, by_walk, by_end}
+use Rattle.change_journal.specs.Format.{Field, payload, bad_field, field_in, Walk, shut, broken, entry, walk_field, walk, payloads, end_of, look, opened, version_of, found_at, active_of, by_state, by_walk, by_end}
 use Rattle.index_image.specs.Image.{state_at}
 use Rattle.index_image.specs.Rows.{ImageData, image_view}
 use Rattle.change_journal.specs.Fits.{Holds}
@@ -80,12 +80,13 @@ module _ (o : Opened) (d g l : ℕ) (s : ImageData) (xs : List ℕ) (e : look xs
   ends : end_of (walk 0 (24 + l) s.changes (drop (24 + l) xs)) ≡ Ok o.journal.gate
   ends = ap end_of w ∙ end_behind o.changes.items (shut o.journal.gate)
 
-  pub opens : o.active ≡ d → option_map image_view o.image ≡ Some s → o.image_at ≡ 24 → 24 + l + o.journal.grown ≡ o.journal.gate + 1 → Stands o (active_of d g l xs)
-  opens active rows at grown = subst (λ r. Stands o r) (sym (opened_as d g l xs s o.journal.gate image ends)) (record {
+  pub opens : o.active ≡ d → option_map image_view o.image ≡ Some s → o.version ≡ version_of (take l (drop 24 xs)) → o.image_at ≡ 24 → 24 + l + o.journal.grown ≡ o.journal.gate + 1 → Stands o (active_of d g l xs)
+  opens active rows version at grown = subst (λ r. Stands o r) (sym (opened_as d g l xs s o.journal.gate image ends)) (record {
     stored = record { active = d; generation = g; image = take l (drop 24 xs); state = s; records = walk 0 (24 + l) s.changes (drop (24 + l) xs); gate = o.journal.gate };
     is = refl;
     active = active;
     image = rows;
+    version = version;
     image_at = at;
     changes = sym w;
     grown = let long = looks xs g l e in omega (arith, grown, length-take l (drop 24 xs), length-drop 24 xs, long.fits, long.size);

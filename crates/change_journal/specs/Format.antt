@@ -87,6 +87,11 @@ pub record Spot : Type 0 where
 abbrev pub found_at : List ℕ → ℕ → Option ℕ
 found_at xs k = if nat_lt k (length xs) then Some (slice_index xs k) else None
 
+-- the version of an image: its first byte; 0 of no bytes
+abbrev pub version_of : List ℕ → ℕ
+version_of [] = 0
+version_of (version ∷ rest) = version
+
 pub record Stored : Type 0 where
   pub active : ℕ
   pub generation : ℕ

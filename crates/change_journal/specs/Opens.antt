@@ -1,11 +1,12 @@
 -- What opening gives.
 use Rattle.std.specs.Prelude.{◌≡◌, ◌≢◌, MatchOption, ℕ, ◌+◌, ◌<◌, ◌≤◌, ◌^◌, ◌==◌, nat_le, List, [], ◌∷◌, length, take, drop, slice_index, bytes_eq, codes, if◌then◌else◌, Option, Some, None, Result, Ok, Err}
-use Rattle.change_journal.specs.Format.{Look, closed, bad, opened, look, generation_in, length_in, found_at, Field, payload, bad_field, Walk, shut, broken, entry, Spot, Stored}
+use Rattle.change_journal.specs.Format.{Look, closed, bad, opened, look, generation_in, length_in, found_at, Field, payload, bad_field, Walk, shut, broken, entry, Spot, Stored, version_of}
 use Rattle.change_journal.specs.declared.opening.Head.{Head}
 use Rattle.change_journal.specs.declared.opening.Head.TheVariants.{Closed, Bad, Open}
 use Rattle.change_journal.specs.declared.opening.Piece.{Piece}
 use Rattle.change_journal.specs.declared.opening.Piece.TheVariants.{Payload, BadField}
 use Rattle.change_journal.specs.declared.opening.Front.{Front}
+use Rattle.change_journal.specs.declared.opening.ImageFound.{ImageFound}
 use Rattle.change_journal.specs.declared.opening.Tail.{Tail}
 use Rattle.change_journal.specs.declared.opening.Tail.TheVariants.{Shut, Broken}
 use Rattle.change_journal.specs.declared.opening.StoredChange.{StoredChange}
@@ -15,7 +16,7 @@ use Rattle.change_journal.specs.declared.opening.Opened.{Opened}
 use Rattle.change_journal.specs.declared.opening.JournalFault.{JournalFault}
 use Rattle.std.specs.Option.{option_map}
 use Rattle.index_image.specs.Image.{state_at}
-use Rattle.index_image.specs.Rows.{ImageData, image_view}
+use Rattle.index_image.specs.Rows.{image_view}
 use Rattle.index_image.specs.State.{IsState}
 use Rattle.change_journal.specs.declared.opening.JournalFault.TheVariants.{DiskFault, Damaged, NoMemory}
 
@@ -68,6 +69,7 @@ pub record Opens (o : Opened) (r : Result (Option Stored) Spot) : Type 0 where
   pub is : r ≡ Ok (Some stored)
   pub active : o.active ≡ stored.active
   pub image : option_map image_view o.image ≡ Some stored.state
+  pub version : o.version ≡ version_of stored.image
   pub image_at : o.image_at ≡ 24
   pub changes : behind o.changes.items (shut o.journal.gate) ≡ stored.records
   -- what is found counts as growth: all of the journal, its gates included
@@ -77,6 +79,7 @@ pub record Opens (o : Opened) (r : Result (Option Stored) Spot) : Type 0 where
 pub record OpensNone (o : Opened) : Type 0 where
   pub active : o.active ≡ 0
   pub image : o.image ≡ None
+  pub version : o.version ≡ 0
   pub image_at : o.image_at ≡ 0
   pub changes : o.changes.items ≡ []
 
@@ -125,9 +128,13 @@ IsChoice first second (Ok (Some (B, f))) = (second ≡ Some f) × IsBelow f.gene
 IsChoice first second (Err fault) = (f g : Front) × (first ≡ Some f) × (second ≡ Some g) × (f.generation ≡ g.generation)
     × (fault ≡ Damaged 1 8 g.eighth)
 
--- the disk is open, and these are the state of its image and the bytes behind that
-abbrev pub IsReadAs : Front → ImageData → List ℕ → List ℕ → Type 0
-IsReadAs f state bytes xs = (look xs ≡ opened f.generation f.size) × (state_at (take f.size (drop 24 xs)) ≡ Ok state) × (bytes ≡ drop (24 + f.size) xs)
+-- these are the version and the state of an image
+abbrev pub IsImageOf : ImageFound → List ℕ → Type 0
+IsImageOf found image = (found.version ≡ version_of image) × (state_at image ≡ Ok (image_view found.rows))
+
+-- the disk is open, and these are its image and the bytes behind that
+abbrev pub IsReadAs : Front → ImageFound → List ℕ → List ℕ → Type 0
+IsReadAs f image bytes xs = (look xs ≡ opened f.generation f.size) × IsImageOf image (take f.size (drop 24 xs)) × (bytes ≡ drop (24 + f.size) xs)
 
 -- the journal goes on at this disk
 abbrev pub GoesOn : Side → ℕ → Opened → Type 0

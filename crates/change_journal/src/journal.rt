@@ -1,4 +1,4 @@
-ghost use Rattle.std.specs.Prelude.{◌≡◌, ◌≢◌, ◌⊎◌, ◌+◌, ◌<◌, ◌≤◌, ◌^◌, ◌-◌, ◌↔◌, [], ◌∷◌, IsTrue, Ok, List, ℕ, None, Some, OnOk, OnErr, length};
+ghost use Rattle.std.specs.Prelude.{◌≡◌, ◌≢◌, ◌⊎◌, ◌+◌, ◌<◌, ◌≤◌, ◌^◌, ◌-◌, ◌↔◌, [], ◌∷◌, IsTrue, true, false, Ok, List, ℕ, None, Some, OnOk, OnErr, length};
 ghost use Rattle.outside_io.specs.Faults.{HasCause, Rose};
 ghost use Rattle.outside_io.specs.Disks.{Contents, Told, fresh, LeavesOnly};
 ghost use Rattle.change_journal.specs.Format.{stored_pair, pair_in, look};
@@ -159,6 +159,14 @@ impl Journal {
         ensures { IsTrue result ↔ IsDue self.now }
     {
         self.grown > LONG && self.generation < u64::MAX
+    }
+
+    /// Whether the generation is the last, 2^64 - 1: then no checkpoint is made any more.
+    pub fn is_last(&self) -> bool
+        ensures last { result ≡ true → self.now.generation ≡ 2 ^ 64 - 1 }
+        ensures few { result ≡ false → self.now.generation < 2 ^ 64 - 1 }
+    {
+        self.generation == u64::MAX
     }
 
     // The same on the disk that is not active, where there is a generation left.

@@ -2,12 +2,11 @@ ghost use Rattle.std.specs.Prelude.{◌≡◌, ◌≢◌, ◌+◌, ◌*◌, ◌^
 ghost use Rattle.std.specs.Int.{w32, w64, from_le_bytes};
 ghost use Rattle.outside_io.specs.Faults.{HasCause, Rose};
 ghost use Rattle.outside_io.specs.Disks.{Contents, Told, fresh, LeavesOnly};
-ghost use Rattle.change_journal.specs.Format.{look, opened, field_in, walk, found_at, active_of, stored, Stored, Spot};
+ghost use Rattle.change_journal.specs.Format.{look, opened, field_in, walk, version_of, found_at, active_of, stored, Stored, Spot};
 ghost use Rattle.change_journal.specs.Fits.{Fits, Holds, BothTold};
-ghost use Rattle.index_image.specs.Image.{state_at};
 ghost use Rattle.index_image.specs.Rows.{image_view};
 ghost use Rattle.index_image.specs.State.{IsState};
-ghost use Rattle.change_journal.specs.Opens.{number_of, look_in, look_of, IsPiece, tail_of, behind, IsWithin, TailWithin, IsFront, IsChoice, IsReadAs, GoesOn, OpensNone, AnswersAll, IsReady};
+ghost use Rattle.change_journal.specs.Opens.{number_of, look_in, look_of, IsPiece, tail_of, behind, IsWithin, TailWithin, IsFront, IsChoice, IsImageOf, IsReadAs, GoesOn, OpensNone, AnswersAll, IsReady};
 ghost use Rattle.change_journal.specs.declared.opening.JournalFault.TheVariants.{NoMemory, DiskFault};
 
 use crate::{Journal, Side};
@@ -49,6 +48,13 @@ struct Front {
     len: u64,
 }
 
+// An image that was read: its version, and the state that it spells.
+#[derive(Drop)]
+struct ImageFound {
+    version: u8,
+    rows: ImageRows,
+}
+
 /// What two disks hold, and the journal to go on with.
 #[derive(Drop)]
 pub struct Opened {
@@ -57,6 +63,8 @@ pub struct Opened {
     pub active: u8,
     /// The state that the image of the active disk spells, where one is open.
     pub image: Option<ImageRows>,
+    /// The version of this image, 0 where none is open.
+    pub version: u8,
     /// The place of the image on the active disk, 0 where none is open.
     pub image_at: u64,
     /// The changes since, in order.
@@ -319,16 +327,25 @@ fn active_front(
     }
 }
 
-// The state that the image of the active disk spells. The bytes are let go here.
+fn version(image: &[u8]) -> u8
+    ensures { result ≡ version_of image.now }
+{
+    match image {
+        [] => 0,
+        [version, ..] => *version,
+    }
+}
+
+// The image of the active disk. The bytes are let go here.
 #[tactic(auto, unfolding(crate::specs::Format::active_of, crate::specs::Format::by_state))]
 fn read_image<K: Disk>(
     alloc: Global,
     disk: &mut K,
     side: Side,
     size: u64,
-) -> Result<ImageRows, JournalFault>
-    ensures rows { IfOk result (λ rows. Told (K.contents disk.old) (λ xs. state_at (take size (drop 24 xs)) ≡ Ok (image_view rows))) }
-    ensures state { IfOk result (λ rows. IsState (image_view rows)) }
+) -> Result<ImageFound, JournalFault>
+    ensures image { IfOk result (λ image. Told (K.contents disk.old) (λ xs. IsImageOf image (take size (drop 24 xs)))) }
+    ensures state { IfOk result (λ image. IsState (image_view image.rows)) }
     ensures damaged { IfErr result (λ fault. Told (K.contents disk.old) (λ xs. (generation : ℕ)
         → AnswersAll (Err fault) (active_of (number_of side) generation size xs))) }
     ensures contents { K.contents disk.new ≡ K.contents disk.old }
@@ -341,7 +358,10 @@ fn read_image<K: Disk>(
         Err(fault) => return Err(fault),
     };
     match decode(alloc, &bytes) {
-        Ok(rows) => Ok(rows),
+        Ok(rows) => Ok(ImageFound {
+            version: version(&bytes),
+            rows,
+        }),
         Err(ImageFault::NoMemory) => Err(JournalFault::NoMemory),
         Err(ImageFault::Damaged { place, found }) => Err(JournalFault::Damaged {
             disk: side.number(),
@@ -351,24 +371,24 @@ fn read_image<K: Disk>(
     }
 }
 
-// What the active disk holds, by the state of its image and the bytes behind it.
+// What the active disk holds, by its image and the bytes behind it.
 fn opened_with(
     alloc: Global,
     side: Side,
     front: Front,
-    image: ImageRows,
+    image: ImageFound,
     bytes: &[u8],
 ) -> Result<Opened, JournalFault>
     requires within { 24 + front.size + length bytes.now < 2 ^ 64 }
-    requires state { IsState (image_view image) }
-    ensures stored { (xs : List ℕ) → IsReadAs front (image_view image) bytes.now xs
+    requires state { IsState (image_view image.rows) }
+    ensures stored { (xs : List ℕ) → IsReadAs front image bytes.now xs
         → AnswersAll result (active_of (number_of side) front.generation front.size xs) }
-    ensures holds { IfOk result (λ opened. (xs : List ℕ) → IsReadAs front (image_view image) bytes.now xs → Holds opened.journal xs) }
+    ensures holds { IfOk result (λ opened. (xs : List ℕ) → IsReadAs front image bytes.now xs → Holds opened.journal xs) }
     ensures goes_on { IfOk result (GoesOn side front.generation) }
     ensures fault { result ≡ Err DiskFault → ⊥ }
 {
     let start = 24 + front.size;
-    let (changes, tail) = match read_records(alloc, bytes, start, image.changes) {
+    let (changes, tail) = match read_records(alloc, bytes, start, image.rows.changes) {
         Ok(read) => read,
         Err(_) => return Err(JournalFault::NoMemory),
     };
@@ -384,13 +404,14 @@ fn opened_with(
         active: Some(side),
         generation: front.generation,
         gate,
-        count: image.changes + changes.len() as u64,
+        count: image.rows.changes + changes.len() as u64,
         grown: gate + 1 - start,
     };
     Ok(Opened {
         journal,
         active: side.number(),
-        image: Some(image),
+        image: Some(image.rows),
+        version: image.version,
         image_at: 24,
         changes,
     })
@@ -440,6 +461,7 @@ fn none_opened(alloc: Global) -> Opened
         },
         active: 0,
         image: None,
+        version: 0,
         image_at: 0,
         changes: Vec::new(alloc),
     }

@@ -11,44 +11,45 @@ use std::process::Abort;
 
 // Images that count no change, one, and two.
 const IMAGES: [&[u8]; 3] = [
-    b"\x01\0\0\0\0\0\0\0\0\0\0\0\0",
-    b"\x01\x01\0\0\0\0\0\0\0\0\0\0\0",
-    b"\x01\x02\0\0\0\0\0\0\0\0\0\0\0",
+    b"\x02\0\0\0\0\0\0\0\0\0\0\0\0\0\0\0\0",
+    b"\x02\x01\0\0\0\0\0\0\0\0\0\0\0\0\0\0\0",
+    b"\x02\x02\0\0\0\0\0\0\0\0\0\0\0\0\0\0\0",
 ];
 
 // What disk 0 holds after the first checkpoint, and with one change behind it.
-const FIRST: &str = "0152414e4b49445801000000000000000d000000000000000100000000000000000000000000";
+const FIRST: &str =
+    "0152414e4b49445801000000000000001100000000000000020000000000000000000000000000000000";
 
 const SECOND: &str =
-    "0152414e4b49445801000000000000000d0000000000000001000000000000000000000000010000000000000000070000000101000000650000";
+    "0152414e4b494458010000000000000011000000000000000200000000000000000000000000000000010000000000000000070000000101000000650000";
 
 // What disk 1 holds after a checkpoint with two changes behind its image.
 const WAITING: &str =
-    "0152414e4b49445802000000000000000d0000000000000001000000000000000000000000010000000000000000030000006f6e650101000000000000000000000000";
+    "0152414e4b494458020000000000000011000000000000000200000000000000000000000000000000010000000000000000030000006f6e650101000000000000000000000000";
 
 // Of each number of changes that an image counts, what the two disks stand for before and after each of
 // three changes and of the checkpoint behind the second of them.
 const STATES: [[&str; 5]; 3] = [
     [
         "disk 0 indexes 0 count 0",
-        "disk 0 indexes 0 count 1 50+3",
-        "disk 0 indexes 0 count 2 50+3 66+0",
-        "disk 1 indexes 0 count 2 50+3 66+0",
-        "disk 1 indexes 0 count 3 50+3 66+0 79+5",
+        "disk 0 indexes 0 count 1 54+3",
+        "disk 0 indexes 0 count 2 54+3 70+0",
+        "disk 1 indexes 0 count 2 54+3 70+0",
+        "disk 1 indexes 0 count 3 54+3 70+0 83+5",
     ],
     [
         "disk 0 indexes 0 count 0",
-        "disk 0 indexes 0 count 1 50+3",
-        "disk 0 indexes 0 count 2 50+3 66+0",
-        "disk 1 indexes 0 count 2 50+0",
-        "disk 1 indexes 0 count 3 50+0 63+5",
+        "disk 0 indexes 0 count 1 54+3",
+        "disk 0 indexes 0 count 2 54+3 70+0",
+        "disk 1 indexes 0 count 2 54+0",
+        "disk 1 indexes 0 count 3 54+0 67+5",
     ],
     [
         "disk 0 indexes 0 count 0",
-        "disk 0 indexes 0 count 1 50+3",
-        "disk 0 indexes 0 count 2 50+3 66+0",
+        "disk 0 indexes 0 count 1 54+3",
+        "disk 0 indexes 0 count 2 54+3 70+0",
         "disk 1 indexes 0 count 2",
-        "disk 1 indexes 0 count 3 50+5",
+        "disk 1 indexes 0 count 3 54+5",
     ],
 ];
 
@@ -233,7 +234,7 @@ fn two_empty_disks_and_one_change(rt: HostRuntime) {
     assert!(rt; journal.append(&mut a, &mut b, entry).is_ok());
     check_content(&rt, alloc, &a, SECOND);
     check(&rt, !journal.due(), "due");
-    check_answer(&rt, alloc, &mut a, &mut b, "disk 0 indexes 0 count 1 50+7");
+    check_answer(&rt, alloc, &mut a, &mut b, "disk 0 indexes 0 count 1 54+7");
 }
 
 // The same of a checkpoint behind whose image changes wait.

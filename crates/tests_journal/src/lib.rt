@@ -11,4 +11,6 @@ mod contents;
 #[cfg(test)]
 mod disks;
 #[cfg(test)]
+mod older;
+#[cfg(test)]
 mod opening;
