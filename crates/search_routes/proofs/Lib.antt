@@ -1,6 +1,7 @@
 pub mod RowLemmas
 pub mod Steps
 pub mod TaskLemmas
+pub mod FitLemmas
 pub mod LawLemmas
 pub mod ReadLemmas
 pub mod AlikeLemmas

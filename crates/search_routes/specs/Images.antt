@@ -1,5 +1,5 @@
 -- The state that stands in an image, and what reading it needs.
-use Rattle.std.specs.Prelude.{◌≡◌, ℕ, List, [], map, Result, Ok, Err}
+use Rattle.std.specs.Prelude.{◌≡◌, ℕ, List, map, Result, Ok, Err}
 use Rattle.change_payloads.specs.Change.{Spot}
 use Rattle.change_payloads.specs.declared.fault.ImageFault.{ImageFault}
 use Rattle.change_payloads.specs.declared.fault.ImageFault.TheVariants.{Damaged, NoMemory}
@@ -8,9 +8,9 @@ use Rattle.queued_changes.specs.State.{idle}
 use Rattle.named_indexes.specs.Images.{entry_of, documents_of}
 use Rattle.search_routes.specs.State.{State, finished_part}
 
--- the machine of an image, with no task that waits
+-- the machine of an image, with what became of its last tasks, and no task that waits
 abbrev pub state_of : ImageData → State
-state_of s = idle s.changes [] (map entry_of s.indexes)
+state_of s = idle s.changes s.outcomes (map entry_of s.indexes)
 
 -- each document is read once
 abbrev pub image_need : ImageData → ℕ

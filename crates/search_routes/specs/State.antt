@@ -17,6 +17,6 @@ empty_state = idle 0 [] []
 abbrev pub most_changes : ℕ
 most_changes = 1000000000
 
--- the machine without the tasks that wait and without what became of others: the part that an image has
+-- the machine without the tasks that wait: the part that an image has
 abbrev pub finished_part : State → State
-finished_part s = idle s.finished [] s.indexes
+finished_part s = idle s.finished s.outcomes s.indexes

@@ -8,7 +8,8 @@ use request_routes::RouteTable;
 use search_base::NoMemory;
 use std::alloc::Global;
 
-/// Reads the call of a request, as `read_call` does, and lets the request go, with its body. Its error is want of memory.
+/// Reads the call of a request, as `read_call` does, and lets the request go, with its body. Its error is want of
+/// memory.
 pub fn ask(alloc: Global, table: &RouteTable, wire: Wire) -> Result<Call, NoMemory>
     ensures call { IfOk result (λ call. IsCall call (call_of (request_of wire))) }
     ensures accepted { IfOk result (λ call. OnChange IsAccepted call) }

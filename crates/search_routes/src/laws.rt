@@ -5,8 +5,8 @@ pub fn what_is_accepted_is_counted()
     ensures { AcceptedIsCounted }
 {}
 
-/// A request that is answered by 202 put the task of a change behind those that wait, and one that is answered otherwise
-/// changed nothing.
+/// A request that is answered by 202 put the task of a change behind those that wait, and one that is answered
+/// otherwise changed nothing.
 pub fn what_is_accepted_waits()
     ensures { AcceptedWaits }
 {}

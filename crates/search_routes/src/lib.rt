@@ -2,14 +2,15 @@
 //!
 //! Promises: the reply to a request is that of `step` in specs/Machine.antt, and the machine's state follows it; or the
 //! reply is the constant one for want of memory, and the state stays. A change is accepted as a task, which waits; the
-//! tasks run in batches, as `queued_changes` says. A machine gives an image of what its finished tasks left, which opens
-//! to that, and the payload that records the change of a task is read again as this task (specs/Images.antt,
-//! specs/Redo.antt). Contracts see `Machine` as a `State`: the number of finished tasks, those that wait, what became of
-//! the last ones, and each index by its uid. Stands on named_indexes, which are the indexes and the changes that they
-//! take, on queued_changes and task_queue for the tasks, on index_core, which is one index, on index_image and
-//! change_payloads for images and payloads, on request_calls, which reads a request into a call, on request_refusals for
-//! why a request is refused, on request_replies for what is shown of what was done, on multi_search for several searches
-//! in one call, on doc_values for documents and changes, and on http_wire for requests and replies.
+//! tasks run in batches, as `queued_changes` says. A machine gives an image of what its finished tasks left and of what
+//! became of the last of them, which opens to that, and the payload that records the change of a task is read again as
+//! this task (specs/Images.antt, specs/Redo.antt). Contracts see `Machine` as a `State`: the number of finished tasks,
+//! those that wait, what became of the last ones, and each index by its uid. Stands on named_indexes, which are the
+//! indexes and the changes that they take, on queued_changes and task_queue for the tasks, on index_core, which is one
+//! index, on index_image and change_payloads for images and payloads, on request_calls, which reads a request into a
+//! call, on request_refusals for why a request is refused, on request_replies for what is shown of what was done, on
+//! multi_search for several searches in one call, on doc_values for documents and changes, and on http_wire for
+//! requests and replies.
 #![tactic(auto)]
 
 mod asking;

@@ -1,4 +1,5 @@
-ghost use Rattle.std.specs.Prelude.{◌≡◌, ◌≢◌, ◌+◌, ◌<◌, ◌≤◌, ◌↔◌, IfErr, IfOk, IsTrue, OnErr, OnOk, [], length};
+ghost use Rattle.std.specs.Prelude.{◌≡◌, ◌≢◌, ◌+◌, ◌<◌, ◌≤◌, ◌↔◌, ◌∷◌, IsTrue, List, [], length, ℕ};
+ghost use Rattle.std.specs.Prelude.{IfErr, IfOk, OnErr, OnOk};
 ghost use Rattle.std.specs.List.{AllByRecursion};
 ghost use Rattle.bucket_sort.specs.Opens.{log_state};
 ghost use Rattle.doc_values.specs.Changes.{change_view};
@@ -40,9 +41,9 @@ use std::alloc::Global;
 use std::marker::Model;
 use task_queue::Task;
 
-/// The indexes of a server, each by its uid, and the tasks that change them: those that wait, at most 16, and what became
-/// of the last that finished. At most 1,000,000,000 tasks are accepted. A machine also has the table in which the paths
-/// of its requests are looked up, which is made once, with the machine.
+/// The indexes of a server, each by its uid, and the tasks that change them: those that wait, at most 16, and what
+/// became of the last that finished. At most 1,000,000,000 tasks are accepted. A machine also has the table in which
+/// the paths of its requests are looked up, which is made once, with the machine.
 #[derive(Drop)]
 pub struct Machine {
     queued: Queued<Payload, Indexes>,
@@ -77,8 +78,8 @@ impl Machine {
         })
     }
 
-    /// The machine of the rows of an image, with no task that waits. Reads each document once. Its error is want of
-    /// memory.
+    /// The machine of the rows of an image, with what became of its last tasks, and no task that waits. Reads each
+    /// document once. Its error is want of memory.
     pub fn from_image<F>(
         alloc: Global,
         rows: ImageRows,
@@ -89,9 +90,13 @@ impl Machine {
         ensures fetched { fetches.new ≤ fetches.old + image_need (image_view rows) }
     {
         let table = RouteTable::new(alloc)?;
-        let ImageRows { changes, indexes } = rows;
+        let ImageRows {
+            changes,
+            indexes,
+            outcomes,
+        } = rows;
         let indexes = Indexes::from_rows(alloc, indexes, fetches)?;
-        let queued = Queued::new(alloc, changes, indexes)?;
+        let queued = Queued::restore(alloc, changes, outcomes, indexes)?;
         Ok(Machine { queued, table })
     }
 
@@ -109,14 +114,16 @@ impl Machine {
         Ok(machine)
     }
 
-    /// The image of what the finished tasks left, which `open` opens. The tasks that wait do not stand in it. Its error is
-    /// want of memory.
+    /// The image, version 2, of what the finished tasks left, and of what became of the last of them, which `open`
+    /// opens. The tasks that wait do not stand in it. Its error is want of memory.
     pub fn image(&self, alloc: Global) -> Result<Vec<u8>, NoMemory>
         ensures state { IfOk result (λ bytes. Spells bytes.items self.now (state_at bytes.items)) }
+        ensures version { IfOk result (λ bytes. (rest : List ℕ) × (bytes.items ≡ 2 ∷ rest)) }
     {
         let rows = ImageRows {
             changes: self.queued.finished(),
             indexes: self.queued.worker().rows(alloc)?,
+            outcomes: self.queued.outcomes(alloc)?,
         };
         let bytes = encode(alloc, &rows)?;
         Ok(bytes)
@@ -142,8 +149,8 @@ impl Machine {
         self.queued.finished()
     }
 
-    /// The tasks that wait, in order. What records the change of one is read again as this task, by `task_again`. Takes no
-    /// memory.
+    /// The tasks that wait, in order. What records the change of one is read again as this task, by `task_again`. Takes
+    /// no memory.
     pub fn queued(&self) -> &[Task<Payload>]
         ensures tasks { result.now ≡ self.now.queue }
         ensures accepts { AllByRecursion (λ t. Accepts t.uid t.kind t.change) self.now.queue }
@@ -155,8 +162,8 @@ impl Machine {
         self.queued.waiting()
     }
 
-    /// Takes all memory that a change needs as a task, that of its reply too. The change is one that `read_call` accepts.
-    /// Past the limit of tasks, or for want of memory, there is no task, and this is the reply.
+    /// Takes all memory that a change needs as a task, that of its reply too. The change is one that `read_call`
+    /// accepts. Past the limit of tasks, or for want of memory, there is no task, and this is the reply.
     pub fn prepare_task(&self, alloc: Global, change: &Change) -> Result<PreparedTask, Reply>
         requires { IsAccepted (change_view change.now) }
         ensures prepared { IfOk result (IsPrepared (accepted self.now) (change_view change.now)) }
@@ -211,8 +218,8 @@ impl Machine {
         reply
     }
 
-    /// Runs the oldest batch; false where no task waits. `fetches` counts the stored documents that are read. Its error is
-    /// want of memory: then some task waits, and all is as it was.
+    /// Runs the oldest batch; false where no task waits. `fetches` counts the stored documents that are read. Its error
+    /// is want of memory: then some task waits, and all is as it was.
     pub fn settle<F>(&mut self, alloc: Global, fetches: &mut Steps<F>) -> Result<bool, NoMemory>
         ensures settled { OnOk result (self.new ≡ settled changed self.old) }
         ensures some { IfOk result (λ some. IsTrue some ↔ (self.old.queue ≢ [])) }
@@ -233,12 +240,13 @@ impl Machine {
         ensures counted { accepted self.new ≡ accepted self.old }
         ensures fetched { fetches.new ≤ fetches.old + out_need changed need self.old }
     {
-        self.queued.settle_all(alloc, fetches)
+        while self.settle(alloc, fetches)? {}
+        Ok(())
     }
 
-    /// Answers a call that changes nothing, or says that there was no memory. `fetches` counts the stored documents that
-    /// are read, at most those that the call needs, by specs/Needs.antt. The log is told each bucket that the call opens,
-    /// by specs/Openings.antt, and `openings` counts them.
+    /// Answers a call that changes nothing, or says that there was no memory. `fetches` counts the stored documents
+    /// that are read, at most those that the call needs, by specs/Needs.antt. The log is told each bucket that the call
+    /// opens, by specs/Openings.antt, and `openings` counts them.
     pub fn read<F, G>(
         &self,
         alloc: Global,
@@ -247,7 +255,8 @@ impl Machine {
         fetches: &mut Steps<F>,
         openings: &mut Steps<G>,
     ) -> Reply
-        ensures made { Makes (performed self.now (read (read_view call))) (read_opened self.now.indexes (read_view call))
+        ensures made { Makes (performed self.now (read (read_view call)))
+            (read_opened self.now.indexes (read_view call))
             (noted self.now (log_state (told log.old) openings.old)) result
             (noted self.now (log_state (told log.new) openings.new)) }
         ensures answered { (q : Request) → call_of q ≡ Ok (read (read_view call)) → Answered

@@ -6,7 +6,8 @@ ghost use Rattle.request_calls.specs.Asked as asked;
 ghost use Rattle.search_routes.specs.Machine.{results_of};
 ghost use Rattle.search_routes.specs.Needs.{read_need, search_need};
 ghost use Rattle.search_routes.specs.Openings.{read_opened, read_most, search_opened, search_most};
-ghost use Rattle.search_routes.specs.Several.{Searched, Searches as AreMade, Shows, text_of, outcome_of as outcome_from, fault_of as fault_from};
+ghost use Rattle.search_routes.specs.Several.{Searched, Searches as AreMade, Shows, text_of};
+ghost use Rattle.search_routes.specs.Several.{outcome_of as outcome_from, fault_of as fault_from};
 
 use crate::searching::{search_index, shown_text};
 use bucket_sort::BucketLog;

@@ -29,11 +29,11 @@ use std::alloc::Global;
 /// The reply and the state after it are those of `step` in specs/Machine.antt; or there was no memory, the reply says
 /// so and the machine is as it was. The request is let go, with its body, before its call is performed. `fetches`
 /// counts the stored documents that are read: at most those that the request needs, by specs/Needs.antt. The log is
-/// told each bucket that the request opens, by specs/Openings.antt, and `openings` counts them. No batch runs behind the
-/// reply: where `is_followed` says so one is to, by `Machine::settle`.
+/// told each bucket that the request opens, by specs/Openings.antt, and `openings` counts them. No batch runs behind
+/// the reply: where `is_followed` says so one is to, by `Machine::settle`.
 ///
-/// The `requires` asks nothing of the caller: it keeps a body from putting a log of its own in the place of the one that
-/// is handed in, so that callers know theirs to be the same.
+/// The `requires` asks nothing of the caller: it keeps a body from putting a log of its own in the place of the one
+/// that is handed in, so that callers know theirs to be the same.
 pub fn answer<F, G>(
     alloc: Global,
     machine: &mut Machine,
@@ -58,9 +58,9 @@ pub fn answer<F, G>(
 ///
 /// The reply and the state after it are those of `performed` in specs/Machine.antt; or there was no memory, the reply
 /// says so and the machine is as it was. A call that is refused gives its own reply and changes nothing. A change is
-/// accepted: it takes its memory, that of its reply too, before room is made for its task, and the task waits. `fetches`
-/// counts the stored documents that are read: at most those that the call needs, by specs/Needs.antt. The log is told
-/// each bucket that the call opens, by specs/Openings.antt, and `openings` counts them; a change opens none.
+/// accepted: it takes its memory, that of its reply too, before room is made for its task, and the task waits.
+/// `fetches` counts the stored documents that are read: at most those that the call needs, by specs/Needs.antt. The log
+/// is told each bucket that the call opens, by specs/Openings.antt, and `openings` counts them; a change opens none.
 pub fn perform<F, G>(
     alloc: Global,
     machine: &mut Machine,

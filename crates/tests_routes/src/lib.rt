@@ -1,7 +1,7 @@
 //! Tests of the plain machine.
 //!
-//! They use what these crates offer to others, and stand in a crate of their own, so that the crates they try are proved
-//! once and not twice. The crate has nothing but tests, and promises nothing.
+//! They use what these crates offer to others, and stand in a crate of their own, so that the crates they try are
+//! proved once and not twice. The crate has nothing but tests, and promises nothing.
 #![tactic(auto)]
 
 #[cfg(test)]

@@ -1,5 +1,6 @@
 use crate::checks::{check, check_text, word};
 use bucket_sort::{BucketLog, SilentLog};
+use change_payloads::ImageFault;
 use http_wire::{Reply, Wire};
 use search_base::Steps;
 use search_routes::{Machine, answer, is_followed};
@@ -43,7 +44,7 @@ GET~/health~~200 {"status":"available"}
 
 GET~/indexes~~200 {"limit":20,"offset":0,"results":[{"primaryKey":null,"uid":"a"}],"total":1}"#;
 
-// What is told of them then, and by a machine of the image.
+// What is told of them then, and by a machine of the image, which keeps what became of the tasks that have run.
 const STILL_THERE: &str =
     r#"GET~/tasks/1~~200 {"error":{"code":"index_not_found","message":"Task 1 was refused.",
 "type":"invalid_request"},"indexUid":"b","status":"failed","type":"indexDeletion","uid":1}
@@ -51,14 +52,55 @@ const STILL_THERE: &str =
 GET~/indexes/b~~200 {"primaryKey":null,"uid":"b"}"#;
 
 const OPENED_AGAIN: &str =
-    r#"GET~/tasks/1~~404 {"code":"task_not_found","message":"No task 1.","type":"invalid_request"}
+    r#"GET~/tasks/1~~200 {"error":{"code":"index_not_found","message":"Task 1 was refused.",
+"type":"invalid_request"},"indexUid":"b","status":"failed","type":"indexDeletion","uid":1}
+
+GET~/tasks/2~~404 {"code":"task_not_found","message":"No task 2.","type":"invalid_request"}
 
 GET~/indexes~~200 {"limit":20,"offset":0,"results":[{"primaryKey":null,"uid":"a"}],"total":1}
 
 DELETE~/indexes/a~~202 {"indexUid":"a","status":"enqueued","taskUid":2,"type":"indexDeletion"}"#;
 
-// Images of no indexes, of a new machine and of one that may accept one more task.
-const NEW_IMAGE: [u8; 13] = [1, 0, 0, 0, 0, 0, 0, 0, 0, 0, 0, 0, 0];
+// Two tasks of one index, which run together: the first is refused.
+const ONE_REFUSED: &str =
+    r#"POST~/indexes/n/documents~[{"title":"x"}]~202 {"indexUid":"n","status":"enqueued","taskUid":0,
+"type":"documentAdditionOrUpdate"}
+
+POST~/indexes/n/documents~[{"id":1}]~202 {"indexUid":"n","status":"enqueued","taskUid":1,
+"type":"documentAdditionOrUpdate"}
+
+GET~/tasks/0~~200 {"error":null,"indexUid":"n","status":"enqueued","type":"documentAdditionOrUpdate","uid":0}"#;
+
+// What is told of them then, and by a machine of the image.
+const REFUSED_AND_DONE: &str =
+    r#"GET~/tasks/0~~200 {"error":{"code":"index_primary_key_no_candidate_found","message":"Task 0 was refused.",
+"type":"invalid_request"},"indexUid":"n","status":"failed","type":"documentAdditionOrUpdate","uid":0}
+
+GET~/tasks/1~~200 {"error":null,"indexUid":"n","status":"succeeded","type":"documentAdditionOrUpdate","uid":1}
+
+GET~/tasks/9~~404 {"code":"task_not_found","message":"No task 9.","type":"invalid_request"}"#;
+
+// The end of the image: how many outcomes, and each with its kind, its uid and its row.
+const TWO_OUTCOMES: [u8; 18] = [2, 0, 0, 0, 3, 1, 0, 0, 0, b'n', 27, 3, 1, 0, 0, 0, b'n', 0];
+
+// What a machine tells of the first and the last of 1,001 tasks, and after 1,000 of them.
+const FIRST_FORGOTTEN: &str =
+    r#"GET~/tasks/0~~404 {"code":"task_not_found","message":"No task 0.","type":"invalid_request"}
+
+GET~/tasks/1~~200 {"error":{"code":"index_not_found","message":"Task 1 was refused.",
+"type":"invalid_request"},"indexUid":"b","status":"failed","type":"indexDeletion","uid":1}
+
+GET~/tasks/1000~~200 {"error":{"code":"index_not_found","message":"Task 1000 was refused.",
+"type":"invalid_request"},"indexUid":"b","status":"failed","type":"indexDeletion","uid":1000}"#;
+
+const NONE_FORGOTTEN: &str =
+    r#"GET~/tasks/0~~200 {"error":{"code":"index_not_found","message":"Task 0 was refused.",
+"type":"invalid_request"},"indexUid":"b","status":"failed","type":"indexDeletion","uid":0}
+
+GET~/tasks/1000~~404 {"code":"task_not_found","message":"No task 1000.","type":"invalid_request"}"#;
+
+// Images of no indexes: of a new machine, and, of the version without outcomes, of one that may accept one more task.
+const NEW_IMAGE: [u8; 17] = [2, 0, 0, 0, 0, 0, 0, 0, 0, 0, 0, 0, 0, 0, 0, 0, 0];
 
 const LAST_TASK_IMAGE: [u8; 13] = [1, 0xff, 0xc9, 0x9a, 0x3b, 0, 0, 0, 0, 0, 0, 0, 0];
 
@@ -140,6 +182,74 @@ fn the_image_of_a_new_machine(rt: HostRuntime) {
     check(&rt, image.as_slice() == NEW_IMAGE.as_slice(), "image");
     let machine = opened(&rt, rt.alloc(), &image);
     check(&rt, machine.accepted() == 0, "no task");
+}
+
+// The same with another last byte.
+fn ended_by(rt: &impl Abort, alloc: Global, image: &[u8], last: u8) -> Vec<u8> {
+    let mut other = image.to_vec(alloc).expect(rt, "memory");
+    other.pop();
+    other.push(last).expect(rt, "memory");
+    other
+}
+
+// Whether an image with another last byte is damaged there.
+fn check_damage(rt: &impl Abort, alloc: Global, image: &[u8], last: u8) {
+    let image = ended_by(rt, alloc, image, last);
+    let mut fetches: Steps<()> = Steps::new();
+    let is_damaged = match Machine::open(alloc, &image, &mut fetches) {
+        Err(ImageFault::Damaged { place, found }) => {
+            place == (image.len() as u64).saturating_sub(1) && found == Some(last)
+        }
+        _ => false,
+    };
+    check(rt, is_damaged, "damage");
+}
+
+// A machine after so many tasks, each of which was refused.
+fn refused_machine(rt: &impl Abort, alloc: Global, count: u64) -> Machine {
+    let mut machine = new_machine(rt, alloc);
+    for _ in 0..count {
+        let _accepted = reply_to(rt, alloc, &mut machine, "DELETE", "/indexes/b", "");
+        let _told = reply_to(rt, alloc, &mut machine, "GET", "/health", "");
+    }
+    machine
+}
+
+// The machine of its image, which keeps 1,000 outcomes of tasks.
+fn opened_again(rt: &impl Abort, alloc: Global, machine: &Machine) -> Machine {
+    let image = machine.image(alloc).expect(rt, "memory");
+    check(rt, image.len() == 17 + 1_000 * 7, "a thousand outcomes");
+    opened(rt, alloc, &image)
+}
+
+#[test]
+fn the_image_after_a_task_was_refused(rt: HostRuntime) {
+    let alloc = rt.alloc();
+    let mut machine = new_machine(&rt, alloc);
+    check_table(&rt, alloc, &mut machine, ONE_REFUSED);
+    check_table(&rt, alloc, &mut machine, REFUSED_AND_DONE);
+    let image = machine.image(alloc).expect(&rt, "memory");
+    let ends = image.as_slice().ends_with(TWO_OUTCOMES.as_slice());
+    check(&rt, ends, "outcomes");
+    let mut again = opened(&rt, alloc, &image);
+    check_table(&rt, alloc, &mut again, REFUSED_AND_DONE);
+    check_damage(&rt, alloc, &image, 5);
+}
+
+#[test]
+fn the_image_after_a_thousand_tasks(rt: HostRuntime) {
+    let alloc = rt.alloc();
+    let machine = refused_machine(&rt, alloc, 1_000);
+    let mut again = opened_again(&rt, alloc, &machine);
+    check_table(&rt, alloc, &mut again, NONE_FORGOTTEN);
+}
+
+#[test]
+fn the_image_after_one_task_more(rt: HostRuntime) {
+    let alloc = rt.alloc();
+    let machine = refused_machine(&rt, alloc, 1_001);
+    let mut again = opened_again(&rt, alloc, &machine);
+    check_table(&rt, alloc, &mut again, FIRST_FORGOTTEN);
 }
 
 #[test]

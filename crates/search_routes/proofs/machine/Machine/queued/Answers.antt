@@ -9,4 +9,4 @@ pub returns-clause-again : goal.returns-clause-again
 returns-clause-again c =
     let s = c.self.inside.queued in
     let P : State → Type 0 = λ s. AllByRecursion IsReadAgain s.queue in
-    subst P c.self.view_is (tasks_read s.finished s.queue c.waiting.ensures.numbered c.waiting.ensures.accepted c.self.invariant)
+    subst P c.self.view_is (tasks_read s.finished s.queue c.waiting.ensures.numbered c.waiting.ensures.accepted c.self.invariant.fit)
