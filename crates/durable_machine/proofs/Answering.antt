@@ -1,11 +1,10 @@
 -- What an answer leaves.
-use Rattle.std.proofs.Common.{◌≡◌, ℕ, ◌+◌, ◌<◌, ◌==◌, Bool, true, false, List, [], ◌∷◌, ◌++◌, refl, sym, ◌∙◌, ap, subst, arith, append-nil, length-append, Option, Some, None, Result, Ok, Err}
+use Rattle.std.proofs.Common.{◌≡◌, ◌==◌, Bool, true, false, List, [], refl, sym, ◌∙◌, ap, subst, arith, append-nil, Option, Some, None, Result, Ok, Err}
 use Rattle.std.specs.Prelude.{IfOk, OnErr, OnOk, if◌then◌else◌}
 use Rattle.bucket_sort.specs.declared.log.Opening.{Opening}
 use Rattle.bucket_sort.specs.Told.{and_then}
 use Rattle.bucket_sort.specs.Opens.{LogState, Opens}
 use Rattle.doc_values.specs.Changes.{ChangeData}
-use Rattle.http_wire.specs.Reply.{Answer}
 use Rattle.http_wire.specs.Sent.{IsSentAs}
 use Rattle.http_wire.specs.Stream.{Request}
 use Rattle.http_wire.specs.declared.reply.Reply.{Reply}
@@ -13,20 +12,18 @@ use Rattle.request_calls.specs.Asked.{CallData, write}
 use Rattle.request_calls.specs.Calls.{call_of}
 use Rattle.request_calls.specs.Refusals.{refused}
 use Rattle.search_base.specs.Trying.{◌>>=◌}
-use Rattle.task_queue.specs.declared.task.Task.{Task}
 use Rattle.queued_changes.specs.State.{accepted}
 use Rattle.queued_changes.specs.Machine.{behind, make_room, run_out}
-use Rattle.queued_changes.proofs.Runs.{room_counts, room_out}
+use Rattle.queued_changes.proofs.Runs.{room_out}
 use Rattle.named_indexes.specs.Changes.{changed}
 use Rattle.search_routes.specs.Chosen.{answer_in, answer_of, is_followed, state_after, state_in}
 use Rattle.search_routes.specs.Done.{IsPrepared, Leaves}
 use Rattle.search_routes.specs.Machine.{Step, outcome, performed, step, told, unless_refused}
-use Rattle.search_routes.specs.Needs.{asked_need, change_need, needed_fetches, room_need}
+use Rattle.search_routes.specs.Needs.{asked_need, needed_fetches, room_need}
 use Rattle.search_routes.specs.Openings.{asked_opened, opened_by}
-use Rattle.search_routes.specs.State.{State, finished_part, most_changes}
+use Rattle.search_routes.specs.State.{State}
 use Rattle.search_routes.specs.declared.tasks.PreparedTask.{PreparedTask}
 use Rattle.search_routes.proofs.TaskLemmas.{accepted_step, need_of_room, taken}
-use Rattle.durable_machine.specs.Durable.{settled_part}
 use Rattle.durable_machine.specs.declared.machine.Answered.{Answered}
 
 -- ---- openings
@@ -110,14 +107,8 @@ taken_need s q c prepared is ready = ap (asked_need s) is ∙ need_of_room s rea
 -- ---- room
 
 -- to make room changes nothing of what is left once all tasks have run
-pub room_part : (s room : State) → room ≡ make_room changed s → settled_part room ≡ settled_part s
-room_part s room is = ap settled_part is ∙ ap finished_part (room_out changed s)
-
 pub room_run : (s room : State) → room ≡ make_room changed s → run_out changed room ≡ run_out changed s
 room_run s room is = ap (run_out changed) is ∙ room_out changed s
-
-pub behind_counts : (t : Task ChangeData) (s : State) → accepted (behind t s) ≡ accepted s + 1
-behind_counts t s = omega (arith, length-append s.queue (t ∷ []))
 
 pub on_err : {T E : Type 0} (r : Result T E) (P : Type 0) → P → OnErr r P
 on_err (Ok x) P p = tt

@@ -1,5 +1,5 @@
 -- What a crash leaves on two disks.
-use Rattle.std.proofs.Common.{◌≡◌, ◌⊎◌, inl, inr, ℕ, List, sym, ◌∙◌, ap, Option, Some, Result, Ok, Err, OnErr, OnOk}
+use Rattle.std.proofs.Common.{◌≡◌, ◌⊎◌, inl, inr, ℕ, List, refl, sym, ◌∙◌, ap, Option, Some, Result, Ok, Err, OnErr, OnOk}
 use Rattle.outside_io.specs.Disks.{Contents, fresh}
 use Rattle.change_journal.specs.Format.{Spot, Pair, stored_pair}
 use Rattle.change_journal.specs.Fits.{IsSettled, IsBeforeOrAfter, HasCount, IsOldOrImage, StandsFor, grown, image_pair}
@@ -9,22 +9,21 @@ use Rattle.index_image.specs.Rows.{ImageData}
 use Rattle.queued_changes.specs.State.{accepted}
 use Rattle.queued_changes.specs.Machine.{run_out}
 use Rattle.named_indexes.specs.Changes.{changed}
-use Rattle.search_routes.specs.State.{State, finished_part}
+use Rattle.search_routes.specs.State.{State}
 use Rattle.search_routes.specs.Images.{Spells}
 use Rattle.search_routes.specs.Redo.{redone}
 use Rattle.durable_machine.specs.Held.{held}
 use Rattle.durable_machine.specs.Recorded.{AreTasks}
-use Rattle.durable_machine.specs.Durable.{Hold, CrashHolds, IsDurable, settled_part}
+use Rattle.durable_machine.specs.Durable.{Hold, CrashHolds, IsDurable}
 use Rattle.durable_machine.specs.declared.machine.DurableMachine.{DurableMachine}
-use Rattle.durable_machine.proofs.Pairs.{PairHas, pair_state, held_to, held_from, held_idle, grown_state, image_state}
-use Rattle.durable_machine.proofs.Settled.{out_queue, redone_alike}
+use Rattle.durable_machine.proofs.Pairs.{pair_state, held_to, held_from, grown_state, image_state}
 use Rattle.durable_machine.proofs.Sides.{told_before, left_now, same_told}
 
 -- where nothing is pending, a crash leaves what the disks hold
-pub held_now : (a b : Option Contents) (s : State) → IsSettled a → IsSettled b → Hold a b s → CrashHolds a b (λ t. t ≡ settled_part s)
-held_now a b s calm_a calm_b holds = λ xs ys left_a left_b. holds xs ys (left_now a calm_a xs left_a) (left_now b calm_b ys left_b)
+pub held_now : (a b : Option Contents) (s : State) → IsSettled a → IsSettled b → Hold a b s → CrashHolds a b (λ t. t ≡ run_out changed s)
+held_now a b s calm_a calm_b holds = λ xs ys left_a left_b. (run_out changed s, holds xs ys (left_now a calm_a xs left_a) (left_now b calm_b ys left_b), refl)
 
-pub crash_now : (m : DurableMachine) (a b : Option Contents) → IsDurable m a b → CrashHolds a b (λ t. t ≡ settled_part m.machine)
+pub crash_now : (m : DurableMachine) (a b : Option Contents) → IsDurable m a b → CrashHolds a b (λ t. t ≡ run_out changed m.machine)
 crash_now m a b durable = held_now a b m.machine durable.settled_a durable.settled_b durable.holds
 
 -- a machine that leaves the same once its tasks have run
@@ -36,68 +35,58 @@ run_durable m n a b journal count out durable = record {
   count = ap (λ j. j.count) journal ∙ durable.count ∙ sym count;
   settled_a = durable.settled_a;
   settled_b = durable.settled_b;
-  holds = λ xs ys is_a is_b. let held_by = durable.holds xs ys is_a is_b in (held_by.0, held_by.1, held_by.2 ∙ sym (ap finished_part out));
+  holds = λ xs ys is_a is_b. durable.holds xs ys is_a is_b ∙ ap Ok (sym out);
+  migrated = durable.migrated;
 }
-
--- what two disks hold, by its finished part
-abbrev HoldsPart : List ℕ → List ℕ → State → Type 0
-HoldsPart xs ys part = (t : State) × (held xs ys ≡ Ok t) × (finished_part t ≡ part)
 
 -- from stored pairs to states
 pair_held : (xs ys : List ℕ) (r : Result Pair Spot) (s : State) → stored_pair xs ys ≡ r → pair_state r ≡ Some s → held xs ys ≡ Ok s
 pair_held xs ys r s e state = held_from xs ys s (ap pair_state e ∙ state)
 
-part_held : (xs ys : List ℕ) (r : Result Pair Spot) (part : State) → stored_pair xs ys ≡ r → PairHas r part → HoldsPart xs ys part
-part_held xs ys r part e has = (has.state, pair_held xs ys r has.state e has.is, has.part_is)
-
 -- a task more behind what two disks hold
-grown_has : (a b bytes : List ℕ) (s t : State) → HoldsPart a b (settled_part s) → redone (run_out changed s) bytes ≡ Ok (run_out changed t)
-    → PairHas (grown bytes (stored_pair a b)) (settled_part t)
-grown_has a b bytes s t (u, was, part) made =
-    let again = redone_alike u (run_out changed s) (run_out changed t) bytes (held_idle a b u was) (out_queue s) part made in
-    record { state = again.state; is = grown_state (stored_pair a b) bytes u again.state (held_to a b u was) again.is; part_is = again.part_is }
+grown_is : (a b bytes : List ℕ) (s t : State) → held a b ≡ Ok s → redone s bytes ≡ Ok t → pair_state (grown bytes (stored_pair a b)) ≡ Some t
+grown_is a b bytes s t was made = grown_state (stored_pair a b) bytes s t (held_to a b s was) made
 
-pub torn_change : (a b xs ys bytes : List ℕ) (s t : State) → HoldsPart a b (settled_part s) → redone (run_out changed s) bytes ≡ Ok (run_out changed t)
-    → IsBeforeOrAfter bytes (stored_pair a b) (stored_pair xs ys)
-    → (u : State) × (held xs ys ≡ Ok u) × ((finished_part u ≡ settled_part s) ⊎ (finished_part u ≡ settled_part t))
-torn_change a b xs ys bytes s t (u, was, part) made (inl before) = (u, pair_held xs ys (stored_pair a b) u before (held_to a b u was), inl part)
-torn_change a b xs ys bytes s t was made (inr more) =
-    let now = part_held xs ys (grown bytes (stored_pair a b)) (settled_part t) more (grown_has a b bytes s t was made) in
-    (now.0, now.1, inr now.2)
+pub torn_change : (a b xs ys bytes : List ℕ) (s t : State) → held a b ≡ Ok s → redone s bytes ≡ Ok t → IsBeforeOrAfter bytes (stored_pair a b) (stored_pair xs ys)
+    → (u : State) × (held xs ys ≡ Ok u) × ((u ≡ s) ⊎ (u ≡ t))
+torn_change a b xs ys bytes s t was made (inl before) = (s, pair_held xs ys (stored_pair a b) s before (held_to a b s was), inl refl)
+torn_change a b xs ys bytes s t was made (inr more) = (t, pair_held xs ys (grown bytes (stored_pair a b)) t more (grown_is a b bytes s t was made), inr refl)
 
-pub torn_image : (a b xs ys image : List ℕ) (payloads : List (List ℕ)) (s : State) → HoldsPart a b (settled_part s) → Spells image s (state_at image) → AreTasks s.finished payloads s.queue
-    → IsOldOrImage image payloads (stored_pair a b) (stored_pair xs ys) → HoldsPart xs ys (settled_part s)
-torn_image a b xs ys image payloads s (u, was, part) spelled are (inl before) = (u, pair_held xs ys (stored_pair a b) u before (held_to a b u was), part)
+pub torn_image : (a b xs ys image : List ℕ) (payloads : List (List ℕ)) (s : State) → held a b ≡ Ok (run_out changed s) → Spells image s (state_at image) → AreTasks s.finished payloads s.queue
+    → IsOldOrImage image payloads (stored_pair a b) (stored_pair xs ys) → (t : State) × (held xs ys ≡ Ok t) × (t ≡ run_out changed s)
+torn_image a b xs ys image payloads s was spelled are (inl before) =
+    (run_out changed s, pair_held xs ys (stored_pair a b) (run_out changed s) before (held_to a b (run_out changed s) was), refl)
 torn_image a b xs ys image payloads s was spelled are (inr new) =
-    part_held xs ys (Ok (image_pair image payloads)) (settled_part s) new (image_state image payloads s spelled are)
+    (run_out changed s, pair_held xs ys (Ok (image_pair image payloads)) (run_out changed s) new (image_state image payloads s spelled are), refl)
 
 -- two disks before a call and after it
 module _ (a0 b0 a1 b1 : Option Contents) (alike_a : is_told a1 ≡ is_told a0) (alike_b : is_told b1 ≡ is_told b0) (calm_a : IsSettled a0) (calm_b : IsSettled b0) where
   -- they stand for what follows from the pair that they stood for
-  stands_held : (next : Result Pair Spot → Result Pair Spot) (t : State) → ((a b : List ℕ) → a0 ≡ Some (fresh a) → b0 ≡ Some (fresh b) → StandsFor a1 b1 (next (stored_pair a b)))
-      → ((a b : List ℕ) → a0 ≡ Some (fresh a) → b0 ≡ Some (fresh b) → PairHas (next (stored_pair a b)) (settled_part t)) → Hold a1 b1 t
-  stands_held next t now state = λ xs ys is_a is_b.
+  pub now_stand : (next : Result Pair Spot → Result Pair Spot) → ((a b : List ℕ) → a0 ≡ Some (fresh a) → b0 ≡ Some (fresh b) → StandsFor a1 b1 (next (stored_pair a b)))
+      → (xs ys : List ℕ) → a1 ≡ Some (fresh xs) → b1 ≡ Some (fresh ys) → (a b : List ℕ) × (a0 ≡ Some (fresh a)) × (b0 ≡ Some (fresh b)) × (stored_pair xs ys ≡ next (stored_pair a b))
+  now_stand next now xs ys is_a is_b =
       let was_a = told_before a0 a1 alike_a calm_a xs is_a in
       let was_b = told_before b0 b1 alike_b calm_b ys is_b in
       let stands = now was_a.0 was_b.0 was_a.1 was_b.1 in
       let same_a = same_told a1 xs stands.0 is_a stands.2 in
       let same_b = same_told b1 ys stands.1 is_b stands.3 in
-      part_held xs ys (next (stored_pair was_a.0 was_b.0)) (settled_part t)
-      (ap (λ (l : List ℕ). stored_pair l ys) same_a ∙ ap (λ (l : List ℕ). stored_pair stands.0 l) same_b ∙ stands.4) (state was_a.0 was_b.0 was_a.1 was_b.1)
+      (was_a.0, was_b.0, was_a.1, was_b.1, ap (λ (l : List ℕ). stored_pair l ys) same_a ∙ ap (λ (l : List ℕ). stored_pair stands.0 l) same_b ∙ stands.4)
 
   pub change_held : (bytes : List ℕ) (s t : State) → ((a b : List ℕ) → a0 ≡ Some (fresh a) → b0 ≡ Some (fresh b) → StandsFor a1 b1 (grown bytes (stored_pair a b)))
       → Hold a0 b0 s → redone (run_out changed s) bytes ≡ Ok (run_out changed t) → Hold a1 b1 t
-  change_held bytes s t now holds made = stands_held (grown bytes) t now (λ a b is_a is_b. grown_has a b bytes s t (holds a b is_a is_b) made)
+  change_held bytes s t now holds made = λ xs ys is_a is_b.
+      let (a, b, was_a, was_b, stands) = now_stand (grown bytes) now xs ys is_a is_b in
+      pair_held xs ys (grown bytes (stored_pair a b)) (run_out changed t) stands (grown_is a b bytes (run_out changed s) (run_out changed t) (holds a b was_a was_b) made)
 
   pub image_held : (image : List ℕ) (payloads : List (List ℕ)) (s : State)
       → ((a b : List ℕ) → a0 ≡ Some (fresh a) → b0 ≡ Some (fresh b) → StandsFor a1 b1 (Ok (image_pair image payloads)))
       → Spells image s (state_at image) → AreTasks s.finished payloads s.queue → Hold a1 b1 s
-  image_held image payloads s now spelled are = stands_held (λ r. Ok (image_pair image payloads)) s now (λ a b is_a is_b. image_state image payloads s spelled are)
+  image_held image payloads s now spelled are = λ xs ys is_a is_b.
+      let next : Result Pair Spot → Result Pair Spot = λ r. Ok (image_pair image payloads) in
+      let was = now_stand next now xs ys is_a is_b in
+      pair_held xs ys (Ok (image_pair image payloads)) (run_out changed s) was.4 (image_state image payloads s spelled are)
 
 -- an image that spells the finished part of a machine counts its finished tasks
-pub spelled_count : (image : List ℕ) (s : State) → Spells image s (state_at image) → HasCount image s.finished
-spelled_count image s spelled = (spelled.state, spelled.is, ap (λ (t : State). t.finished) spelled.machine_of)
-
 pub counted_image : (image : List ℕ) (n : ℕ) (s : State) → HasCount image n → Spells image s (state_at image) → n ≡ s.finished
 counted_image image n s (state, is, counts) spelled =
     let same : state ≡ spelled.state = cc (is, spelled.is) in
@@ -107,7 +96,7 @@ counted_image image n s (state, is, counts) spelled =
 
 -- what holds of a crash holds of it by other words
 crash_by : (a b : Option Contents) (P Q : State → Type 0) → ((t : State) → P t → Q t) → CrashHolds a b P → CrashHolds a b Q
-crash_by a b P Q told holds = λ xs ys left_a left_b. let now = holds xs ys left_a left_b in (now.0, now.1, told (finished_part now.0) now.2)
+crash_by a b P Q told holds = λ xs ys left_a left_b. let now = holds xs ys left_a left_b in (now.0, now.1, told now.0 now.2)
 
 abbrev either : State → State → State → Type 0
 either p q t = (t ≡ p) ⊎ (t ≡ q)
@@ -121,6 +110,6 @@ pub crash_either : {T E : Type 0} (r : Result T E) (a b : Option Contents) (p q 
 crash_either (Ok x) a b p q p2 q2 same_p same_q holds = tt
 crash_either (Err e) a b p q p2 q2 same_p same_q holds = crash_by a b (either p q) (either p2 q2) (λ t is. either_by p q p2 q2 t same_p same_q is) holds
 
-pub crash_done : {T E : Type 0} (r : Result T E) (m : DurableMachine) (a b : Option Contents) → OnOk r (IsDurable m a b) → OnOk r (CrashHolds a b (λ t. t ≡ settled_part m.machine))
+pub crash_done : {T E : Type 0} (r : Result T E) (m : DurableMachine) (a b : Option Contents) → OnOk r (IsDurable m a b) → OnOk r (CrashHolds a b (λ t. t ≡ run_out changed m.machine))
 crash_done (Ok x) m a b durable = crash_now m a b durable
 crash_done (Err e) m a b durable = tt

@@ -7,3 +7,4 @@ pub mod Reopening
 pub mod Payloads
 pub mod Answering
 pub mod Syncs
+pub mod Versions

@@ -8,16 +8,15 @@ use Rattle.change_journal.specs.Fits.{grown, image_pair}
 use Rattle.doc_values.specs.Changes.{ChangeData}
 use Rattle.task_queue.specs.declared.task.Task.{Task}
 use Rattle.queued_changes.specs.State.{accepted}
-use Rattle.queued_changes.specs.Machine.{run, run_each}
+use Rattle.queued_changes.specs.Machine.{run, run_each, run_out}
 use Rattle.named_indexes.specs.Changes.{changed}
 use Rattle.search_routes.specs.State.{State, empty_state, finished_part}
 use Rattle.search_routes.specs.Images.{state_of, Spells}
 use Rattle.search_routes.specs.Redo.{redone, task_again}
-use Rattle.durable_machine.specs.Durable.{settled_part}
 use Rattle.durable_machine.specs.Held.{if_redone, run_from, held_in, held}
 use Rattle.durable_machine.specs.Recorded.{AreTasks}
 use Rattle.durable_machine.proofs.Runs.{reads}
-use Rattle.durable_machine.proofs.Settled.{parts_run, redone_idle, redone_is}
+use Rattle.durable_machine.proofs.Settled.{out_each, redone_idle, redone_is}
 
 -- the value, without why there is none
 abbrev pub kept : {A E : Type 0} → Result A E → Option A
@@ -144,16 +143,8 @@ after_tasks n (bytes ∷ more) (t ∷ ts) s idle count (again, are) =
     ap (λ (r : Result State PayloadSpot). then_for (kept r) (λ u. after u more)) made
     ∙ after_tasks (n + 1) more ts (run changed t [] s) refl (omega (arith, count, ap length idle)) are
 
--- a stored pair has a state with this finished part
-pub record PairHas (r : Result Pair Spot) (part : State) : Type 0 where
-  pub state : State
-  pub is : pair_state r ≡ Some state
-  pub part_is : finished_part state ≡ part
-
-pub image_state : (image : List ℕ) (payloads : List (List ℕ)) (s : State) → Spells image s (state_at image) → AreTasks s.finished payloads s.queue → PairHas (Ok (image_pair image payloads)) (settled_part s)
-image_state image payloads s spelled are = record {
-  state = run_each changed s.queue (finished_part s);
-  is = ap (λ (r : Result ImageData PayloadSpot). of_image r payloads) spelled.is ∙ ap (λ (t : State). after t payloads) spelled.machine_of
-      ∙ after_tasks s.finished payloads s.queue (finished_part s) refl (omega arith) are;
-  part_is = sym (parts_run s.queue s (finished_part s) refl);
-}
+pub image_state : (image : List ℕ) (payloads : List (List ℕ)) (s : State) → Spells image s (state_at image) → AreTasks s.finished payloads s.queue
+    → pair_state (Ok (image_pair image payloads)) ≡ Some (run_out changed s)
+image_state image payloads s spelled are =
+    ap (λ (r : Result ImageData PayloadSpot). of_image r payloads) spelled.is ∙ ap (λ (t : State). after t payloads) spelled.machine_of
+    ∙ after_tasks s.finished payloads s.queue (finished_part s) refl (omega arith) are ∙ ap Some (sym (out_each s))

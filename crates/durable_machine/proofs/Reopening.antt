@@ -1,5 +1,5 @@
 -- The machine of what was opened.
-use Rattle.std.proofs.Common.{◌≡◌, ℕ, ◌+◌, ◌≤◌, List, [], ◌∷◌, length-append, refl, sym, ◌∙◌, ap, subst, arith, Option, Some, None, Result, Ok, Err}
+use Rattle.std.proofs.Common.{◌≡◌, ℕ, ◌+◌, List, [], ◌∷◌, length-append, refl, sym, ◌∙◌, ap, subst, arith, Option, Some, None, Result, Ok, Err}
 use Rattle.std.specs.Option.{option_map}
 use Rattle.index_image.specs.declared.rows.ImageRows.{ImageRows}
 use Rattle.index_image.specs.Rows.{ImageData, image_view}
@@ -10,8 +10,7 @@ use Rattle.outside_io.specs.Disks.{Contents, fresh}
 use Rattle.change_journal.specs.declared.opening.Opened.{Opened}
 use Rattle.change_journal.specs.declared.opening.StoredChange.{StoredChange}
 use Rattle.change_journal.specs.declared.opening.JournalFault.{JournalFault}
-use Rattle.change_journal.specs.declared.opening.JournalFault.TheVariants.{DiskFault, Damaged, NoMemory}
-use Rattle.change_payloads.specs.Change.{Spot as PayloadSpot}
+use Rattle.change_journal.specs.declared.opening.JournalFault.TheVariants.{Damaged}
 use Rattle.doc_values.specs.Changes.{ChangeData}
 use Rattle.task_queue.specs.declared.task.Task.{Task}
 use Rattle.queued_changes.specs.State.{accepted}
@@ -24,8 +23,8 @@ use Rattle.search_routes.specs.State.{State, empty_state}
 use Rattle.search_routes.specs.Images.{state_of, image_need}
 use Rattle.search_routes.specs.Needs.{room_need}
 use Rattle.search_routes.specs.Redo.{task_again}
-use Rattle.durable_machine.specs.Held.{if_redone, run_from, held_in, held, need_in, opening_need, tasks_from, up_to_damage}
-use Rattle.durable_machine.specs.Reopened.{AllBelow, IsDamage, task_need}
+use Rattle.durable_machine.specs.Held.{if_redone, run_from, held_in, held, need_in, opening_need, tasks_from}
+use Rattle.durable_machine.specs.Reopened.{AllBelow, task_need}
 use Rattle.durable_machine.proofs.Runs.{Reads, reads}
 use Rattle.durable_machine.proofs.Settled.{room_redone}
 
@@ -111,15 +110,3 @@ need_waits at bytes records s new t again is =
     ap (λ (n : ℕ). fill_need changed need (tasks_from n records) (waits_behind t (make_room changed s))) (sym (count_waits s new t is))
     ∙ ap (λ (u : State). fill_need changed need (tasks_from (accepted new) records) u) (sym is) in
     rw again (ap (λ (n : ℕ). room_need s + n) rest)
-
--- a task that does not come to wait needs no more than all
-pub need_first : (r : Result (Task ChangeData) PayloadSpot) (ts : List (Task ChangeData)) (s : State) → task_need r s ≤ fill_need changed need (up_to_damage r ts) s
-need_first (Ok t) ts s = omega arith
-need_first (Err spot) ts s = omega arith
-
--- a fault at the first of some tasks is one of all
-pub first_damage : (disk at : ℕ) (r : Result State PayloadSpot) (rest : State → Result State Spot) (fault : JournalFault) → IsDamage fault (if_redone disk at r Ok) → IsDamage fault (if_redone disk at r rest)
-first_damage disk at r rest DiskFault is = is
-first_damage disk at r rest NoMemory is = tt
-first_damage disk at (Err spot) rest (Damaged d place found) is = is
-first_damage disk at (Ok s) rest (Damaged d place found) is = absurd (cc (is))

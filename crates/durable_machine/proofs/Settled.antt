@@ -1,13 +1,13 @@
 -- Tasks that have run out, and tasks that are run again.
-use Rattle.std.proofs.Common.{◌≡◌, ℕ, ◌+◌, ◌<◌, ◌^◌, List, [], ◌∷◌, length, true, refl, sym, ◌∙◌, ap, subst, arith, Result, Ok, Err}
+use Rattle.std.proofs.Common.{◌≡◌, ℕ, ◌+◌, List, [], ◌∷◌, length, true, refl, sym, ◌∙◌, ap, arith, Result, Ok, Err}
 use Rattle.std.specs.Prelude.{nat_lt}
 use Rattle.std.proofs.lemmas.Bool.{lt-ltb}
 use Rattle.change_payloads.specs.Change.{Spot as PayloadSpot}
 use Rattle.doc_values.specs.Changes.{ChangeData}
 use Rattle.task_queue.specs.declared.task.Task.{Task}
 use Rattle.queued_changes.specs.State.{accepted}
-use Rattle.queued_changes.specs.Machine.{run, run_first, run_out, run_each, settle, make_room, behind}
-use Rattle.queued_changes.proofs.Runs.{settled_out, settled_counts, room_out, room_counts, behind_out}
+use Rattle.queued_changes.specs.Machine.{run, run_first, run_out, run_each, make_room, behind}
+use Rattle.queued_changes.proofs.Runs.{room_out, room_counts, behind_out}
 use Rattle.named_indexes.specs.Changes.{changed}
 use Rattle.named_indexes.specs.Payloads.{Records}
 use Rattle.named_indexes.proofs.Recording.{good_recorded}
@@ -17,7 +17,6 @@ use Rattle.search_routes.specs.Machine.{numbered}
 use Rattle.search_routes.specs.Redo.{redone, task_again}
 use Rattle.search_routes.specs.State.{State, finished_part, most_changes}
 use Rattle.search_routes.specs.declared.tasks.PreparedTask.{PreparedTask}
-use Rattle.durable_machine.specs.Durable.{settled_part}
 
 -- ---- tasks that have run out
 
@@ -37,29 +36,17 @@ out_queue s = first_queue s.queue s refl
 pub out_counts : (s : State) → accepted (run_out changed s) ≡ accepted s
 out_counts s = first_counts s.queue s refl
 
-pub out_finished : (s : State) → (run_out changed s).finished ≡ accepted s
-out_finished s = omega (arith, out_counts s, ap length (out_queue s))
-
 -- where none waits, nothing runs
 pub idle_out : (s : State) → s.queue ≡ [] → run_out changed s ≡ s
 idle_out s e = ap (λ (q : List (Task ChangeData)). run_first changed (length q) q s) e
 
-pub idle_part : (s : State) → s.queue ≡ [] → settled_part s ≡ finished_part s
-idle_part s e = ap finished_part (idle_out s e)
-
--- ---- finished parts
-
--- a task leaves the same of the same finished part, whatever waits behind it
-part_run : (t : Task ChangeData) (ts : List (Task ChangeData)) (s u : State) → finished_part s ≡ finished_part u → finished_part (run changed t ts s) ≡ finished_part (run changed t [] u)
-part_run t ts s u e = ap (λ (p : State). finished_part (run changed t [] p)) e
-
 -- tasks that run out leave what they leave one by one
-pub parts_run : (ts : List (Task ChangeData)) (s u : State) → finished_part s ≡ finished_part u → finished_part (run_first changed (length ts) ts s) ≡ finished_part (run_each changed ts u)
-parts_run [] s u e = e
-parts_run (t ∷ ts) s u e = parts_run ts (run changed t ts s) (run changed t [] u) (part_run t ts s u e)
+runs_each : (ts : List (Task ChangeData)) (s : State) → s.queue ≡ ts → run_first changed (length ts) ts s ≡ run_each changed ts (finished_part s)
+runs_each [] s e = ap (λ (q : List (Task ChangeData)). record { finished = s.finished; queue = q; outcomes = s.outcomes; indexes = s.indexes }) e
+runs_each (t ∷ ts) s e = runs_each ts (run changed t ts s) refl
 
-same_count : (s u : State) → s.queue ≡ [] → u.queue ≡ [] → finished_part s ≡ finished_part u → accepted s ≡ accepted u
-same_count s u idle_s idle_u e = omega (arith, ap length idle_s, ap length idle_u, ap (λ (p : State). p.finished) e)
+pub out_each : (s : State) → run_out changed s ≡ run_each changed s.queue (finished_part s)
+out_each s = runs_each s.queue s refl
 
 -- ---- tasks that are run again
 
@@ -88,22 +75,6 @@ redone_idle s bytes w e = ap (λ (u : State). u.queue) (redone_ran s bytes w e).
 -- and one more was accepted
 pub redone_counts : (s : State) (bytes : List ℕ) (w : State) → s.queue ≡ [] → redone s bytes ≡ Ok w → accepted w ≡ accepted s + 1
 redone_counts s bytes w idle e = omega (arith, ap accepted (redone_ran s bytes w e).is, ap length idle)
-
--- what is run again where the finished part is the same
-pub record Again (u : State) (bytes : List ℕ) (part : State) : Type 0 where
-  pub state : State
-  pub is : redone u bytes ≡ Ok state
-  pub part_is : finished_part state ≡ part
-
-pub redone_alike : (u s w : State) (bytes : List ℕ) → u.queue ≡ [] → s.queue ≡ [] → finished_part u ≡ finished_part s → redone s bytes ≡ Ok w → Again u bytes (finished_part w)
-redone_alike u s w bytes idle_u idle_s e made =
-    let ran = redone_ran s bytes w made in
-    let again : task_again (accepted u) bytes ≡ Ok ran.task = ap (λ (n : ℕ). task_again n bytes) (same_count u s idle_u idle_s e) ∙ ran.again in
-    record {
-      state = run changed ran.task [] u;
-      is = redone_is u bytes ran.task again;
-      part_is = part_run ran.task [] u s e ∙ sym (ap finished_part ran.is);
-    }
 
 -- ---- tasks that come to wait
 

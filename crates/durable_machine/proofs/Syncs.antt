@@ -3,7 +3,7 @@ use Rattle.std.proofs.Common.{◌≡◌, ◌≢◌, ℕ, ◌+◌, List, [], leng
 use Rattle.std.specs.Option.{is_some, option_map}
 use Rattle.std.specs.Prelude.{MatchOption, true}
 use Rattle.outside_io.specs.Disks.{Contents, Told, fresh, settled}
-use Rattle.change_journal.specs.Format.{Spot, Stored, stored, look}
+use Rattle.change_journal.specs.Format.{Spot, Stored, look, stored}
 use Rattle.change_journal.specs.Fits.{BothTold, Fits, FitsAt, Holds, IsOlder, IsSettled}
 use Rattle.change_journal.specs.Opens.{IsReady, Stands}
 use Rattle.change_journal.specs.Shut.{is_told}
@@ -14,12 +14,14 @@ use Rattle.change_journal.specs.declared.opening.Opened.{Opened}
 use Rattle.index_image.specs.Rows.{image_view}
 use Rattle.index_image.specs.State.{IsState}
 use Rattle.index_image.specs.declared.rows.ImageRows.{ImageRows}
+use Rattle.queued_changes.specs.Machine.{run_out}
+use Rattle.named_indexes.specs.Changes.{changed}
 use Rattle.search_routes.specs.State.{State}
 use Rattle.durable_machine.specs.Held.{held}
-use Rattle.durable_machine.specs.Durable.{CrashHolds, Hold, IsDurable, settled_part}
+use Rattle.durable_machine.specs.Durable.{CrashHolds, Hold, IsDurable, IsMigrated}
 use Rattle.durable_machine.specs.declared.machine.DurableMachine.{DurableMachine}
-use Rattle.durable_machine.proofs.Sides.{same_told}
-use Rattle.durable_machine.proofs.Settled.{idle_part}
+use Rattle.durable_machine.proofs.Sides.{both_from, same_told}
+use Rattle.durable_machine.proofs.Settled.{idle_out}
 use Rattle.durable_machine.proofs.Pairs.{held_idle}
 use Rattle.durable_machine.proofs.Crash.{held_now}
 
@@ -78,28 +80,29 @@ sync_tells (Ok x) o p done failed = still_told o p done
 sync_tells (Err e) o p done failed = ap is_told failed
 
 -- two disks that are as they were hold what they held
-pub kept_held : (a b : Option Contents) (xs ys : List ℕ) (s : State) → a ≡ Some (fresh xs) → b ≡ Some (fresh ys) → held xs ys ≡ Ok s → CrashHolds a b (λ t. t ≡ settled_part s)
+pub kept_held : (a b : Option Contents) (xs ys : List ℕ) (s : State) → a ≡ Some (fresh xs) → b ≡ Some (fresh ys) → held xs ys ≡ Ok s → CrashHolds a b (λ t. t ≡ run_out changed s)
 kept_held a b xs ys s is_a is_b holds =
     let calm_a : IsSettled a = subst (λ o. IsSettled o) (sym is_a) refl in
     let calm_b : IsSettled b = subst (λ o. IsSettled o) (sym is_b) refl in
     held_now a b s calm_a calm_b (λ c d is_c is_d.
     let same_a : xs ≡ c = same_told a xs c is_a is_c in
     let same_b : ys ≡ d = same_told b ys d is_b is_d in
-    (s, sym (ap (λ (l : List ℕ). held l d) same_a) ∙ sym (ap (λ (l : List ℕ). held xs l) same_b) ∙ holds, sym (idle_part s (held_idle xs ys s holds))))
+    sym (ap (λ (l : List ℕ). held l d) same_a) ∙ sym (ap (λ (l : List ℕ). held xs l) same_b) ∙ holds ∙ ap Ok (sym (idle_out s (held_idle xs ys s holds))))
 
 -- a machine that two disks hold, in which no task waits
 pub opened_hold : (s : State) (a b : Option Contents) → s.queue ≡ [] → ((xs ys : List ℕ) → a ≡ Some (fresh xs) → b ≡ Some (fresh ys) → held xs ys ≡ Ok s) → Hold a b s
-opened_hold s a b idle holds = λ xs ys is_a is_b. (s, holds xs ys is_a is_b, sym (idle_part s idle))
+opened_hold s a b idle holds = λ xs ys is_a is_b. holds xs ys is_a is_b ∙ ap Ok (sym (idle_out s idle))
 
 pub opened_durable : (m : DurableMachine) (j : Journal) (a b : Option Contents) → m.journal ≡ j → j.active ≢ None → Fits j a b → m.machine.finished ≡ j.count → m.machine.queue ≡ [] → IsSettled a → IsSettled b
-    → ((xs ys : List ℕ) → a ≡ Some (fresh xs) → b ≡ Some (fresh ys) → held xs ys ≡ Ok m.machine) → IsDurable m a b
-opened_durable m j a b journal active fits count idle calm_a calm_b holds = record {
+    → ((xs ys : List ℕ) → a ≡ Some (fresh xs) → b ≡ Some (fresh ys) → held xs ys ≡ Ok m.machine) → ((xs ys : List ℕ) → a ≡ Some (fresh xs) → b ≡ Some (fresh ys) → IsMigrated (stored xs ys)) → IsDurable m a b
+opened_durable m j a b journal active fits count idle calm_a calm_b holds migrated = record {
   active = rw journal active;
   fits = rw journal fits;
   count = omega (arith, ap (λ (i : Journal). i.count) journal, count, ap length idle);
   settled_a = calm_a;
   settled_b = calm_b;
   holds = opened_hold m.machine a b idle holds;
+  migrated = both_from a b (λ xs ys. IsMigrated (stored xs ys)) calm_a calm_b migrated;
 }
 
 -- where an image was found, a disk is active

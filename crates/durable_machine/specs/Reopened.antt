@@ -1,7 +1,8 @@
--- What running the tasks of a journal again answers.
-use Rattle.std.specs.Prelude.{◌≡◌, ℕ, ◌+◌, ◌≤◌, length, Result, Ok, Err}
+-- What opening finds, and what running the tasks of a journal again answers.
+use Rattle.std.specs.Prelude.{◌≡◌, ◌≢◌, ◌⊎◌, ℕ, ◌+◌, ◌-◌, ◌<◌, ◌≤◌, ◌^◌, length, None, Result, Ok, Err}
 use Rattle.change_payloads.specs.Change.{Spot as PayloadSpot}
 use Rattle.change_journal.specs.Format.{Walk, shut, broken, entry, Spot}
+use Rattle.change_journal.specs.declared.opening.Opened.{Opened}
 use Rattle.change_journal.specs.declared.opening.JournalFault.{JournalFault}
 use Rattle.change_journal.specs.declared.opening.JournalFault.TheVariants.{DiskFault, Damaged, NoMemory}
 use Rattle.doc_values.specs.Changes.{ChangeData}
@@ -9,6 +10,14 @@ use Rattle.task_queue.specs.declared.task.Task.{Task}
 use Rattle.search_routes.specs.Needs.{room_need}
 use Rattle.search_routes.specs.State.{State}
 use Rattle.durable_machine.specs.declared.machine.DurableMachine.{DurableMachine}
+
+-- no disk was open, or the image is not of version 2 and the generation is not the last
+abbrev pub IsOld : Opened → Type 0
+IsOld o = (o.image ≡ None) ⊎ ((o.version ≢ 2) × (o.journal.generation < 2 ^ 64 - 1))
+
+-- a disk was open, and the image is of version 2 or the generation is the last
+abbrev pub IsCurrent : Opened → Type 0
+IsCurrent o = (o.image ≢ None) × ((o.version ≡ 2) ⊎ (o.journal.generation ≡ 2 ^ 64 - 1))
 
 -- each payload ends below a gate
 abbrev pub AllBelow : ℕ → Walk → Type 0

@@ -1,4 +1,4 @@
-ghost use Rattle.std.specs.Prelude.{◌≡◌, ◌≢◌, ◌⊎◌, ◌+◌, ◌<◌, ◌≤◌, ◌^◌, ◌↔◌, ℕ, List, [], length, Bool, IsTrue, true, false, Option, None, Some, Ok, Err, IfErr, IfOk, OnOk, OnErr};
+ghost use Rattle.std.specs.Prelude.{◌≡◌, ◌≢◌, ◌⊎◌, ◌+◌, ◌-◌, ◌<◌, ◌≤◌, ◌^◌, ◌↔◌, ℕ, List, [], length, Bool, IsTrue, true, false, Option, None, Some, Ok, Err, IfErr, IfOk, OnOk, OnErr};
 ghost use Rattle.outside_io.specs.Disks.{Contents, fresh};
 ghost use Rattle.outside_io.specs.Faults.{Rose};
 ghost use Rattle.http_wire.specs.Sent.{IsSentAs};
@@ -25,9 +25,9 @@ ghost use Rattle.search_routes.specs.Needs.{batch_need, needed_fetches};
 ghost use Rattle.search_routes.specs.Openings.{opened_by, most_opened_by};
 ghost use Rattle.search_routes.specs.Redo.{redone};
 ghost use Rattle.durable_machine.specs.Held.{held, opening_need};
-ghost use Rattle.durable_machine.specs.Durable.{CrashHolds, Hold, IsDurable, IsFirst, settled_part};
+ghost use Rattle.durable_machine.specs.Durable.{CrashHolds, Hold, IsDurable, IsFirst, NeedsCheckpoint};
 
-use crate::opening::make_again;
+use crate::opening::{make_again, needs_checkpoint};
 use crate::recording::{append, checkpoint, first_of, read_and_sync};
 use bucket_sort::BucketLog;
 use change_journal::{FirstJournal, Journal, JournalFault, Record, record};
@@ -59,12 +59,14 @@ pub struct Answered {
 impl DurableMachine {
     /// Opens the machine that two disks hold, in which all their tasks have run. Both disks are synced once they were
     /// read, before anything else is written, so that nothing is pending from then on. Where no disk is open it makes
-    /// the first checkpoint, of a machine that holds nothing; anywhere else what the disks hold stays as it is, damage
-    /// too. `fetches` counts the stored documents that are read, at most `opening_need`.
+    /// the first checkpoint, of a machine that holds nothing. Where the image found is of version 1 it makes a
+    /// checkpoint of all the tasks, version 2, to the other disk, unless the generation is the last. Anywhere else what
+    /// the disks hold stays as it is, damage too. `fetches` counts the stored documents that are read, at most
+    /// `opening_need`.
     ///
     /// `Damaged` comes only with the first byte that is damaged, `DiskFault` only where a disk's count of faults rose,
-    /// and `NoMemory` for want of memory. On an error, whatever a crash leaves on the disks holds what they held
-    /// before.
+    /// and `NoMemory` for want of memory, that of the checkpoint too. On an error, whatever a crash leaves on the disks
+    /// holds what they held before.
     pub fn opened<K: Disk, F>(
         alloc: Global,
         disk_a: &mut K,
@@ -74,7 +76,7 @@ impl DurableMachine {
         ensures durable { IfOk result (λ m. IsDurable m (K.contents disk_a.new) (K.contents disk_b.new)) }
         ensures idle { IfOk result (λ m. m.machine.queue ≡ []) }
         ensures crash_now { IfOk result
-            (λ m. CrashHolds (K.contents disk_a.new) (K.contents disk_b.new) (λ t. t ≡ settled_part m.machine)) }
+            (λ m. CrashHolds (K.contents disk_a.new) (K.contents disk_b.new) (λ t. t ≡ run_out changed m.machine)) }
         ensures state { IfOk result
             (λ m. (xs ys : List ℕ) → K.contents disk_a.old ≡ Some (fresh xs) → K.contents disk_b.old ≡ Some (fresh ys)
             → held xs ys ≡ Ok m.machine) }
@@ -84,14 +86,14 @@ impl DurableMachine {
         ensures kept { OnErr result ((xs ys : List ℕ) (s : State) → K.contents disk_a.old ≡ Some (fresh xs)
             → K.contents disk_b.old ≡ Some (fresh ys)
             → held xs ys ≡ Ok s → CrashHolds (K.contents disk_a.new) (K.contents disk_b.new)
-            (λ t. t ≡ settled_part s)) }
+            (λ t. t ≡ run_out changed s)) }
         ensures fault { result ≡ Err DiskFault → Rose (K.disk_faults disk_a.old) (K.disk_faults disk_a.new)
             ⊎ Rose (K.disk_faults disk_b.old) (K.disk_faults disk_b.new) }
         ensures later_a { K.disk_faults disk_a.old ≤ K.disk_faults disk_a.new }
         ensures later_b { K.disk_faults disk_b.old ≤ K.disk_faults disk_b.new }
         ensures untouched { (xs ys : List ℕ) → K.contents disk_a.old ≡ Some (fresh xs)
             → K.contents disk_b.old ≡ Some (fresh ys)
-            → stored xs ys ≢ Ok None → (K.contents disk_a.new ≡ K.contents disk_a.old)
+            → (NeedsCheckpoint xs ys → ⊥) → (K.contents disk_a.new ≡ K.contents disk_a.old)
             × (K.contents disk_b.new ≡ K.contents disk_b.old) }
         ensures first { IfOk result
             (λ m. (xs ys : List ℕ) → K.contents disk_a.old ≡ Some (fresh xs) → K.contents disk_b.old ≡ Some (fresh ys)
@@ -107,15 +109,15 @@ impl DurableMachine {
             Ok(opened) => opened,
             Err(fault) => return Err(fault),
         };
-        let is_new = opened.image.is_none();
+        let is_old = needs_checkpoint(&opened);
         let mut made = match make_again(alloc, opened, fetches) {
             Ok(made) => made,
             Err(fault) => return Err(fault),
         };
-        if !is_new {
+        if !is_old {
             return Ok(made);
         }
-        match made.first_checkpoint(alloc, disk_a, disk_b) {
+        match made.checkpoint_of_all(alloc, disk_a, disk_b) {
             Ok(()) => Ok(made),
             Err(fault) => Err(fault),
         }
@@ -149,10 +151,10 @@ impl DurableMachine {
             (log_state (told log.old) openings.old) (log_state (told log.new) openings.new) }
         ensures durable { OnOk result (IsDurable self.new (K.contents disk_a.new) (K.contents disk_b.new)) }
         ensures crash_now { OnOk result (CrashHolds (K.contents disk_a.new) (K.contents disk_b.new)
-            (λ t. t ≡ settled_part self.new.machine)) }
+            (λ t. t ≡ run_out changed self.new.machine)) }
         ensures crash { OnErr result (CrashHolds (K.contents disk_a.new) (K.contents disk_b.new)
-            (λ t. (t ≡ settled_part self.old.machine)
-            ⊎ (t ≡ settled_part (state_after self.old.machine (request_of wire) false)))) }
+            (λ t. (t ≡ run_out changed self.old.machine)
+            ⊎ (t ≡ run_out changed (state_after self.old.machine (request_of wire) false)))) }
         ensures due { IfOk result
             (λ done. IsDue self.new.journal → (done.passed ≡ true)
             ⊎ (IsDue self.old.journal × (accepted self.new.machine ≡ accepted self.old.machine))) }
@@ -236,7 +238,8 @@ impl DurableMachine {
         ensures durable { OnOk result (IsDurable self.new (K.contents disk_a.new) (K.contents disk_b.new)) }
         ensures crash { (q : Request) → call_of q ≡ Ok (write (change_view change))
             → OnErr result (CrashHolds (K.contents disk_a.new) (K.contents disk_b.new)
-            (λ t. (t ≡ settled_part self.old.machine) ⊎ (t ≡ settled_part (state_after self.old.machine q false)))) }
+            (λ t. (t ≡ run_out changed self.old.machine)
+            ⊎ (t ≡ run_out changed (state_after self.old.machine q false)))) }
         ensures due { IfOk result
             (λ done. IsDue self.new.journal → (done.passed ≡ true)
             ⊎ (IsDue self.old.journal × (accepted self.new.machine ≡ accepted self.old.machine))) }
@@ -286,8 +289,8 @@ impl DurableMachine {
         ensures follows { IfOk result (λ done. done.follows ≡ false) }
         ensures durable { OnOk result (IsDurable self.new (K.contents disk_a.new) (K.contents disk_b.new)) }
         ensures crash { OnErr result (CrashHolds (K.contents disk_a.new) (K.contents disk_b.new)
-            (λ t. (t ≡ settled_part self.old.machine)
-            ⊎ (t ≡ settled_part (behind ready.prepared.task self.old.machine)))) }
+            (λ t. (t ≡ run_out changed self.old.machine)
+            ⊎ (t ≡ run_out changed (behind ready.prepared.task self.old.machine)))) }
         ensures due { IfOk result (λ done. IsDue self.new.journal → done.passed ≡ true) }
         ensures passed { IfOk result (λ done. done.passed ≡ true → IsDue self.new.journal) }
         ensures later { accepted self.old.machine ≤ accepted self.new.machine }
@@ -323,7 +326,7 @@ impl DurableMachine {
         ensures machine { self.new.machine ≡ self.old.machine }
         ensures durable { OnOk result (IsDurable self.new (K.contents disk_a.new) (K.contents disk_b.new)) }
         ensures crash { OnErr result (CrashHolds (K.contents disk_a.new) (K.contents disk_b.new)
-            (λ t. t ≡ settled_part self.old.machine)) }
+            (λ t. t ≡ run_out changed self.old.machine)) }
         ensures due { IfOk result (λ passed. IsDue self.new.journal → passed ≡ true) }
         ensures passed { IfOk result (λ passed. passed ≡ true → IsDue self.new.journal) }
         ensures only_due { self.new.journal.generation ≢ self.old.journal.generation → IsDue self.old.journal }
@@ -349,14 +352,15 @@ impl DurableMachine {
         Ok(false)
     }
 
-    // Makes the first checkpoint on two disks of which none is open.
-    fn first_checkpoint<K: Disk>(
+    // Makes a checkpoint of a machine in which no task waits, before it is given out. Its error is want of memory, or a
+    // disk's count of faults rose.
+    fn checkpoint_of_all<K: Disk>(
         &mut self,
         alloc: Global,
         disk_a: &mut K,
         disk_b: &mut K,
     ) -> Result<(), JournalFault>
-        requires none { self.old.journal.active ≡ None }
+        requires few { self.old.journal.generation < 2 ^ 64 - 1 }
         requires fits { Fits self.old.journal (K.contents disk_a.old) (K.contents disk_b.old) }
         requires counted { self.old.machine.finished ≡ self.old.journal.count }
         requires idle { self.old.machine.queue ≡ [] }
@@ -365,13 +369,13 @@ impl DurableMachine {
         ensures machine { self.new.machine ≡ self.old.machine }
         ensures durable { OnOk result (IsDurable self.new (K.contents disk_a.new) (K.contents disk_b.new)) }
         ensures kept { OnErr result (Hold (K.contents disk_a.old) (K.contents disk_b.old) self.old.machine
-            → CrashHolds (K.contents disk_a.new) (K.contents disk_b.new) (λ t. t ≡ settled_part self.old.machine)) }
+            → CrashHolds (K.contents disk_a.new) (K.contents disk_b.new) (λ t. t ≡ run_out changed self.old.machine)) }
         ensures whole { (disk place : ℕ) (found : Option ℕ) → result ≡ Err (Damaged disk place found) → ⊥ }
         ensures fault { result ≡ Err DiskFault → Rose (K.disk_faults disk_a.old) (K.disk_faults disk_a.new)
             ⊎ Rose (K.disk_faults disk_b.old) (K.disk_faults disk_b.new) }
-        ensures made { OnOk result ((xs : List ℕ) → K.contents disk_a.old ≡ Some (fresh xs)
-            → IsFirst self.old.machine (K.contents disk_a.new)) }
-        ensures other { disk_b.new ≡ disk_b.old }
+        ensures made { OnOk result (self.old.journal.active ≡ None → (xs : List ℕ)
+            → K.contents disk_a.old ≡ Some (fresh xs) → IsFirst self.old.machine (K.contents disk_a.new)) }
+        ensures other { self.old.journal.active ≡ None → disk_b.new ≡ disk_b.old }
         ensures told_a { is_told (K.contents disk_a.new) ≡ is_told (K.contents disk_a.old) }
         ensures told_b { is_told (K.contents disk_b.new) ≡ is_told (K.contents disk_b.old) }
         ensures later_a { K.disk_faults disk_a.old ≤ K.disk_faults disk_a.new }

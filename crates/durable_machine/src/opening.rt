@@ -1,4 +1,4 @@
-ghost use Rattle.std.specs.Prelude.{◌≡◌, ◌≢◌, ◌+◌, ◌<◌, ◌≤◌, ◌^◌, ℕ, List, [], Ok, Err, IfOk, IfErr, OnOk, length};
+ghost use Rattle.std.specs.Prelude.{◌≡◌, ◌≢◌, ◌+◌, ◌<◌, ◌≤◌, ◌^◌, ℕ, List, [], Ok, Err, IfOk, IfErr, OnOk, length, true, false};
 ghost use Rattle.change_journal.specs.Format.{shut, stored};
 ghost use Rattle.change_journal.specs.declared.opening.JournalFault.TheVariants.{DiskFault};
 ghost use Rattle.change_journal.specs.Opens.{behind, IsReady, Stands};
@@ -15,7 +15,7 @@ ghost use Rattle.search_routes.specs.State.{State};
 ghost use Rattle.search_routes.specs.Images.{state_of, image_need};
 ghost use Rattle.search_routes.specs.Redo.{ReadsTask, redone, task_again as task_of_bytes};
 ghost use Rattle.durable_machine.specs.Held.{held, opening_need, if_redone, run_from, tasks_from};
-ghost use Rattle.durable_machine.specs.Reopened.{AllBelow, IsDamage, IsHeld, IsMade, IsRun, task_need};
+ghost use Rattle.durable_machine.specs.Reopened.{AllBelow, IsCurrent, IsDamage, IsHeld, IsMade, IsOld, IsRun, task_need};
 
 use crate::machine::DurableMachine;
 use change_journal::{JournalFault, Opened, StoredChange};
@@ -24,6 +24,18 @@ use index_image::ImageRows;
 use search_base::Steps;
 use search_routes::{Machine, task_again};
 use std::alloc::Global;
+
+// The version of the images that are written.
+const VERSION: u8 = 2;
+
+/// Whether what was opened is given out only behind a checkpoint: no disk is open, or the image is of version 1 and the
+/// generation is not the last.
+pub(crate) fn needs_checkpoint(opened: &Opened) -> bool
+    ensures old { result ≡ true → IsOld opened.now }
+    ensures current { result ≡ false → IsCurrent opened.now }
+{
+    opened.image.is_none() || opened.version != VERSION && !opened.journal.is_last()
+}
 
 /// The machine of what two disks held when they were opened, in which the tasks behind the image have run again, or the
 /// first byte that is damaged. Where no disk was open the machine holds nothing.

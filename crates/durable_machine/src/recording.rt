@@ -4,7 +4,7 @@ ghost use Rattle.outside_io.specs.Disks.{fresh, settled};
 ghost use Rattle.outside_io.specs.Faults.{HasCause, Rose};
 ghost use Rattle.change_journal.specs.Fits.{BothTold, Fits, HasCount, IsDue, IsSettled, disk_on, next_side};
 ghost use Rattle.change_journal.specs.First.{First, journal_bytes};
-ghost use Rattle.change_journal.specs.Format.{stored};
+ghost use Rattle.change_journal.specs.Format.{stored, version_of};
 ghost use Rattle.change_journal.specs.Opens.{AnswersAll, IsReady, Stands};
 ghost use Rattle.change_journal.specs.Shut.{image_disk, is_told};
 ghost use Rattle.change_journal.specs.declared.opening.JournalFault.TheVariants.{DiskFault};
@@ -14,7 +14,7 @@ ghost use Rattle.named_indexes.specs.Changes.{changed};
 ghost use Rattle.search_routes.specs.State.{State};
 ghost use Rattle.search_routes.specs.Images.{Spells};
 ghost use Rattle.search_routes.specs.Redo.{redone};
-ghost use Rattle.durable_machine.specs.Durable.{CrashHolds, Hold, IsDurable, settled_part};
+ghost use Rattle.durable_machine.specs.Durable.{CrashHolds, Hold, IsDurable};
 ghost use Rattle.durable_machine.specs.Recorded.{AreTasks};
 
 use change_journal::{FirstJournal, Journal, JournalFault, Opened, Record, open};
@@ -114,7 +114,7 @@ pub(crate) fn append<K: Disk>(
         → IsDurable (record { machine = s; journal = journal.old }) (K.contents disk_a.old) (K.contents disk_b.old)
         → redone (run_out changed s) entry.payload ≡ Ok (run_out changed t)
         → CrashHolds (K.contents disk_a.new) (K.contents disk_b.new)
-        (λ u. (u ≡ settled_part s) ⊎ (u ≡ settled_part t))) }
+        (λ u. (u ≡ run_out changed s) ⊎ (u ≡ run_out changed t))) }
     ensures grown { OnOk result (journal.new.grown ≡ journal.old.grown + length entry.payload + 13) }
     ensures generation { journal.new.generation ≡ journal.old.generation }
     ensures told_a { is_told (K.contents disk_a.new) ≡ is_told (K.contents disk_a.old) }
@@ -141,6 +141,7 @@ pub(crate) fn checkpoint<K: Disk>(
 ) -> Result<(), Failed>
     requires fits { Fits journal.old (K.contents disk_a.old) (K.contents disk_b.old) }
     requires image { HasCount image.now first.now.number }
+    requires version { version_of image.now ≡ 2 }
     requires held { journal.old.count ≡ first.now.number + length first.now.payloads }
     requires few { journal.old.generation < 2 ^ 64 - 1 }
     requires settled_a { IsSettled (K.contents disk_a.old) }
@@ -151,7 +152,7 @@ pub(crate) fn checkpoint<K: Disk>(
     ensures crash { OnErr result ((s : State) → Spells image.now s (state_at image.now)
         → AreTasks s.finished first.now.payloads s.queue
         → Hold (K.contents disk_a.old) (K.contents disk_b.old) s
-        → CrashHolds (K.contents disk_a.new) (K.contents disk_b.new) (λ u. u ≡ settled_part s)) }
+        → CrashHolds (K.contents disk_a.new) (K.contents disk_b.new) (λ u. u ≡ run_out changed s)) }
     ensures done { OnOk result (IsDue journal.new → ⊥) }
     ensures made { OnOk result ((ys : List ℕ)
         → K.contents (disk_on (next_side journal.old.active) disk_a.old disk_b.old) ≡ Some (fresh ys)

@@ -9,9 +9,8 @@ use Rattle.http_wire.specs.Stream.{Request}
 use Rattle.queued_changes.specs.Machine.{run_each, run_out}
 use Rattle.queued_changes.specs.Run.{tasks_in}
 use Rattle.named_indexes.specs.Changes.{changed}
-use Rattle.search_routes.specs.State.{State, finished_part}
+use Rattle.search_routes.specs.State.{State}
 use Rattle.search_routes.specs.Chosen.{Event, EndsIn, after, state_after, stepped}
-use Rattle.durable_machine.specs.Durable.{settled_part}
 use Rattle.search_server.specs.LinkState.{LinkState}
 use Rattle.search_server.specs.Telling.{GoesOnTelling, LinkGoesOnTelling}
 use Rattle.search_server.specs.Turns.{TurnIs}
@@ -40,15 +39,15 @@ TurnsGoOnTelling = (left : ℕ) (old new : LinkState) (kept : List ℕ) (turn : 
 -- What is left once each task has run, one after the other: those that wait in this state, and then those that the
 -- requests bring.
 abbrev pub all_run : State → List Event → State
-all_run s events = finished_part (run_each changed (tasks_in changed stepped s events) (run_out changed s))
+all_run s events = run_each changed (tasks_in changed stepped s events) (run_out changed s)
 
 -- a run leaves the tasks of all its requests, with the mark and without
 abbrev pub NoTaskIsLost : Type 0
 NoTaskIsLost = (mark : Bool) (s : State) (events : List Event) (t : State) → EndsIn mark s events t
-    → settled_part t ≡ all_run s events
+    → run_out changed t ≡ all_run s events
 
 -- and so does one whose last request was answered and has no reply
 abbrev pub LastTaskIsNotLost : Type 0
 LastTaskIsNotLost = (s : State) (front : List Event) (q : Request)
-    → settled_part (state_after (after s front) q false)
+    → run_out changed (state_after (after s front) q false)
     ≡ all_run s (front ++ record { request = q; starved = false } ∷ [])

@@ -1,12 +1,13 @@
 -- Opening the machine that two disks hold, and what follows.
-use Rattle.std.specs.Prelude.{◌≡◌, ◌≢◌, ◌⊎◌, ℕ, ◌+◌, ◌≤◌, List, Option, None, Some, Ok, Err}
+use Rattle.std.specs.Prelude.{◌≡◌, ◌⊎◌, ℕ, ◌+◌, ◌≤◌, List, Option, Some, Ok, Err}
 use Rattle.outside_io.specs.Disks.{Contents, fresh}
 use Rattle.bucket_sort.specs.declared.log.Opening.{Opening as OpenedBucket}
 use Rattle.bucket_sort.specs.Opens.{log_state}
-use Rattle.change_journal.specs.Format.{stored}
+use Rattle.queued_changes.specs.Machine.{run_out}
+use Rattle.named_indexes.specs.Changes.{changed}
 use Rattle.search_routes.specs.State.{State}
 use Rattle.durable_machine.specs.Held.{held, opening_need}
-use Rattle.durable_machine.specs.Durable.{CrashHolds, settled_part}
+use Rattle.durable_machine.specs.Durable.{CrashHolds, NeedsCheckpoint}
 use Rattle.search_server.specs.LinkState.{DiskState, Shared, disk_state}
 use Rattle.search_server.specs.Statuses.{DiskRose}
 use Rattle.search_server.specs.declared.status.Status.{Status}
@@ -46,15 +47,16 @@ with_state state heard s = record {
 abbrev pub ForBytes : Unopened → (List ℕ → List ℕ → Type 0) → Type 0
 ForBytes s P = (xs ys : List ℕ) → s.disk_a.contents ≡ Some (fresh xs) → s.disk_b.contents ≡ Some (fresh ys) → P xs ys
 
--- what the two disks hold is as it was, unless they held nothing: damage stays too
+-- what the two disks hold is as it was, unless they held nothing, or an image of version 1: damage stays too
 abbrev pub AsTheyWere : Unopened → DiskState → DiskState → Type 0
-AsTheyWere old a b = ForBytes old (λ xs ys. stored xs ys ≢ Ok None → (a.contents ≡ old.disk_a.contents) × (b.contents ≡ old.disk_b.contents))
+AsTheyWere old a b = ForBytes old (λ xs ys. (NeedsCheckpoint xs ys → ⊥)
+    → (a.contents ≡ old.disk_a.contents) × (b.contents ≡ old.disk_b.contents))
 
 -- The machine was opened: its state is the one that the disks held, in which no task waits; and whatever a crash may
 -- now leave holds it. No bucket was opened on the way.
 pub record Opened (heard : Heard) (old : Unopened) (found : Shared) : Type 0 where
   pub state : ForBytes old (λ xs ys. held xs ys ≡ Ok found.state)
-  pub crash : CrashHolds found.disk_a.contents found.disk_b.contents (λ t. t ≡ settled_part found.state)
+  pub crash : CrashHolds found.disk_a.contents found.disk_b.contents (λ t. t ≡ run_out changed found.state)
   pub fetched : ForBytes old (λ xs ys. found.fetches ≤ old.fetches + opening_need xs ys)
   pub log : found.log ≡ log_state heard old.openings
   pub untouched : AsTheyWere old found.disk_a found.disk_b
@@ -80,7 +82,7 @@ IsUnopened old new RequestsSpent = ⊥
 pub record NotOpened (old new : Unopened) (status : Status) : Type 0 where
   pub why : IsUnopened old new status
   pub kept : ForBytes old (λ xs ys. (s : State) → held xs ys ≡ Ok s
-      → CrashHolds new.disk_a.contents new.disk_b.contents (λ t. t ≡ settled_part s))
+      → CrashHolds new.disk_a.contents new.disk_b.contents (λ t. t ≡ run_out changed s))
   pub fetched : ForBytes old (λ xs ys. new.fetches ≤ old.fetches + opening_need xs ys)
   pub openings : new.openings ≡ old.openings
   pub untouched : AsTheyWere old new.disk_a new.disk_b

@@ -8,9 +8,11 @@ use Rattle.std.specs.Io.KnownBytes.{append_known}
 use Rattle.http_wire.specs.Stream.{Stream, End, between, closed, spent, rest, bad, fresh, most_requests, Follows, Ends, Requests}
 use Rattle.http_wire.specs.Reply.{wire, refusal_answer, WrotePart}
 use Rattle.http_wire.specs.declared.HeadKind.{HeadKind}
+use Rattle.queued_changes.specs.Machine.{run_out}
+use Rattle.named_indexes.specs.Changes.{changed}
 use Rattle.search_routes.specs.State.{State}
 use Rattle.search_routes.specs.Chosen.{Event, EndsIn, after, state_after}
-use Rattle.durable_machine.specs.Durable.{CrashHolds, settled_part}
+use Rattle.durable_machine.specs.Durable.{CrashHolds}
 use Rattle.search_server.specs.LinkState.{LinkState}
 use Rattle.search_server.specs.Run.{requests_of, replies, needs, written, Logs, most_over}
 use Rattle.search_server.specs.Statuses.{IsCaused, IsGoing}
@@ -100,8 +102,8 @@ pub record Unrecorded (bytes : List ℕ) (old new : LinkState) (n : ℕ) : Type 
   pub follows : Follows (fresh bytes) (requests_of (front ++ last ∷ [])) stream
   pub told : new.told ≡ append_known old.told (join (replies most_requests old.state front))
   pub crash : CrashHolds new.disk_a.contents new.disk_b.contents
-      (λ t. (t ≡ settled_part (after old.state front))
-      ⊎ (t ≡ settled_part (state_after (after old.state front) last.request false)))
+      (λ t. (t ≡ run_out changed (after old.state front))
+      ⊎ (t ≡ run_out changed (state_after (after old.state front) last.request false)))
 
 -- what was written, where the link tells its bytes, by the status and by whether a batch was put off
 abbrev pub Served : List ℕ → LinkState → LinkState → ℕ → Bool → Status → Type 0
@@ -126,5 +128,5 @@ pub record Serves (old new : LinkState) (end : LinkEnd) : Type 0 where
   pub telling : LinkGoesOnTelling old new
   pub cause : IsCaused old new end.status
   pub crash : IsGoing end.status
-      → CrashHolds new.disk_a.contents new.disk_b.contents (λ t. t ≡ settled_part new.state)
+      → CrashHolds new.disk_a.contents new.disk_b.contents (λ t. t ≡ run_out changed new.state)
   pub waits : end.put_off ≡ true → (end.status ≡ NoMemory) × (new.state.queue ≢ [])

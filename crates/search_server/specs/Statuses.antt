@@ -22,6 +22,20 @@ number_of NoMemory = 11
 abbrev pub IsGoing : Status → Type 0
 IsGoing status = status ≢ DiskFault
 
+-- the program ends so on two disks only where a machine was opened there and no disk failed
+abbrev pub HasOpened : Status → Type 0
+HasOpened Done = Unit {0}
+HasOpened BadWords = ⊥
+HasOpened ReadFault = Unit {0}
+HasOpened WriteFault = Unit {0}
+HasOpened DoorFault = Unit {0}
+HasOpened DiskFault = ⊥
+HasOpened (Damaged disk place found) = ⊥
+HasOpened (CutShort rest) = Unit {0}
+HasOpened (BadHead kind number) = Unit {0}
+HasOpened RequestsSpent = Unit {0}
+HasOpened NoMemory = ⊥
+
 -- the count of faults of one of the two disks rose
 abbrev pub DiskRose : DiskState → DiskState → DiskState → DiskState → Type 0
 DiskRose old_a old_b new_a new_b = Rose old_a.faults new_a.faults ⊎ Rose old_b.faults new_b.faults

@@ -7,9 +7,11 @@ use Rattle.http_wire.specs.Head.{IsBlank}
 use Rattle.http_wire.specs.Stops.{TakesFront}
 use Rattle.http_wire.specs.Reply.{wire, refusal_answer, WrotePart}
 use Rattle.bucket_sort.specs.Opens.{Opens}
+use Rattle.queued_changes.specs.Machine.{run_out}
+use Rattle.named_indexes.specs.Changes.{changed}
 use Rattle.search_routes.specs.Chosen.{Event, state_after}
 use Rattle.search_routes.specs.Openings.{opened_by, most_opened_by}
-use Rattle.durable_machine.specs.Durable.{CrashHolds, settled_part}
+use Rattle.durable_machine.specs.Durable.{CrashHolds}
 use Rattle.search_server.specs.LinkState.{LinkState}
 use Rattle.search_server.specs.Run.{behind_event, event_need, reply_to}
 use Rattle.search_server.specs.Statuses.{DiskRose}
@@ -56,7 +58,7 @@ pub record NotRecorded (old new : LinkState) : Type 0 where
   pub taken : Taken old new event
   pub told : new.told ≡ old.told
   pub crash : CrashHolds new.disk_a.contents new.disk_b.contents
-      (λ t. (t ≡ settled_part old.state) ⊎ (t ≡ settled_part (state_after old.state event.request false)))
+      (λ t. (t ≡ run_out changed old.state) ⊎ (t ≡ run_out changed (state_after old.state event.request false)))
 
 -- no request was taken
 pub record NoneTaken (old new : LinkState) : Type 0 where

@@ -43,3 +43,10 @@ command_in words = None
 
 abbrev pub command_of : List (String Global) → Option Command
 command_of words = command_in (map string_bytes words)
+
+-- a machine of the two disks is asked for
+abbrev pub UsesDisks : Option Command → Type 0
+UsesDisks None = ⊥
+UsesDisks (Some Pipe) = Unit {0}
+UsesDisks (Some (Serve port connections)) = Unit {0}
+UsesDisks (Some (Demo count seed)) = ⊥

@@ -12,7 +12,8 @@
 //! how the machine was opened, or why it was not (`specs/Opening.antt`); the clause `demo`, that what is printed are
 //! the totals and ids that a machine answers to the demo's requests, where all tasks run behind each reply
 //! (`specs/Demo.antt`). A log is told, request by request, each bucket that a search opens (`Logs` in
-//! `specs/Run.antt`). What a link or a disk tells it goes on telling (`specs/Telling.antt`). Contracts see `LinkEnd`,
+//! `specs/Run.antt`). What a link or a disk tells it goes on telling (`specs/Telling.antt`). Disks of version 1 hold an
+//! image of version 2 before a link is served from them (`migrated` of `run_search_server`). Contracts see `LinkEnd`,
 //! `Status` and `Command` as they are. Stands on `durable_machine` for the machine on its disks, `change_journal` for
 //! why it was not opened, `search_routes` for the machine of the demo, `queued_changes` and `named_indexes` for what
 //! becomes of tasks, `bucket_sort` and `index_core` for logs and what they are told, `http_wire` for the bytes,

@@ -5,6 +5,7 @@ ghost use Rattle.durable_machine.specs.Durable.{IsDurable};
 ghost use Rattle.bucket_sort.specs.Opens.{log_state};
 ghost use Rattle.search_server.specs.LinkState.{link_state, shared_state};
 ghost use Rattle.search_server.specs.Links.{ServesDoor, door_state};
+ghost use Rattle.search_server.specs.Statuses.{IsGoing};
 
 use crate::line::write_line;
 use crate::{Status, serve_link};
@@ -20,7 +21,8 @@ use std::alloc::Global;
 /// Each link is served to its end, as `serve_link` says, from the machine and the disks that the one before left, and
 /// then given back. `Done`: so many were served, or no more came. `DoorFault`: the door gave none, and its count of
 /// faults rose. `WriteFault`: the pipe took a part of the last line. `DiskFault`: a disk failed while the last link was
-/// served, and no line tells of that link. How a link ended otherwise ends no other.
+/// served, and no line tells of that link. How a link ended otherwise ends no other. Where no disk failed, the machine
+/// and the disks are fit to go on (`durable`).
 pub fn serve_links<P: Link, D: Door, K: Disk, F, G>(
     alloc: Global,
     machine: &mut DurableMachine,
@@ -44,6 +46,7 @@ pub fn serve_links<P: Link, D: Door, K: Disk, F, G>(
         (shared_state K.contents K.disk_faults machine.new.machine fetches.new
         (log_state ((BucketLog-box log.new).told log.new.value) openings.new) disk_a.new disk_b.new))
         result }
+    ensures durable { IsGoing result → IsDurable machine.new (K.contents disk_a.new) (K.contents disk_b.new) }
     ensures none_out { D.is_out door.new ≡ false }
     ensures left { P.left pipe.new ≡ P.left pipe.old }
     ensures read_faults { P.read_faults pipe.new ≡ P.read_faults pipe.old }

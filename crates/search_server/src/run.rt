@@ -1,15 +1,18 @@
 // What the program does for the words of the command line.
 ghost use Rattle.std.specs.Prelude.{◌≡◌, ◌↔◌, ◌≤◌, ℕ, Bool, Some, None, false, IfErr, IfOk};
+ghost use Rattle.change_journal.specs.Fits.{BothTold};
+ghost use Rattle.change_journal.specs.Format.{stored};
 ghost use Rattle.change_journal.specs.Shut.{is_told};
-ghost use Rattle.durable_machine.specs.Durable.{IsDurable};
+ghost use Rattle.durable_machine.specs.Durable.{IsDurable, IsMigrated};
 ghost use Rattle.bucket_sort.specs.Opens.{log_state};
 ghost use Rattle.search_server.specs.LinkState.{link_state, shared_state};
 ghost use Rattle.search_server.specs.Served.{Serves};
 ghost use Rattle.search_server.specs.Links.{ServesDoor, door_state};
 ghost use Rattle.search_server.specs.Demo.{ShowsDemo};
 ghost use Rattle.search_server.specs.Opening.{Heard, NotOpened, Opened, OpensAndServes, unopened_state};
+ghost use Rattle.search_server.specs.Statuses.{HasOpened};
 ghost use Rattle.search_server.specs.Telling.{GoesOnTelling};
-ghost use Rattle.search_server.specs.Words.{command_of};
+ghost use Rattle.search_server.specs.Words.{UsesDisks, command_of};
 
 use crate::demo::show_demo;
 use crate::links::serve_links;
@@ -61,11 +64,13 @@ fn open_machine<K: Disk, F>(
 /// `pipe` opens the machine that the two disks hold and serves the link from it, as `serve_link` says. `serve PORT
 /// CONNECTIONS` opens the machine and then the door, and serves so many of its links, as `serve_links` says. Where no
 /// machine is opened, nothing else is done: `DiskFault`, a disk's count of faults rose; `Damaged`, the first byte that
-/// is damaged; or `NoMemory`; and whatever a crash may leave still holds what the disks held. `demo COUNT SEED` prints
-/// what a machine that holds nothing answers to the demo, as `show_demo` says. `BadWords` comes exactly for all other
-/// words, and then nothing is touched; `pipe` leaves the door as it was, and `demo` the door and the disks. `fetches`
-/// counts the stored documents that are read, and `openings` the buckets that searches open. The log is told these, and
-/// is let go at the end.
+/// is damaged; or `NoMemory`; and whatever a crash may leave still holds what the disks held. Where the disks held
+/// nothing, or an image of version 1, opening writes one of version 2, before the link is read or the door is opened:
+/// so with any status but these and `BadWords` the disks hold one of version 2, unless no generation is left for it
+/// (`migrated`). `demo COUNT SEED` prints what a machine that holds nothing answers to the demo, as `show_demo` says.
+/// `BadWords` comes exactly for all other words, and then nothing is touched; `pipe` leaves the door as it was, and
+/// `demo` the door and the disks. `fetches` counts the stored documents that are read, and `openings` the buckets that
+/// searches open. The log is told these, and is let go at the end.
 ///
 /// `ReadFault`, `CutShort`, `BadHead` and `RequestsSpent` come with `pipe` alone, `DoorFault` with `serve` alone,
 /// `DiskFault` and `Damaged` with these two.
@@ -121,6 +126,8 @@ pub fn run_search_server<P: Link, D: Door, K: Disk, F, G>(
           write_faults = P.write_faults pipe.new;
         })
         result }
+    ensures migrated { UsesDisks (command_of words.now) → HasOpened result
+        → BothTold (K.contents disk_a.new) (K.contents disk_b.new) (λ xs ys. IsMigrated (stored xs ys)) }
     ensures none_out { D.is_out door.new ≡ false }
     ensures read_later { P.read_faults pipe.old ≤ P.read_faults pipe.new }
     ensures write_later { P.write_faults pipe.old ≤ P.write_faults pipe.new }

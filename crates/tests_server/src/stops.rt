@@ -9,9 +9,22 @@ use std::alloc::Global;
 use std::process::Abort;
 
 // What two disks hold after the first opening, and after an index `e` was made.
-const FIRST: &str = "0152414e4b49445801000000000000000d0000000000000001000000000000000000000000 00";
+const FIRST: &str =
+    "0152414e4b494458 0100000000000000 1100000000000000 02 0000000000000000 00000000 00000000 00";
 
-const WITH_E: &str = "0152414e4b49445801000000000000000d0000000000000001000000000000000000000000 01
+const WITH_E: &str =
+    "0152414e4b494458 0100000000000000 1100000000000000 02 0000000000000000 00000000 00000000 01
+    0000000000000000 07000000 01 01000000 65 00 00";
+
+// The same with images of version 1, as an older program wrote them; the first also with the last generation.
+const OLDER: &str =
+    "0152414e4b494458 0100000000000000 0d00000000000000 01 0000000000000000 00000000 00";
+
+const OLDER_AT_LAST: &str =
+    "0152414e4b494458 ffffffffffffffff 0d00000000000000 01 0000000000000000 00000000 00";
+
+const OLDER_WITH_E: &str =
+    "0152414e4b494458 0100000000000000 0d00000000000000 01 0000000000000000 00000000 01
     0000000000000000 07000000 01 01000000 65 00 00";
 
 const MAKE_E_AND_F: &str = "POST /indexes HTTP/1.1\r\nContent-Length: 11\r\n\r\n{\"uid\":\"e\"}\
@@ -136,25 +149,43 @@ fn run(
     }
 }
 
-const THREE: &str = "0152414e4b49445801000000000000000d0000000000000003000000000000000000000000 00";
+const THREE: &str =
+    "0152414e4b494458 0100000000000000 0d00000000000000 03 0000000000000000 00000000 00";
 
 const INSIDE: &str =
-    "0152414e4b49445801000000000000000e0000000000000001000000000000000001000000ff01";
+    "0152414e4b494458 0100000000000000 0e00000000000000 01 0000000000000000 01000000 ff 01";
 
 // An index is made again that is there: that task fails.
-const TAKEN: &str = "0152414e4b49445801000000000000000d0000000000000001000000000000000000000000 01
+const TAKEN: &str =
+    "0152414e4b494458 0100000000000000 1100000000000000 02 0000000000000000 00000000 00000000 01
     0000000000000000 07000000 01 01000000 65 00 01 0100000000000000 07000000 01 01000000 65 00 00";
 
 // No request makes an index of this uid.
-const NO_UID: &str = "0152414e4b49445801000000000000000d0000000000000001000000000000000000000000 01
+const NO_UID: &str =
+    "0152414e4b494458 0100000000000000 0d00000000000000 01 0000000000000000 00000000 01
     0000000000000000 07000000 01 01000000 20 00 00";
 
+// An index goes that is not there: that task fails, and an image of version 2 says so.
+const GONE: &str =
+    "0152414e4b494458 0100000000000000 0d00000000000000 01 0000000000000000 00000000 01
+    0000000000000000 06000000 02 01000000 65 00";
+
+const GONE_ANEW: &str =
+    "0152414e4b494458 0200000000000000 1800000000000000 02 0100000000000000 00000000 01000000
+    02 01000000 65 17 00";
+
+const ANEW: &str =
+    "0152414e4b494458 0200000000000000 1100000000000000 02 0000000000000000 00000000 00000000 00";
+
 // The status, disk 0, disk 1, the call from which disk 0 fails, disk 0 and disk 1 then.
-const OPENINGS: [(&str, &str, &str, u64, &str, &str); 12] = [
+const OPENINGS: [(&str, &str, &str, u64, &str, &str); 15] = [
     ("0", "", "", 40, FIRST, ""),
     ("0", "", "00 ff", 40, FIRST, "00 ff"),
     ("0", FIRST, "", 40, FIRST, ""),
     ("0", "", WITH_E, 40, "", WITH_E),
+    ("0", OLDER, "", 40, OLDER, ANEW),
+    ("0", OLDER_AT_LAST, "", 40, OLDER_AT_LAST, ""),
+    ("0", "", GONE, 40, GONE_ANEW, GONE),
     ("0 24 3", THREE, "", 40, THREE, ""),
     ("1 8 1", FIRST, FIRST, 40, FIRST, FIRST),
     ("0 37 255", INSIDE, "", 40, INSIDE, ""),
@@ -260,12 +291,28 @@ fn a_stop_while_a_task_waits_behind_another(rt: HostRuntime) {
     }
 }
 
+// Disk 0 fails from a call on while it gets an image of version 2. Whatever a crash lets through then, the index is
+// there: it stands on disk 1, which an older program wrote, until it stands on disk 0. Opening makes the calls 0 to 2
+// on disk 0, the last of them a sync, and its checkpoint the calls 3 to 12.
+#[test]
+fn a_stop_while_older_disks_are_made_anew(rt: HostRuntime) {
+    let alloc = rt.alloc();
+    for from in 0..14 {
+        let ran = opened(&rt, alloc, "", OLDER_WITH_E, from);
+        let status = if from < 13 { "6" } else { "0" };
+        check_text(&rt, &ran.status, status, "status");
+        check_listed(&rt, alloc, &ran, 0, E);
+        check_listed(&rt, alloc, &ran, 1, E);
+    }
+}
+
 const PATCH_HEAD: &[u8] =
     b"PATCH /indexes/e/settings HTTP/1.1\r\nContent-Length: 9000028\r\n\r\n{\"displayedAttributes\":[\"";
 
 // How a disk begins after the second checkpoint, of no index, where tasks wait.
 const CHECKPOINT: &str =
-    "0152414e4b49445802000000000000000d0000000000000001000000000000000000000000 01 0000000000000000";
+    "0152414e4b494458 0200000000000000 1100000000000000 02 0000000000000000 00000000 00000000 01
+    0000000000000000";
 
 // Adds a request that gives the settings of `e` one displayed attribute of nine million bytes.
 fn add_patch(rt: &impl Abort, alloc: Global, letter: &str, input: &mut Vec<u8>) {

@@ -1,7 +1,8 @@
-use Rattle.std.proofs.Common.{◌∙◌, arith}
+use Rattle.std.proofs.Common.{arith}
 use Rattle.durable_machine.proofs.Sides.{left_before}
 use Rattle.durable_machine.proofs.Crash.{counted_image, image_held, torn_image}
 use Rattle.durable_machine.proofs.Payloads.{as_many}
+use Rattle.durable_machine.proofs.Versions.{image_migrated}
 use Rattle.durable_machine.proofs.recording.checkpoint.Goals as goal
 
 pub returns-in-Ok-clause-durable : goal.returns-in-Ok-clause-durable
@@ -20,6 +21,9 @@ returns-in-Ok-clause-durable g c = λ s spelled are. record {
   holds = image_held (g.K.Disk.contents c.args.disk_a.now) (g.K.Disk.contents c.args.disk_b.now) (g.K.Disk.contents c.checkpoint.new.disk_a) (g.K.Disk.contents c.checkpoint.new.disk_b)
       c.checkpoint.ensures.told_a c.checkpoint.ensures.told_b c.requires.settled_a c.requires.settled_b c.args.image.now c.args.first.now.payloads s
       (c.in-Ok.ensures.now c.requires.few) spelled are;
+  migrated = image_migrated (g.K.Disk.contents c.args.disk_a.now) (g.K.Disk.contents c.args.disk_b.now) (g.K.Disk.contents c.checkpoint.new.disk_a) (g.K.Disk.contents c.checkpoint.new.disk_b)
+      c.checkpoint.ensures.told_a c.checkpoint.ensures.told_b c.requires.settled_a c.requires.settled_b (c.in-Ok.ensures.settled_a c.requires.settled_a) (c.in-Ok.ensures.settled_b c.requires.settled_b)
+      c.args.image.now c.args.first.now.payloads (c.in-Ok.ensures.now c.requires.few) c.requires.version;
 }
 
 pub returns-in-Err-clause-crash : goal.returns-in-Err-clause-crash

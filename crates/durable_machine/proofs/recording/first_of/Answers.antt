@@ -1,6 +1,5 @@
-use Rattle.std.proofs.Common.{◌≡◌, ◌∙◌, ◌+◌, ◌<◌, List, ℕ, ◌∷◌, ◌++◌, [], length, take, get_or, sym, ap, subst, arith}
+use Rattle.std.proofs.Common.{◌∙◌, ◌+◌, ◌<◌, List, ℕ, ◌∷◌, ◌++◌, [], length, take, get_or, sym, ap, subst, arith}
 use Rattle.std.proofs.lemmas.List.{length-take-le}
-use Rattle.named_indexes.specs.Payloads.{Records}
 use Rattle.search_routes.specs.Redo.{task_again}
 use Rattle.durable_machine.specs.Recorded.{AreTasks}
 use Rattle.durable_machine.proofs.Payloads.{as_many, more_tasks, read_at, take_more}

@@ -1,9 +1,8 @@
-use Rattle.std.proofs.Common.{◌∙◌, ap, List, ℕ}
+use Rattle.std.proofs.Common.{◌∙◌, ap}
 use Rattle.std.specs.Option.{option_map}
 use Rattle.outside_io.specs.Disks.{settled}
 use Rattle.change_journal.specs.Format.{stored}
 use Rattle.change_journal.specs.Opens.{Stands}
-use Rattle.change_journal.specs.Shut.{is_told}
 use Rattle.durable_machine.proofs.Syncs.{still_fits, now_settled, both_now, both_any}
 use Rattle.durable_machine.proofs.recording.read_and_sync.Goals as goal
 

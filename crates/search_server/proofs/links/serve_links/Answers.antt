@@ -139,3 +139,18 @@ returns-clause-promise g c =
     (record { shared = refl; coming = refl; returned = refl; told = refl })
     (omega (arith, c.loop-served-test.false, c.loop-served.auto.served-end))
     (inl (omega (arith, c.loop-served-test.false, c.loop-served.auto.served-end)))
+
+pub returns-in-Err-clause-durable : goal.returns-in-Err-clause-durable
+returns-in-Err-clause-durable g c = λ going. c.loop-served.invariant.durable
+
+pub returns-in-Ok-None-clause-durable : goal.returns-in-Ok-None-clause-durable
+returns-in-Ok-None-clause-durable g c = λ going. c.loop-served.invariant.durable
+
+pub returns-in-DiskFault-clause-durable : goal.returns-in-DiskFault-clause-durable
+returns-in-DiskFault-clause-durable g c = λ going. absurd (going refl)
+
+pub returns-in-Err-write_line-clause-durable : goal.returns-in-Err-write_line-clause-durable
+returns-in-Err-write_line-clause-durable g c = λ going. c.serve_link-end.ensures.durable c.in_default.not-DiskFault
+
+pub returns-clause-durable : goal.returns-clause-durable
+returns-clause-durable g c = λ going. c.loop-served.invariant.durable

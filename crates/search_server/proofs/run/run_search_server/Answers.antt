@@ -6,9 +6,12 @@ use Rattle.search_server.specs.Links.{ServesDoor, door_state}
 use Rattle.search_server.specs.Demo.{PipeState, ShowsDemo, demo_text}
 use Rattle.search_server.specs.Telling.{GoesOnTelling}
 use Rattle.search_server.specs.Opening.{Unopened, IsUnopened, NotOpened}
+use Rattle.search_server.specs.Statuses.{HasOpened, IsGoing}
+use Rattle.search_server.specs.Words.{UsesDisks, command_of}
 use Rattle.search_server.specs.declared.status.Status.{Status}
+use Rattle.search_server.specs.declared.status.Status.TheVariants as ended
 use Rattle.search_server.specs.declared.status.Status.TheVariants.{BadWords}
-use Rattle.search_server.specs.declared.words.Command.TheVariants.{Serve}
+use Rattle.search_server.specs.declared.words.Command.TheVariants.{Demo, Serve}
 use Rattle.search_server.proofs.Visits.{shut, from_before}
 use Rattle.search_server.proofs.Telling.{door_tells, demo_tells}
 use Rattle.search_server.proofs.run.run_search_server.Goals as goal
@@ -16,6 +19,26 @@ use Rattle.search_server.proofs.run.run_search_server.Goals as goal
 -- opening no machine never blames the words
 not_bad : (old new : Unopened) (status : Status) → NotOpened old new status → status ≡ BadWords → ⊥
 not_bad old new status not bad = subst (IsUnopened old new) bad not.why
+
+-- opening no machine ends so only where none was opened
+so_ended : (old new : Unopened) (status : Status) → IsUnopened old new status → HasOpened status → ⊥
+so_ended old new ended.DiskFault why opened = opened
+so_ended old new (ended.Damaged disk place found) why opened = opened
+so_ended old new ended.NoMemory why opened = opened
+so_ended old new ended.Done why opened = why
+so_ended old new ended.BadWords why opened = why
+so_ended old new ended.ReadFault why opened = why
+so_ended old new ended.WriteFault why opened = why
+so_ended old new ended.DoorFault why opened = why
+so_ended old new (ended.CutShort rest) why opened = why
+so_ended old new (ended.BadHead kind number) why opened = why
+so_ended old new ended.RequestsSpent why opened = why
+
+none_opened : (old new : Unopened) (status : Status) → NotOpened old new status → HasOpened status → ⊥
+none_opened old new status not opened = so_ended old new status not.why opened
+
+going_on : (status : Status) → HasOpened status → IsGoing status
+going_on status opened = λ failed. subst HasOpened failed opened
 
 -- the demo goes on telling what was written
 shown_tells : (count seed : ℕ) (old new : PipeState) (status : Status) → ShowsDemo count seed old new status → GoesOnTelling old.told new.told
@@ -122,3 +145,28 @@ returns-clause-left_telling g c = ap is_some c.show_demo.ensures.left
 
 pub returns-clause-told_telling : goal.returns-clause-told_telling
 returns-clause-told_telling g c = shown_tells _ _ _ _ _ c.show_demo.ensures.promise
+
+pub returns-in-Err-clause-migrated : goal.returns-in-Err-clause-migrated
+returns-in-Err-clause-migrated g c = λ uses opened.
+    absurd (none_opened _ _ c.in-Err.status (c.in-Err.ensures.not_opened c.args.openings.now) opened)
+
+pub returns-in-Some-Pipe-clause-migrated : goal.returns-in-Some-Pipe-clause-migrated
+returns-in-Some-Pipe-clause-migrated g c = λ uses opened.
+    (c.serve_link.ensures.durable (going_on c.serve_link.result.status opened)).migrated
+
+pub returns-in-Err-open_machine-clause-migrated : goal.returns-in-Err-open_machine-clause-migrated
+returns-in-Err-open_machine-clause-migrated g c = λ uses opened.
+    absurd (none_opened _ _ c.in-Err-open_machine.status (c.in-Err-open_machine.ensures.not_opened c.args.openings.now) opened)
+
+pub returns-in-Err-open-clause-migrated : goal.returns-in-Err-open-clause-migrated
+returns-in-Err-open-clause-migrated g c = λ uses opened. c.in-Ok-open_machine.ensures.durable.migrated
+
+pub returns-in-Some-Serve-clause-migrated : goal.returns-in-Some-Serve-clause-migrated
+returns-in-Some-Serve-clause-migrated g c = λ uses opened.
+    (c.serve_links.ensures.durable (going_on c.serve_links.result opened)).migrated
+
+pub returns-clause-migrated : goal.returns-clause-migrated
+returns-clause-migrated g c = λ uses opened.
+    let asked : command_of c.args.words.now ≡ Some (Demo c.in-Some-Demo.count c.in-Some-Demo.seed) =
+    sym c.command_of.ensures ∙ c.in-Some-Demo.is ∙ ap (λ command. Some command) c.in-Some-Demo.field-0-is in
+    absurd (subst UsesDisks asked uses)

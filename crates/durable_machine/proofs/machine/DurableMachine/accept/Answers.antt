@@ -1,4 +1,4 @@
-use Rattle.std.proofs.Common.{◌≡◌, ◌∙◌, Ok, sym, ap, arith}
+use Rattle.std.proofs.Common.{◌∙◌, Ok, sym, ap, arith}
 use Rattle.queued_changes.specs.Machine.{behind, run_out}
 use Rattle.named_indexes.specs.Changes.{changed}
 use Rattle.durable_machine.proofs.Answering.{on_err}

@@ -1,4 +1,4 @@
-use Rattle.std.proofs.Common.{◌∙◌, refl, true, false, Ok, sym, ap, subst, arith}
+use Rattle.std.proofs.Common.{◌∙◌, refl, true, false, sym, ap, subst, arith}
 use Rattle.doc_values.specs.Changes.{change_view}
 use Rattle.http_wire.specs.Reply.{memory_answer}
 use Rattle.http_wire.specs.Sent.{IsSentAs}
@@ -6,8 +6,8 @@ use Rattle.queued_changes.specs.Machine.{run_out}
 use Rattle.named_indexes.specs.Changes.{changed}
 use Rattle.search_routes.specs.Chosen.{answer_of}
 use Rattle.search_routes.specs.Redo.{redone}
-use Rattle.durable_machine.specs.Durable.{IsDurable, settled_part}
-use Rattle.durable_machine.proofs.Answering.{leaves_replied, room_part, room_run, taken_answer, taken_need, taken_waits}
+use Rattle.durable_machine.specs.Durable.{IsDurable}
+use Rattle.durable_machine.proofs.Answering.{leaves_replied, room_run, taken_answer, taken_need, taken_waits}
 use Rattle.durable_machine.proofs.Crash.{crash_either, run_durable}
 use Rattle.durable_machine.proofs.machine.DurableMachine.write.Goals as goal
 
@@ -35,7 +35,7 @@ returns-in-Ok-make_room-clause-crash g c = λ q is.
     let s = c.args.self.now.machine in
     let room = c.in-Ok-make_room.ensures.room in
     let waits = taken_waits s q (change_view c.args.change) c.in-Ok.ready.prepared is c.in-Ok.ensures.prepared c.make_room.new.self room in
-    crash_either c.accept.result (g.K.Disk.contents c.accept.new.disk_a) (g.K.Disk.contents c.accept.new.disk_b) _ _ _ _ (room_part s c.make_room.new.self room) (ap settled_part (sym waits)) c.accept.ensures.crash
+    crash_either c.accept.result (g.K.Disk.contents c.accept.new.disk_a) (g.K.Disk.contents c.accept.new.disk_b) _ _ _ _ (room_run s c.make_room.new.self room) (ap (run_out changed) (sym waits)) c.accept.ensures.crash
 
 pub returns-in-Ok-make_room-clause-only_due : goal.returns-in-Ok-make_room-clause-only_due
 returns-in-Ok-make_room-clause-only_due g c = λ changes.
