@@ -89,7 +89,7 @@ def held(folder):
     if found is None:
         return 0
     _, disk, length = found
-    count, _ = read_disk.image(read_disk.Fields(disk, disks[disk], 24, 24 + length))
+    count, *_ = read_disk.image(read_disk.Fields(disk, disks[disk], 24, 24 + length))
     return count + len(list(read_disk.journal(disk, disks[disk], 24 + length, count)))
 
 

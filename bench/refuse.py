@@ -1,12 +1,13 @@
 #!/usr/bin/env python3
 """Refuses one allocation of `rank_server` after the other, and compares what it answers with an undisturbed run.
 
-    bench/refuse.py [BIN] [--stride N] [--row N] [--only sessions|checkpoint|put_off|growth]
+    bench/refuse.py [BIN] [--stride N] [--row N] [--only sessions|checkpoint|migration|put_off|growth]
 
 A small library, which is compiled here and loaded before the C library, counts the program's allocations and refuses
 number N (with --row, that many from N on). Sessions of `pipe` are served once for each N, or for each that the stride
 meets: one of requests of every kind from an empty folder, one from the files that it left, one in which a checkpoint
-comes due, with N from just before it on, and one of batches. Each time
+comes due, with N from just before it on, one from the files of an older program (bench/older), which are written anew
+before the first request is read, and one of batches. Each time
 
 - the program ends by itself, with status 0, or with 11 where it could not start, could not read a request, or could not
   run the batch behind a reply,
@@ -38,6 +39,7 @@ import time
 
 import demo
 import load
+import older
 import serve
 from kill import read_disk, replies
 
@@ -352,6 +354,15 @@ def checkpoint(program, stride, row):
     return Session(program, session).refuse_each(f"a checkpoint, from number {begin} on", stride, row, begin)
 
 
+def migration(program, stride, row):
+    wrong = 0
+    for folder in sorted(it for it in older.OLDER.iterdir() if it.is_dir()):
+        files = tuple((it.name, it.read_bytes()) for it in sorted(folder.iterdir()))
+        requests = [READ, ask(b"GET", b"/indexes"), *map(task, range(12))]
+        wrong += Session(program, requests, files).refuse_each(f"from older files, {folder.name}", stride, row)
+    return wrong
+
+
 # The line of a connection of `serve`: its status, and whether a batch was put off.
 LINE = re.compile(r"link \d+ status (\d+) requests \d+( put off)?\n")
 LINKS = 3
@@ -545,7 +556,7 @@ def main():
     parser.add_argument("binary", nargs="?", default=load.BINARY)
     parser.add_argument("--stride", type=int, default=1)
     parser.add_argument("--row", type=int, default=1)
-    parser.add_argument("--only", choices=("sessions", "checkpoint", "put_off", "growth"))
+    parser.add_argument("--only", choices=("sessions", "checkpoint", "migration", "put_off", "growth"))
     asked = parser.parse_args()
     wrong = 0
     with tempfile.TemporaryDirectory(prefix="refuse-") as room:
@@ -554,6 +565,8 @@ def main():
             wrong += sessions(program, asked.stride, asked.row)
         if asked.only in (None, "checkpoint"):
             wrong += checkpoint(program, asked.stride, asked.row)
+        if asked.only in (None, "migration"):
+            wrong += migration(program, asked.stride, asked.row)
         if asked.only in (None, "put_off"):
             wrong += put_off(program, asked.stride, asked.row)
         if asked.only in (None, "growth"):

@@ -4,9 +4,10 @@
     examples/read_disk.py [FOLDER] [--documents]
 
 Written from docs/FORMAT.md, and from docs/API.md for the changes that are accepted. It prints the file that counts,
-its image index by index, and each task that the journal behind it records, with what became of it; with --documents
-also the documents that are held after all of these, a line of JSON each. Where rank_server would end with status 7 it
-names the file, the place, the byte there and the field that begins with it, and ends with 1.
+its image index by index, how the last tasks before the image ended, where it is of version 2, and each task that the
+journal behind it records, with what became of it; with --documents also the documents that are held after all of
+these, a line of JSON each. Where rank_server would end with status 7 it names the file, the place, the byte there and
+the field that begins with it, and ends with 1.
 """
 import json
 import pathlib
@@ -16,7 +17,8 @@ import sys
 FILES = ("search-a.dat", "search-b.dat")
 KINDS = {1: "create", 2: "drop", 3: "replace", 4: "update", 5: "remove", 6: "clear", 7: "patch", 8: "reset"}
 HEADER = 24
-MOST_CHANGES, MOST_INDEXES, MOST_IDS, MOST_PATHS = 1_000_000_000, 1000, 1_000_000, 1000
+MOST_CHANGES, MOST_INDEXES, MOST_IDS, MOST_PATHS, MOST_OUTCOMES = 1_000_000_000, 1000, 1_000_000, 1000, 1000
+ROWS = (0, 23, 24, 26, 27, 28, 29, 30, 32, 33, 34)
 DEEPEST = 127
 UID, ID = re.compile(r"[A-Za-z0-9_-]{1,400}"), re.compile(r"[A-Za-z0-9_-]{1,511}")
 RULES = ("words", "typo", "proximity", "attribute", "sort", "exactness")
@@ -239,16 +241,26 @@ def read_index(fields):
     return index
 
 
+def read_outcome(fields):
+    """The kind and the uid of a task, and the number of what it failed by, or 0."""
+    kind = KINDS[fields.number(1, "the kind of an outcome", KINDS.get)]
+    uid = fields.text("the uid of an outcome", UID.fullmatch)
+    return kind, uid, fields.number(1, "what became of a task", lambda row: row in ROWS)
+
+
 def image(fields):
-    """The count of finished tasks, and the indexes by their uids."""
-    fields.number(1, "the version of the image", lambda n: n == 1)
+    """The count of finished tasks, the indexes by their uids, and the outcomes that version 2 has."""
+    version = fields.number(1, "the version of the image", lambda n: n in (1, 2))
     changes = fields.number(8, "the count of tasks", lambda n: n <= MOST_CHANGES)
     indexes, last = {}, ""
     for _ in range(fields.number(4, "the number of indexes", lambda n: n <= MOST_INDEXES)):
         last = fields.text("the uid of an index", lambda uid, least=last: UID.fullmatch(uid) and least < uid)
         indexes[last] = read_index(fields)
+    most = min(changes, MOST_OUTCOMES)
+    count = fields.number(4, "the number of outcomes", lambda n: n <= most) if version == 2 else 0
+    outcomes = [read_outcome(fields) for _ in range(count)]
     fields.ends("the end of the image")
-    return changes, indexes
+    return changes, indexes, outcomes
 
 
 # ---- The journal
@@ -360,12 +372,15 @@ def held(contents, tell=lambda line: None):
         return {}
     generation, disk, length = found
     content = contents[disk]
-    changes, indexes = image(Fields(disk, content, HEADER, HEADER + length))
+    changes, indexes, outcomes = image(Fields(disk, content, HEADER, HEADER + length))
     payloads = list(journal(disk, content, HEADER + length, changes))
     tell(f"{FILES[disk]} counts, generation {generation}: an image of {length} bytes after {changes} tasks")
     for uid, index in indexes.items():
         tell(f"index {uid}: key {index.key}, {len(index.documents)} documents, next id {index.next_id}, "
              f"{len(index.paths)} paths")
+    if outcomes:
+        failed = sum(row != 0 for _, _, row in outcomes)
+        tell(f"tasks {changes - len(outcomes)} to {changes - 1}: {len(outcomes) - failed} succeeded, {failed} failed")
     for number, (start, end) in enumerate(payloads, changes):
         asked = change(Fields(disk, content, start, end))
         try:
