@@ -325,11 +325,6 @@ unfolding version_at
 version_again version rest (inl one) = rw one refl
 version_again version rest (inr two) = rw two refl
 
-version_within : (bytes : List ℕ) → Within (length bytes) (version_at bytes)
-unfolding version_at
-version_within [] = omega arith
-version_within (byte ∷ bytes) = within_either (length (byte ∷ bytes)) (eqb byte 1 || eqb byte 2) (Ok (byte, bytes)) (Err (length (byte ∷ bytes))) (omega arith) (omega arith)
-
 outcomes_within : (version changes : ℕ) (bytes : List ℕ) → Within (length bytes) (outcomes_at version changes bytes)
 unfolding outcomes_at
 outcomes_within version changes bytes =
