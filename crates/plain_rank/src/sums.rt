@@ -33,10 +33,18 @@ fn link_cost(rule: Rule, places: &[Place], left: &Block, right: &Block) -> u32
     }
 }
 
+// The blocks of a level of so many items, beside the places of a document under a rule.
+#[derive(Clone, Copy, Drop)]
+struct Level<'a> {
+    rule: Rule,
+    places: &'a [Place],
+    items: u8,
+    blocks: &'a [PlacedBlock],
+}
+
 // What a block that begins at a place contributes there, after another block.
 fn onward(
-    rule: Rule,
-    places: &[Place],
+    level: Level<'_>,
     block: &Block,
     at: u8,
     placed: &PlacedBlock,
@@ -47,152 +55,115 @@ fn onward(
     requires small { IfSome sum (λ n. n ≤ 7300000) }
     ensures { result
         ≡ (if placed.now.from == at
-        then option_map (λ n. link_cost rule places.now block.now placed.now.block + n) sum
+        then option_map (λ n. link_cost level.entry.rule level.entry.places.now block.now placed.now.block + n) sum
         else None) }
 {
     if placed.from != at {
         return None;
     }
     match sum {
-        Some(sum) => Some(link_cost(rule, places, block, &placed.block) + sum),
+        Some(sum) => Some(link_cost(level.rule, level.places, block, &placed.block) + sum),
         None => None,
     }
 }
 
 // The least sum of what comes after a block.
-fn least_after(
-    rule: Rule,
-    places: &[Place],
-    items: u8,
-    blocks: &[PlacedBlock],
-    block: &Block,
-    at: u8,
-    sums: &[Option<u32>],
-) -> Option<u32>
-    requires few { items ≤ 10 }
-    requires placed { AllByRecursion (IsPlaced items) blocks.now }
-    requires cheap { AllByRecursion (IsCheap rule places.now) blocks.now }
+fn least_after(level: Level<'_>, block: &Block, at: u8, sums: &[Option<u32>]) -> Option<u32>
+    requires few { level.items ≤ 10 }
+    requires placed { AllByRecursion (IsPlaced level.items) level.blocks.now }
+    requires cheap { AllByRecursion (IsCheap level.rule level.places.now) level.blocks.now }
     requires some { 0 < length block.now.term.words }
-    requires before_end { at < items }
-    requires known { (k : ℕ) × (k ≤ at) × (sums.now ≡ table rule places.now items blocks.now k) }
+    requires before_end { at < level.items }
+    requires known { (k : ℕ) × (k ≤ at)
+        × (sums.now ≡ table level.rule level.places.now level.items level.blocks.now k) }
     ensures { result
-        ≡ least_sum rule places.now items blocks.now (link_cost rule places.now block.now) (items - at) at }
+        ≡ least_sum level.entry.rule level.entry.places.now level.entry.items level.entry.blocks.now
+        (link_cost level.entry.rule level.entry.places.now block.now) (level.entry.items - at) at }
 {
     let mut least = None;
+    let blocks = level.blocks;
     for i in 0..blocks.len() {
-        let sum = onward(rule, places, block, at, &blocks[i], sums[i]);
+        let sum = onward(level, block, at, &blocks[i], sums[i]);
         least = lesser_sum(least, sum);
     }
     least
 }
 
 // The least sum of what comes after a block of the level.
-fn rest_of(
-    rule: Rule,
-    places: &[Place],
-    items: u8,
-    blocks: &[PlacedBlock],
-    placed: &PlacedBlock,
-    sums: &[Option<u32>],
-) -> Option<u32>
-    requires few { items ≤ 10 }
-    requires placed { AllByRecursion (IsPlaced items) blocks.now }
-    requires cheap { AllByRecursion (IsCheap rule places.now) blocks.now }
-    requires one { IsPlaced items placed.now }
-    requires known { (k : ℕ) × (k ≤ placed.now.to) × (sums.now ≡ table rule places.now items blocks.now k) }
+fn rest_of(level: Level<'_>, placed: &PlacedBlock, sums: &[Option<u32>]) -> Option<u32>
+    requires few { level.items ≤ 10 }
+    requires placed { AllByRecursion (IsPlaced level.items) level.blocks.now }
+    requires cheap { AllByRecursion (IsCheap level.rule level.places.now) level.blocks.now }
+    requires one { IsPlaced level.items placed.now }
+    requires known { (k : ℕ) × (k ≤ placed.now.to)
+        × (sums.now ≡ table level.rule level.places.now level.items level.blocks.now k) }
     ensures value { result
-        ≡ least_sum rule places.now items blocks.now (link_cost rule places.now placed.now.block)
-        (items - placed.now.to) placed.now.to }
+        ≡ least_sum level.entry.rule level.entry.places.now level.entry.items level.entry.blocks.now
+        (link_cost level.entry.rule level.entry.places.now placed.now.block)
+        (level.entry.items - placed.now.to) placed.now.to }
     ensures small { IfSome result (λ n. n ≤ 6600000) }
 {
-    if placed.to == items {
+    if placed.to == level.items {
         Some(0)
     } else {
-        least_after(rule, places, items, blocks, &placed.block, placed.to, sums)
+        least_after(level, &placed.block, placed.to, sums)
     }
 }
 
 // The least sum of a block of this cost and of what comes after it.
 fn sum_from(
-    rule: Rule,
-    places: &[Place],
-    items: u8,
-    blocks: &[PlacedBlock],
+    level: Level<'_>,
     placed: &PlacedBlock,
     cost: Option<u32>,
     sums: &[Option<u32>],
 ) -> Option<u32>
-    requires few { items ≤ 10 }
-    requires placed { AllByRecursion (IsPlaced items) blocks.now }
-    requires cheap { AllByRecursion (IsCheap rule places.now) blocks.now }
-    requires one { IsPlaced items placed.now }
-    requires one_cheap { IsCheap rule places.now placed.now }
-    requires cost { cost ≡ cost_if rule places.now placed.now.block }
-    requires known { (k : ℕ) × (k ≤ placed.now.to) × (sums.now ≡ table rule places.now items blocks.now k) }
-    ensures { result ≡ sum_from rule places.now items blocks.now (items - placed.now.to) placed.now }
+    requires few { level.items ≤ 10 }
+    requires placed { AllByRecursion (IsPlaced level.items) level.blocks.now }
+    requires cheap { AllByRecursion (IsCheap level.rule level.places.now) level.blocks.now }
+    requires one { IsPlaced level.items placed.now }
+    requires one_cheap { IsCheap level.rule level.places.now placed.now }
+    requires cost { cost ≡ cost_if level.rule level.places.now placed.now.block }
+    requires known { (k : ℕ) × (k ≤ placed.now.to)
+        × (sums.now ≡ table level.rule level.places.now level.items level.blocks.now k) }
+    ensures { result
+        ≡ sum_from level.entry.rule level.entry.places.now level.entry.items level.entry.blocks.now
+        (level.entry.items - placed.now.to) placed.now }
 {
     let Some(cost) = cost else {
         return None;
     };
-    match rest_of(rule, places, items, blocks, placed, sums) {
+    match rest_of(level, placed, sums) {
         Some(rest) => Some(cost + rest),
         None => None,
-    }
-}
-
-// The sum of a block in the next table.
-fn next_sum(
-    rule: Rule,
-    places: &[Place],
-    items: u8,
-    blocks: &[PlacedBlock],
-    at: u8,
-    placed: &PlacedBlock,
-    cost: Option<u32>,
-    sums: &[Option<u32>],
-    old: Option<u32>,
-) -> Option<u32>
-    requires few { items ≤ 10 }
-    requires placed { AllByRecursion (IsPlaced items) blocks.now }
-    requires cheap { AllByRecursion (IsCheap rule places.now) blocks.now }
-    requires one { IsPlaced items placed.now }
-    requires one_cheap { IsCheap rule places.now placed.now }
-    requires cost { cost ≡ cost_if rule places.now placed.now.block }
-    requires known { sums.now ≡ table rule places.now items blocks.now (at + 1) }
-    requires old { old ≡ known_sum rule places.now items blocks.now (at + 1) placed.now }
-    ensures { result ≡ known_sum rule places.now items blocks.now at placed.now }
-{
-    if placed.from == at {
-        sum_from(rule, places, items, blocks, placed, cost, sums)
-    } else {
-        old
     }
 }
 
 // The sums of the blocks that begin at a place or later, from those that begin later.
 fn earlier(
     alloc: Global,
-    rule: Rule,
-    places: &[Place],
-    items: u8,
-    blocks: &[PlacedBlock],
+    level: Level<'_>,
     at: u8,
     costs: &[Option<u32>],
     sums: &[Option<u32>],
 ) -> Result<Vec<Option<u32>>, NoMemory>
-    requires few { items ≤ 10 }
-    requires placed { AllByRecursion (IsPlaced items) blocks.now }
-    requires cheap { AllByRecursion (IsCheap rule places.now) blocks.now }
-    requires before_end { at < items }
-    requires costs { costs.now ≡ map (λ placed. cost_if rule places.now placed.block) blocks.now }
-    requires known { sums.now ≡ table rule places.now items blocks.now (at + 1) }
-    ensures { IfOk result (λ next. next.items ≡ table rule places.now items blocks.now at) }
+    requires few { level.items ≤ 10 }
+    requires placed { AllByRecursion (IsPlaced level.items) level.blocks.now }
+    requires cheap { AllByRecursion (IsCheap level.rule level.places.now) level.blocks.now }
+    requires before_end { at < level.items }
+    requires costs { costs.now ≡ map (λ placed. cost_if level.rule level.places.now placed.block) level.blocks.now }
+    requires known { sums.now ≡ table level.rule level.places.now level.items level.blocks.now (at + 1) }
+    ensures { IfOk result (λ next. next.items
+        ≡ table level.entry.rule level.entry.places.now level.entry.items level.entry.blocks.now at) }
 {
+    let blocks = level.blocks;
     let mut next = Vec::new(alloc);
     for i in 0..blocks.len() {
-        let sum = next_sum(
-            rule, places, items, blocks, at, &blocks[i], costs[i], sums, sums[i],
-        );
+        let placed = &blocks[i];
+        let sum = if placed.from == at {
+            sum_from(level, placed, costs[i], sums)
+        } else {
+            sums[i]
+        };
         next.push(sum)?;
     }
     Ok(next)
@@ -205,22 +176,18 @@ fn nothing_known(alloc: Global, blocks: &[PlacedBlock]) -> Result<Vec<Option<u32
 }
 
 // The costs of the blocks, each if the block occurs.
-fn costs_of(
-    alloc: Global,
-    rule: Rule,
-    places: &[Place],
-    items: u8,
-    blocks: &[PlacedBlock],
-) -> Result<Vec<Option<u32>>, NoMemory>
-    requires few { items ≤ 10 }
-    requires placed { AllByRecursion (IsPlaced items) blocks.now }
+fn costs_of(alloc: Global, level: Level<'_>) -> Result<Vec<Option<u32>>, NoMemory>
+    requires few { level.items ≤ 10 }
+    requires placed { AllByRecursion (IsPlaced level.items) level.blocks.now }
     ensures costs { IfOk result (λ costs.
-        costs.items ≡ map (λ placed. cost_if rule places.now placed.block) blocks.now) }
-    ensures cheap { IfOk result (λ _. AllByRecursion (IsCheap rule places.now) blocks.now) }
+        costs.items ≡ map (λ placed. cost_if level.entry.rule level.entry.places.now placed.block)
+        level.entry.blocks.now) }
+    ensures cheap { IfOk result (λ _.
+        AllByRecursion (IsCheap level.entry.rule level.entry.places.now) level.entry.blocks.now) }
 {
     let mut costs = Vec::new(alloc);
-    for placed in blocks {
-        costs.push(cost_if(rule, places, &placed.block))?;
+    for placed in level.blocks {
+        costs.push(cost_if(level.rule, level.places, &placed.block))?;
     }
     Ok(costs)
 }
@@ -244,26 +211,22 @@ fn at_start(placed: &PlacedBlock, sum: Option<u32>) -> Option<u32>
 }
 
 // The least sum over the readings of some blocks that match.
-fn least_sum(
-    alloc: Global,
-    rule: Rule,
-    places: &[Place],
-    items: u8,
-    blocks: &[PlacedBlock],
-) -> Result<Option<u32>, NoMemory>
-    requires some { 0 < items }
-    requires few { items ≤ 10 }
-    requires placed { AllByRecursion (IsPlaced items) blocks.now }
-    ensures { IfOk result (λ sum. sum ≡ least_sum rule places.now items blocks.now (λ _. 0) items 0) }
+fn least_sum(alloc: Global, level: Level<'_>) -> Result<Option<u32>, NoMemory>
+    requires some { 0 < level.items }
+    requires few { level.items ≤ 10 }
+    requires placed { AllByRecursion (IsPlaced level.items) level.blocks.now }
+    ensures { IfOk result (λ sum. sum
+        ≡ least_sum level.entry.rule level.entry.places.now level.entry.items level.entry.blocks.now (λ _. 0)
+        level.entry.items 0) }
 {
-    let costs = costs_of(alloc, rule, places, items, blocks)?;
-    let mut sums = nothing_known(alloc, blocks)?;
-    let mut at = items;
+    let costs = costs_of(alloc, level)?;
+    let mut sums = nothing_known(alloc, level.blocks)?;
+    let mut at = level.items;
     while at > 0 {
         at -= 1;
-        sums = earlier(alloc, rule, places, items, blocks, at, &costs, &sums)?;
+        sums = earlier(alloc, level, at, &costs, &sums)?;
     }
-    Ok(least_first(blocks, &sums))
+    Ok(least_first(level.blocks, &sums))
 }
 
 // The least sum over the readings of the level that match the document.
@@ -276,5 +239,11 @@ pub fn least_cost(
     requires { IsLevel level.now }
     ensures { IfOk result (λ sum. sum ≡ least_cost rule places.now level.now) }
 {
-    least_sum(alloc, rule, places, level.items, &level.blocks)
+    let level = Level {
+        rule,
+        places,
+        items: level.items,
+        blocks: &level.blocks,
+    };
+    least_sum(alloc, level)
 }

@@ -1,4 +1,4 @@
-//! Tests of documents: their values, streams, settings, rows, slots, stores, payloads and images.
+//! Tests of documents: their values, streams, settings, rows, slots and stores.
 //!
 //! They use what these crates offer to others, and stand in a crate of their own, so that the crates they try are proved
 //! once and not twice. The crate has nothing but tests, and promises nothing.
@@ -6,12 +6,6 @@
 
 #[cfg(test)]
 mod checks;
-#[cfg(test)]
-mod hex;
-#[cfg(test)]
-mod images;
-#[cfg(test)]
-mod payloads;
 #[cfg(test)]
 mod rows;
 #[cfg(test)]
