@@ -22,7 +22,7 @@ pub(crate) fn walked(alloc: Global, postings: &Postings) -> Result<u64, NoMemory
     let every = Word::new(alloc, "")?;
     let mut count: u64 = 0;
     for (_word, list) in postings.with_prefix(&every) {
-        for entry in list.iter() {
+        for entry in list.pages().iter() {
             count = count.wrapping_add(entry & 1);
         }
     }

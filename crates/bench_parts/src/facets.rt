@@ -73,7 +73,13 @@ fn found_up_to(
 ) -> Result<u64, NoMemory> {
     let mut found = 0;
     for _round in 0..rounds {
-        let docs = shelf.facets().range(alloc, PathId(path), 0, last, all)?;
+        let short = shelf
+            .facets()
+            .short_range(alloc, PathId(path), 0, last, all)?;
+        let docs = match short {
+            Some(docs) => docs,
+            None => shelf.leaves().between(alloc, PathId(path), 0, last, all)?,
+        };
         found = docs.len();
     }
     Ok(found)

@@ -5,3 +5,4 @@ pub mod RowLemmas
 pub mod NamedLemmas
 pub mod LastLemmas
 pub mod LeftLemmas
+pub mod RisingLemmas

@@ -138,10 +138,6 @@ module _ (paths : List (List ℕ)) (uses : List PathUse) where
       apart = apart-filtered paths uses left 0 s.rows s.next_id whole.increase;
     }
 
-  -- all documents come into an index of none
-  pub all-batch : (low : ℕ) (rows : List Row) (high : ℕ) → Increase low rows high → IsBatch [] (map shown rows) []
-  all-batch low rows high h = record { whole = tt; once = apart-documents paths uses low rows high h; free = all-from _ (map shown rows) (λ d among. refl) }
-
   -- documents that were read
   pub read-are : (found : List Stored) (rows : List Row) → AreRead found rows → map (λ f. indexed paths uses f.id.0 f.text) found ≡ map shown rows
   read-are found rows read =

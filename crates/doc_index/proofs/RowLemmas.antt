@@ -1,5 +1,5 @@
 -- The rows of a store from an internal id on.
-use Rattle.std.proofs.Common.{◌≡◌, ℕ, suc, ◌+◌, ◌-◌, ◌<◌, ◌≤◌, ◌==◌, Bool, true, false, cond, List, [], ◌∷◌, map, length, Option, Some, None, refl, sym, ap, ap₂, ◌∙◌, arith, eqb-true}
+use Rattle.std.proofs.Common.{◌≡◌, ℕ, suc, ◌+◌, ◌<◌, ◌≤◌, ◌==◌, Bool, true, false, cond, List, [], ◌∷◌, length, Option, Some, None, refl, sym, ap, ap₂, ◌∙◌, arith, eqb-true}
 use Rattle.std.specs.Prelude.{nat_le}
 use Rattle.std.specs.Option.{is_some, option_map}
 use Rattle.serde_json.specs.Data.{Data}
@@ -10,7 +10,7 @@ use Rattle.std.proofs.lemmas.Bool.Decides.{nat_tests}
 use Rattle.doc_rows.specs.declared.path_use.PathUse.{PathUse}
 use Rattle.doc_store.specs.Store.{Row, row_at}
 use Rattle.doc_store.specs.Sound.{Increase}
-use Rattle.doc_index.specs.Documents.{indexed, document_of, with_document}
+use Rattle.doc_index.specs.Documents.{indexed, rising, with_document}
 use Rattle.doc_index.proofs.SameLemmas.{some-same}
 use Rattle.doc_index.proofs.StoreLemmas.{row-none}
 
@@ -70,34 +70,22 @@ from-step n low (r ∷ rows) high h = by (n == r.id) refl (nat_le n r.id) refl (
         cond-false _ _ _ le ∙ again
         ∙ sym (ap (λ o. with_row o (from_id (n + 1) (r ∷ rows))) (cond-false _ _ _ e) ∙ ap (with_row (row_at n rows)) (cond-false _ _ _ (from-past (n + 1) r (omega arith))))
 
-with-shown : (paths : List (List ℕ)) (uses : List PathUse) (o : Option Row) (rows : List Row) → with_document paths uses o (map (document_of paths uses) rows) ≡ map (document_of paths uses) (with_row o rows)
-with-shown paths uses None rows = refl
-with-shown paths uses (Some r) rows = refl
-
 with-counted : (o : Option Row) (rows : List Row) → length (with_row o rows) ≡ length rows + cond (is_some o) 1 0
 with-counted None rows = omega arith
 with-counted (Some r) rows = omega arith
 
-from-before : (n low : ℕ) (rows : List Row) (high : ℕ) → Increase low rows high → 0 < n → from_id (n - 1) rows ≡ with_row (row_at (n - 1) rows) (from_id n rows)
-from-before n low rows high h some =
-    let next : (n - 1) + 1 ≡ n = omega arith in
-    from-step (n - 1) low rows high h ∙ ap (λ m. with_row (row_at (n - 1) rows) (from_id m rows)) next
+-- the rows from an id on, and those from the next one
+module _ (n low : ℕ) (rows : List Row) (high : ℕ) (h : Increase low rows high) where
+  pub counted-step : length (from_id n rows) ≡ length (from_id (n + 1) rows) + cond (is_some (row_at n rows)) 1 0
+  counted-step = ap length (from-step n low rows high h) ∙ with-counted (row_at n rows) (from_id (n + 1) rows)
 
-pub shown-before : (paths : List (List ℕ)) (uses : List PathUse) (n low : ℕ) (rows : List Row) (high : ℕ) → Increase low rows high → 0 < n
-    → with_document paths uses (row_at (n - 1) rows) (map (document_of paths uses) (from_id n rows)) ≡ map (document_of paths uses) (from_id (n - 1) rows)
-shown-before paths uses n low rows high h some =
-    with-shown paths uses (row_at (n - 1) rows) (from_id n rows) ∙ ap (map (document_of paths uses)) (sym (from-before n low rows high h some))
-
-pub counted-before : (n low : ℕ) (rows : List Row) (high : ℕ) → Increase low rows high → 0 < n → length (from_id (n - 1) rows) ≡ length (from_id n rows) + cond (is_some (row_at (n - 1) rows)) 1 0
-counted-before n low rows high h some = ap length (from-before n low rows high h some) ∙ with-counted (row_at (n - 1) rows) (from_id n rows)
-
-pub from-few : (n : ℕ) (rows : List Row) → length (from_id n rows) ≤ length rows
-from-few n [] = omega arith
-from-few n (r ∷ rows) = by (nat_le n r.id) (from-few n rows)
-  where
-    by : (b : Bool) → length (from_id n rows) ≤ length rows → length (cond b (r ∷ from_id n rows) (from_id n rows)) ≤ length (r ∷ rows)
-    by true rest = omega arith
-    by false rest = omega arith
+  pub rising-step : (paths : List (List ℕ)) (uses : List PathUse) (come : List IndexedDocument)
+      → rising paths uses (from_id n rows) come ≡ rising paths uses (from_id (n + 1) rows) (with_document paths uses (row_at n rows) come)
+  rising-step paths uses come = ap (λ rs. rising paths uses rs come) (from-step n low rows high h) ∙ by (row_at n rows)
+    where
+      by : (o : Option Row) → rising paths uses (with_row o (from_id (n + 1) rows)) come ≡ rising paths uses (from_id (n + 1) rows) (with_document paths uses o come)
+      by None = refl
+      by (Some r) = refl
 
 -- the document that was found under an id
 pub with-found : (paths : List (List ℕ)) (uses : List PathUse) (id : ℕ) (rows : List Row) (document : Data) (come : List IndexedDocument)

@@ -205,7 +205,7 @@ at-without id gone (d ∷ ds) = by (d.id == id) refl (at-without id gone ds)
         ∙ there (has_id d.id gone) (document_at id (without gone ds)) ∙ rest ∙ sym (ap (cond (has_id id gone) None) (cond-false _ _ _ e))
 
 -- ---- the documents that come
-or-none : {X : Type 0} (o : Option X) → or_else o None ≡ o
+pub or-none : {X : Type 0} (o : Option X) → or_else o None ≡ o
 or-none None = refl
 or-none (Some x) = refl
 

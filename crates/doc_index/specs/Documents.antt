@@ -1,5 +1,5 @@
 -- Stored documents as a row index knows them.
-use Rattle.std.specs.Prelude.{ℕ, List, ◌∷◌, map, Option, None, Some}
+use Rattle.std.specs.Prelude.{ℕ, List, [], ◌∷◌, map, Option, None, Some}
 use Rattle.serde_json.specs.Data.{Data}
 use Rattle.doc_rows.specs.declared.path_use.PathUse.{PathUse}
 use Rattle.doc_rows.specs.Rows.{rows_of}
@@ -21,3 +21,8 @@ documents_of paths uses rows = map (document_of paths uses) rows
 abbrev pub with_document : List (List ℕ) → List PathUse → Option Row → List IndexedDocument → List IndexedDocument
 with_document paths uses None documents = documents
 with_document paths uses (Some r) documents = document_of paths uses r ∷ documents
+
+-- documents, and before them those of a store, the last of them first: as they stand where each came before the others
+abbrev pub rising : List (List ℕ) → List PathUse → List Row → List IndexedDocument → List IndexedDocument
+rising paths uses [] documents = documents
+rising paths uses (r ∷ rows) documents = rising paths uses rows (document_of paths uses r ∷ documents)

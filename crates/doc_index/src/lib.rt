@@ -17,4 +17,4 @@ mod whole;
 pub use change::rows_in;
 pub use named::{Stored, read_named};
 pub use store::{clear_documents, remove_documents, store_documents};
-pub use whole::index_of_all;
+pub use whole::{index_of_all, index_of_change};

@@ -2,10 +2,10 @@ ghost use Rattle.std.specs.Prelude.{◌≡◌, ◌+◌, ◌≤◌, List, [], len
 ghost use Rattle.std.specs.Option.{is_some};
 ghost use Rattle.doc_store.specs.Sound.{IsSound};
 ghost use Rattle.doc_store.specs.Store.{row_at};
-ghost use Rattle.row_index.specs.Documents.{IndexedDocument};
+ghost use Rattle.row_index.specs.Documents.{IndexedDocument, AreApart};
 ghost use Rattle.row_index.specs.Standing.{StandsFor};
 ghost use Rattle.row_index.specs.Changes.{IsChangeOf, IsTight};
-ghost use Rattle.doc_index.specs.Documents.{documents_of, with_document};
+ghost use Rattle.doc_index.specs.Documents.{documents_of, rising, with_document};
 
 use crate::change::rows_in;
 use doc_rows::PathUse;
@@ -14,8 +14,8 @@ use row_index::{RowChange, RowIndex};
 use search_base::{DocId, NoMemory, Steps};
 use std::alloc::Global;
 
-/// The index of all documents of a store, whose paths are used as `uses` says. Each document is read once, and all come
-/// in one change. Where memory is wanting, no document is read twice.
+/// The index of all documents of a store, whose paths are used as `uses` says. Each document is read once, in the order
+/// of the internal ids, and all come in one change. Where memory is wanting, no document is read twice.
 pub fn index_of_all<F>(
     alloc: Global,
     store: &DocStore,
@@ -31,13 +31,22 @@ pub fn index_of_all<F>(
     ensures at_most { fetches.new ≤ fetches.old + length store.now.content.rows }
 {
     let change = change_to_all(alloc, store, uses, fetches)?;
+    index_of_change(alloc, change)
+}
+
+/// The index of the documents that come by a change, which takes none out.
+pub fn index_of_change(alloc: Global, change: RowChange) -> Result<RowIndex, NoMemory>
+    ensures stands { IfOk result (λ index. (documents : List IndexedDocument) → IsChangeOf change [] documents
+        → AreApart documents → StandsFor index documents) }
+    ensures tight { IfOk result (λ index. IsTight index) }
+{
     let mut index = RowIndex::new(alloc);
     let prepared = index.prepare(alloc, change)?;
     index.commit(prepared);
     Ok(index)
 }
 
-// The change by which all documents of a store come.
+// The change by which all documents of a store come, in the order of their internal ids.
 fn change_to_all<F>(
     alloc: Global,
     store: &DocStore,
@@ -47,14 +56,12 @@ fn change_to_all<F>(
     requires sound { IsSound store.now.content }
     requires uses { length uses.now ≡ length store.now.content.paths }
     ensures change { IfOk result (λ change. IsChangeOf change []
-        (documents_of store.now.content.paths uses.now store.now.content.rows)) }
+        (rising store.now.content.paths uses.now store.now.content.rows [])) }
     ensures fetches { OnOk result (fetches.new ≡ fetches.old + length store.now.content.rows) }
     ensures at_most { fetches.new ≤ fetches.old + length store.now.content.rows }
 {
     let mut change = RowChange::new(alloc);
-    let mut id = store.next_id();
-    while id > 0 {
-        id -= 1;
+    for id in 0..store.next_id() {
         put_stored(alloc, store, uses, DocId(id), &mut change, fetches)?;
     }
     Ok(change)

@@ -3,6 +3,8 @@ pub mod SortLemmas
 pub mod EntryLemmas
 pub mod OrderedLemmas
 pub mod OrderLemmas
+pub mod OverLemmas
+pub mod NumberLemmas
 pub mod MatchLemmas
 pub mod MeetLemmas
 pub mod RankLemmas

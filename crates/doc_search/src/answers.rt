@@ -1,4 +1,4 @@
-ghost use Rattle.std.specs.Prelude.{◌≡◌, ◌==◌, ◌<◌, ℕ, true, filter, reverse, IfOk, IfSome, IfNone, is_some};
+ghost use Rattle.std.specs.Prelude.{◌≡◌, ◌==◌, ◌<◌, ℕ, Bool, true, filter, reverse, IfOk, IfSome, IfNone, is_some};
 ghost use Rattle.std.specs.List.{AllByRecursion};
 ghost use Rattle.std.specs.Option.{option_copied};
 ghost use Rattle.search_base.specs.Whole.{whole_cost};
@@ -6,6 +6,7 @@ ghost use Rattle.condition_graph.specs.Meets.{meets, IsRanked};
 ghost use Rattle.condition_graph.specs.Numbers.{number_of};
 ghost use Rattle.condition_graph.specs.Promise.{IsCondition};
 ghost use Rattle.path_costs.specs.Sets.{AreByNumber};
+ghost use Rattle.sort_rule.specs.Numbers.{AreNumbered};
 ghost use Rattle.sort_rule.specs.Ordered.{AreOrdered};
 ghost use Rattle.sort_rule.specs.Rows.{is_under, IsNextFor, HasNoneAfter};
 ghost use Rattle.rule_buckets.specs.Entries.{sort_entry};
@@ -19,7 +20,7 @@ use crate::ordered::ordered;
 use bucket_sort::Bucket;
 use condition_graph::Condition;
 use doc_sets::DocSet;
-use search_base::{CostKey, NoMemory, PathId, Word};
+use search_base::{CostKey, DocId, NoMemory, PathId, Word};
 use std::alloc::Global;
 use whole_words::documents_at_whole_cost;
 
@@ -27,6 +28,10 @@ use whole_words::documents_at_whole_cost;
 // much as passing three entries. Going through the entries to twenty hits passes some three hundred where one document of
 // sixteen is in the universe, and nearly all where those stand late in the order.
 const ONE_OF_FEW: u64 = 16;
+
+// Reading the number of each document of a universe costs less than going through the entries where they are at most one
+// of so many. Going through them to twenty hits passes some eighty then.
+const ONE_OF_SOME: u64 = 4;
 
 /// A number above each rank of the rows of any id.
 pub(crate) fn above_ranks<I: IndexedRows>(rows: &I) -> u16
@@ -131,6 +136,27 @@ pub(crate) fn documents_under<I: IndexedRows>(
     let facets = index.facets();
     let docs = facets.sort_docs(alloc, path, up, at, universe)?;
     Ok(docs)
+}
+
+/// The documents of the universe, each with the number that is its one value under a path, where they are at most a
+/// quarter of all documents, and else none. None too where one of them has another value there, or none.
+pub(crate) fn numbers_under<I: IndexedRows>(
+    alloc: Global,
+    rows: &I,
+    path: PathId,
+    universe: &DocSet,
+) -> Result<Option<Vec<(i64, DocId)>>, NoMemory>
+    ensures { IfOk result (λ found. IfSome found (λ pairs. (up : Bool)
+        → AreNumbered (λ d. sort_entry up path.0 (rows_at (I.documents rows.now) d).leaves)
+        up universe.now.ids pairs.items)) }
+{
+    let index = rows.index();
+    if universe.len() > index.ids().len() / ONE_OF_SOME {
+        return Ok(None);
+    }
+    let leaves = index.leaves();
+    let pairs = leaves.numbers(alloc, path, universe)?;
+    Ok(pairs)
 }
 
 /// The documents of the universe in buckets by their entries under a path, that of the least entry last, where they are

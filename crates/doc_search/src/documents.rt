@@ -9,6 +9,7 @@ ghost use Rattle.doc_search.specs.Searched.{documents_in};
 
 use crate::indexed::IndexedRows;
 use doc_rows::PathUse;
+use doc_sets::DocSet;
 use doc_store::DocStore;
 use facet_index::{FacetIndex, Indexed};
 use leaf_table::LeafTable;
@@ -71,6 +72,15 @@ impl<'a> IndexedDocuments<'a> {
     {
         let _rows = self.rows;
         self.store.paths()
+    }
+
+    /// The ids of the documents.
+    pub(crate) fn ids(&self) -> &DocSet
+        ensures { result.now.ids ≡ map (λ document. document.id) self.now.documents }
+    {
+        let ids = self.rows.ids();
+        let _count = ids.len();
+        ids
     }
 
     /// The leaves of each document.

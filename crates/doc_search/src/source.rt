@@ -2,14 +2,14 @@ ghost use Rattle.std.specs.Prelude.{◌≡◌};
 
 use crate::answers::{
     above_ranks, documents_at_cost, documents_by_number, documents_meeting, documents_under,
-    next_entry, ordered_under,
+    next_entry, numbers_under, ordered_under,
 };
 use crate::indexed::IndexedRows;
 use bucket_sort::Bucket;
 use condition_graph::Condition;
 use doc_sets::DocSet;
 use rule_buckets::RuleSource;
-use search_base::{CostKey, NoMemory, PathId, Word};
+use search_base::{CostKey, DocId, NoMemory, PathId, Word};
 use std::alloc::Global;
 use std::marker::Model;
 
@@ -104,6 +104,15 @@ impl<'a, I: IndexedRows> RuleSource for Snapshot<'a, I> {
         universe: &DocSet,
     ) -> Result<DocSet, NoMemory> {
         documents_under(alloc, self.rows, path, up, at, universe)
+    }
+
+    fn numbers(
+        &self,
+        alloc: Global,
+        path: PathId,
+        universe: &DocSet,
+    ) -> Result<Option<Vec<(i64, DocId)>>, NoMemory> {
+        numbers_under(alloc, self.rows, path, universe)
     }
 
     fn ordered(

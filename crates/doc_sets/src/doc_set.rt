@@ -1,13 +1,16 @@
 ghost use Rattle.std.specs.Prelude.{◌≡◌, ℕ, ◌+◌, ◌≤◌, [], length, map, not, IfOk, OnOk, OnErr, ◌==◌};
+ghost use Rattle.std.specs.Bool.{OnTrue, OnFalse};
 ghost use Rattle.std.specs.Option.{option_map};
 ghost use Rattle.std.specs.List.{slice_get};
 ghost use Rattle.std.specs.Iterator.{YieldsFirstBy, item_count};
 ghost use Rattle.doc_sets.specs.Sets.{has, IsIncreasing, above, with_id, without_id, intersection, difference, union};
 
 use crate::bits::{BitIter, Bits};
+use crate::in_place::{kept_join, kept_subtract};
 use crate::kept::{
     Kept, add_to, kept_and, kept_and_len, kept_insert, kept_insert_reserved, kept_limit,
-    kept_minus, kept_or, kept_remove, listed_and_reserved, numbers, packed, packed_list,
+    kept_make_room, kept_minus, kept_or, kept_put_in_room, kept_remove, listed_and_reserved,
+    numbers, packed, packed_list,
 };
 use crate::merge::{Ids, first_above, holds};
 use search_base::{DocId, NoMemory};
@@ -185,6 +188,23 @@ impl DocSet {
         kept_insert_reserved(&mut self.kept, id)
     }
 
+    /// Makes the set one of bits, with room for the documents up to this one and some behind it, into which
+    /// `put_in_room` can put them. The ids stay, whatever the result.
+    pub fn make_room(&mut self, alloc: Global, last: DocId) -> Result<(), NoMemory>
+        ensures { self.new.ids ≡ self.old.ids }
+    {
+        kept_make_room(alloc, &mut self.kept, u64::from(last.0) + 1)
+    }
+
+    /// Puts the document in where the set has room for it as bits, and tells whether it is in then. Otherwise the
+    /// ids stay as they were. It takes no memory.
+    pub fn put_in_room(&mut self, id: DocId) -> bool
+        ensures put { OnTrue result (self.new.ids ≡ with_id id.0 self.old.ids) }
+        ensures not_put { OnFalse result (self.new.ids ≡ self.old.ids) }
+    {
+        kept_put_in_room(&mut self.kept, id)
+    }
+
     /// Takes the document out, and tells whether it was there. `spare` does not fall.
     pub fn remove(&mut self, id: DocId) -> bool
         ensures ids { self.new.ids ≡ without_id id.0 self.old.ids }
@@ -224,6 +244,24 @@ impl DocSet {
     {
         let kept = kept_minus(alloc, &self.kept, &other.kept)?;
         Ok(DocSet { kept })
+    }
+
+    /// The documents that are in one set or the other, or in both. Where one is empty it is the other, and where one is
+    /// kept as bits with room for the other it takes this in: then it takes no memory.
+    pub fn join(self, alloc: Global, other: DocSet) -> Result<DocSet, NoMemory>
+        ensures { IfOk result (λ set. set.ids ≡ union self.ids other.ids) }
+    {
+        let kept = kept_join(alloc, self.kept, other.kept)?;
+        Ok(DocSet { kept })
+    }
+
+    /// Takes out the documents that are in the other set. Of a set kept as bits, it copies none. Where there is no memory
+    /// the set stays as it was.
+    pub fn subtract(&mut self, alloc: Global, other: &DocSet) -> Result<(), NoMemory>
+        ensures ids { OnOk result (self.new.ids ≡ difference self.old.ids other.now.ids) }
+        ensures err { OnErr result (self.new ≡ self.old) }
+    {
+        kept_subtract(alloc, &mut self.kept, &other.kept)
     }
 
     // The set of a list of ids.

@@ -1,13 +1,19 @@
 -- Documents that are admitted in two goes.
-use Rattle.std.proofs.Common.{◌≡◌, ℕ, ◌+◌, ◌≤◌, List, [], ◌∷◌, ◌++◌, length, map, refl, sym, ap, subst, ◌∙◌, arith}
+use Rattle.std.proofs.Common.{◌≡◌, ℕ, ◌+◌, ◌≤◌, Bool, true, false, List, [], ◌∷◌, ◌++◌, length, map, Some, refl, sym, ap, subst, ◌∙◌, arith, true≢false}
 use Rattle.doc_store.specs.declared.rows.StoreRow.{StoreRow}
 use Rattle.doc_store.specs.declared.admitting.Admitting.{Admitting}
 use Rattle.doc_values.specs.Walk.{paths_of}
-use Rattle.doc_store.specs.Admitting.{IsAdmitting}
+use Rattle.serde_json.specs.Data.{Data}
+use Rattle.doc_store.specs.declared.admitting.NewPaths.{NewPaths}
+use Rattle.doc_store.specs.declared.rows.StoreRefusal.{StoreRefusal}
+use Rattle.doc_store.specs.declared.rows.StoreRefusal.TheVariants.{PathsSpent}
+use Rattle.doc_store.specs.Admitting.{IsAdmitting, IsNoted, if_spent}
 use Rattle.doc_store.specs.Given.{AreIdsOf}
 use Rattle.doc_store.specs.Names.{Names}
 use Rattle.doc_store.specs.Paths.{registered}
-use Rattle.doc_store.specs.Store.{Store, id_given, stored, all_stored, ids_given, paths_after}
+use Rattle.doc_store.specs.Store.{Store, id_given, stored, all_stored, ids_given, paths_after, paths_spent}
+use Rattle.doc_store.proofs.PathLemmas.{paths_after-grows}
+use Rattle.doc_store.proofs.SpentLemmas.{refused-grows, refused-same}
 use Rattle.doc_store.specs.StoreView.{AdmissionView, IsAdmitted}
 use Rattle.doc_store.proofs.StoreLemmas.{admitted-made}
 
@@ -41,3 +47,49 @@ pub admitted_whole : (ids : Names) (s : Store) (before : List StoreRow) (a : Adm
     → IsAdmitted s before admission
 admitted_whole ids s before a admission h same added =
     admitted-made s before admission (same ∙ h.given) (omega (arith, h.known.next, h.few_ids)) (ap (λ (l : List (List ℕ)). s.paths ++ l) added ∙ h.paths) (omega (arith, ap length added, h.few_paths))
+
+-- ---- paths that are noted document by document
+
+-- there are too many paths where too many were noted
+pub spent-noted : (s : Store) (a : Admitting) (rows : List StoreRow) (new : NewPaths) (why : StoreRefusal) → IsNoted s a rows new → if_spent new.spent ≡ Some why
+    → paths_spent (paths_after rows (s.paths ++ a.added.paths)) ≡ Some why
+spent-noted s a rows new why noted h = by new.spent refl
+  where
+    by : (b : Bool) → new.spent ≡ b → paths_spent (paths_after rows (s.paths ++ a.added.paths)) ≡ Some why
+    by true e = noted.spent e ∙ ap if_spent (sym e) ∙ h
+    by false e = absurd (let none = sym (ap if_spent e) ∙ h in cc)
+
+last-after : (rows : List StoreRow) (row : StoreRow) (d : Data) (walk known : List (List ℕ)) → row.document ≡ d → walk ≡ paths_of d → paths_after (rows ++ row ∷ []) known ≡ registered walk (paths_after rows known)
+last-after rows row d walk known same walked =
+    paths_join rows (row ∷ []) known ∙ ap (λ v. registered v (paths_after rows known)) (ap paths_of same ∙ sym walked)
+
+-- one document more
+module _ (s : Store) (a : Admitting) (rows : List StoreRow) (row : StoreRow) (old new : NewPaths) (noted : IsNoted s a rows old) where
+  abbrev known : List (List ℕ)
+  known = s.paths ++ a.added.paths
+
+  pub noted-more : (d : Data) (walk : List (List ℕ)) → row.document ≡ d → walk ≡ paths_of d → old.spent ≡ false → new.spent ≡ false
+      → known ++ new.fresh.paths ≡ registered walk (known ++ old.fresh.paths) → length s.paths + length a.added.paths + length new.fresh.paths ≤ 1000
+      → IsNoted s a (rows ++ row ∷ []) new
+  noted-more d walk same walked few still more within = record {
+    paths = λ _. more ∙ ap (registered walk) (noted.paths few) ∙ sym (last-after rows row d walk known same walked);
+    few = λ _. within;
+    spent = λ e. absurd (true≢false (sym e ∙ still));
+  }
+
+  pub noted-out : (d : Data) (walk : List (List ℕ)) (why : StoreRefusal) → row.document ≡ d → walk ≡ paths_of d → old.spent ≡ false → new.spent ≡ true
+      → paths_spent (registered walk (known ++ old.fresh.paths)) ≡ Some why → IsNoted s a (rows ++ row ∷ []) new
+  noted-out d walk why same walked few out h = record {
+    paths = λ e. absurd (true≢false (sym out ∙ e));
+    few = λ e. absurd (true≢false (sym out ∙ e));
+    spent = λ _. ap paths_spent (last-after rows row d walk known same walked) ∙ ap (λ v. paths_spent (registered walk v)) (sym (noted.paths few))
+        ∙ refused-same 1000 (length (registered walk (known ++ old.fresh.paths))) PathsSpent why h;
+  }
+
+  pub noted-past : old.spent ≡ true → IsNoted s a (rows ++ row ∷ []) old
+  noted-past out = record {
+    paths = λ e. absurd (true≢false (sym out ∙ e));
+    few = λ e. absurd (true≢false (sym out ∙ e));
+    spent = λ _. ap paths_spent (paths_join rows (row ∷ []) known)
+        ∙ refused-grows 1000 (length (paths_after rows known)) _ PathsSpent PathsSpent (paths_after-grows (row ∷ []) (paths_after rows known)) (noted.spent out);
+  }

@@ -1,5 +1,5 @@
-ghost use Rattle.std.specs.Prelude.{◌≡◌, List, map};
-ghost use Rattle.doc_store.specs.Admitting.{IsAdmitting};
+ghost use Rattle.std.specs.Prelude.{◌≡◌, List, [], map};
+ghost use Rattle.doc_store.specs.Admitting.{IsAdmitting, IsNoted};
 ghost use Rattle.doc_store.specs.Names.{Names};
 ghost use Rattle.doc_store.specs.Store.{Store};
 ghost use Rattle.doc_store.specs.StoreView.{IsAdmitted};
@@ -8,6 +8,7 @@ ghost use Rattle.doc_store.specs.declared.rows.StoreRow.{StoreRow as Row};
 use crate::places::Places;
 use crate::registry::Registry;
 use search_base::{DocId, Word};
+use std::alloc::Global;
 use std::marker::Model;
 
 /// What documents that come take of a store: the internal id of each, and the paths that the registry gains.
@@ -55,7 +56,26 @@ pub struct Admitting {
     pub(crate) added: Registry,
 }
 
+/// The paths that the registry gains by documents which are read one after the other, and are admitted then. Of more
+/// paths than a registry may have no more are noted.
+#[derive(Drop)]
+pub struct NewPaths {
+    pub(crate) fresh: Registry,
+    pub(crate) spent: bool,
+}
+
 impl Admitting {
+    /// The paths of no document behind those that are admitted so far. It takes no memory.
+    pub fn new_paths(&self, alloc: Global) -> NewPaths
+        ensures { (ids : Names) (s : Store) (before : List Row) → IsAdmitting ids s before self.now
+            → IsNoted s self.now [] result }
+    {
+        NewPaths {
+            fresh: Registry::new(alloc),
+            spent: false,
+        }
+    }
+
     /// The admission of all documents so far. It takes no memory.
     pub fn finish(self) -> Admission
         ensures { (ids : Names) (s : Store) (before : List Row) → IsAdmitting ids s before self

@@ -26,7 +26,7 @@ mod slots;
 mod store;
 mod walked;
 
-pub use admitting::{Admission, Admitting};
+pub use admitting::{Admission, Admitting, NewPaths};
 pub use laws::{documents_keep_their_ids, stores_stay_sound};
 pub use rows::{MAX_IDS, MAX_PATHS, StoreFault, StoreRefusal, StoreRow, StoredRow};
 pub use store::{DocStore, StorePlan};

@@ -1,4 +1,4 @@
-ghost use Rattle.std.specs.Prelude.{◌≡◌, ◌↔◌, ◌+◌, ◌≤◌, ◌++◌, List, [], Some, Err, map, length, take, drop, position, bytes_eq, IsTrue, IfOk, OnOk, OnErr, IfErr};
+ghost use Rattle.std.specs.Prelude.{◌≡◌, ◌↔◌, ◌+◌, ◌≤◌, ◌++◌, List, [], ◌∷◌, Some, Err, map, length, take, drop, position, bytes_eq, IsTrue, IfOk, OnOk, OnErr, IfErr};
 ghost use Rattle.std.specs.Option.{option_map, is_some};
 ghost use Rattle.search_base.specs.Gives.{Checks};
 ghost use Rattle.doc_store.specs.Names.{AreKept};
@@ -6,10 +6,10 @@ ghost use Rattle.doc_store.specs.Store.{all_stored, externals, id_of, spent, row
 ghost use Rattle.doc_store.specs.Sound.{IsSound};
 ghost use Rattle.doc_store.specs.Restored.{restored};
 ghost use Rattle.doc_store.specs.StoreView.{IsAdmitted, IsPlanFor};
-ghost use Rattle.doc_store.specs.Admitting.{IsAdmitting};
+ghost use Rattle.doc_store.specs.Admitting.{IsAdmitting, IsNoted};
 ghost use Rattle.doc_store.specs.declared.rows.StoreRow.{StoreRow as Row};
 
-use crate::admitting::{Admission, Admitting};
+use crate::admitting::{Admission, Admitting, NewPaths};
 use crate::changes::{push_paths, put_rows, stage_rows, take_row};
 use crate::counts::{Counts, count_new, counts_of, no_counts, uncount};
 use crate::given::more_ids;
@@ -19,9 +19,9 @@ use crate::registry::Registry;
 use crate::restore::put_back;
 use crate::rows::{StoreFault, StoreRow, StoredRow};
 use crate::slots::{Slots, document_at, external_at};
-use crate::walked::more_paths;
-use doc_values::DocumentText;
-use search_base::{DocId, NoMemory, PathId, Steps, Word};
+use crate::walked::{add_noted, note_paths};
+use doc_values::{Document, DocumentText, paths};
+use search_base::{DocId, Fault, NoMemory, PathId, Steps, Word};
 use staged_slots::StagedSlots;
 use std::alloc::Global;
 use std::marker::Model;
@@ -228,9 +228,9 @@ impl DocStore {
         }
     }
 
-    /// Admits more documents, behind those that are admitted so far. The store stays. What is refused is what `admit`
-    /// refuses of all of them together, by the same refusal. After an error the admission is of no use, and is begun
-    /// again from the documents before.
+    /// Admits more documents, behind those that are admitted so far. Each is read back from its text and let go again
+    /// before the next. The store stays. What is refused is what `admit` refuses of all of them together, by the same
+    /// refusal. After an error the admission is of no use, and is begun again from the documents before.
     pub fn admit_more(
         &self,
         alloc: Global,
@@ -244,6 +244,70 @@ impl DocStore {
         ensures refused { (before : List Row) → IsAdmitting self.now.ids self.now.content before admitting.old
             → IfErr result (λ fault. Checks (Err fault) (spent (all_stored (before ++ rows.now) self.now.content))) }
     {
+        let new = self.noted(alloc, admitting, rows)?;
+        self.admit_noted(admitting, rows, new)
+    }
+
+    // The paths of documents, each of which is read back from its text.
+    fn noted(
+        &self,
+        alloc: Global,
+        admitting: &Admitting,
+        rows: &[StoreRow],
+    ) -> Result<NewPaths, NoMemory>
+        requires { (before : List Row) × IsAdmitting self.now.ids self.now.content before admitting.now }
+        ensures { IfOk result (λ new. IsNoted self.now.content admitting.now rows.now new) }
+    {
+        let mut new = admitting.new_paths(alloc);
+        for row in rows {
+            let document = row.document.document(alloc)?;
+            self.note(alloc, admitting, &document, &mut new)?;
+        }
+        Ok(new)
+    }
+
+    /// Notes the paths of a document that is to be admitted behind those whose paths are noted. Store and admission stay.
+    pub fn note(
+        &self,
+        alloc: Global,
+        admitting: &Admitting,
+        document: &Document,
+        new: &mut NewPaths,
+    ) -> Result<(), NoMemory>
+        requires { (rows : List Row) × IsNoted self.now.content admitting.now rows new.old }
+        ensures { OnOk result ((rows : List Row) (row : Row) → row.document ≡ document.now
+            → IsNoted self.now.content admitting.now rows new.old
+            → IsNoted self.now.content admitting.now (rows ++ row ∷ []) new.new) }
+    {
+        if new.spent {
+            return Ok(());
+        }
+        let walk = paths(alloc, document)?;
+        match note_paths(&self.paths, &admitting.added, &mut new.fresh, walk) {
+            Ok(()) => Ok(()),
+            Err(Fault::NoMemory) => Err(NoMemory),
+            Err(Fault::Refused(_)) => {
+                new.spent = true;
+                Ok(())
+            }
+        }
+    }
+
+    /// Admits more documents as `admit_more` does, which were read and whose paths were noted.
+    pub fn admit_noted(
+        &self,
+        admitting: &mut Admitting,
+        rows: &[StoreRow],
+        new: NewPaths,
+    ) -> Result<(), StoreFault>
+        requires admitting { (before : List Row) × IsAdmitting self.now.ids self.now.content before admitting.old }
+        requires noted { IsNoted self.now.content admitting.old rows.now new }
+        ensures more { OnOk result ((before : List Row)
+            → IsAdmitting self.now.ids self.now.content before admitting.old
+            → IsAdmitting self.now.ids self.now.content (before ++ rows.now) admitting.new) }
+        ensures refused { (before : List Row) → IsAdmitting self.now.ids self.now.content before admitting.old
+            → IfErr result (λ fault. Checks (Err fault) (spent (all_stored (before ++ rows.now) self.now.content))) }
+    {
         more_ids(
             &self.ids,
             &mut admitting.fresh,
@@ -251,7 +315,7 @@ impl DocStore {
             &mut admitting.ids,
             rows,
         )?;
-        more_paths(alloc, &self.paths, &mut admitting.added, rows)?;
+        add_noted(&mut admitting.added, new)?;
         Ok(())
     }
 

@@ -1,6 +1,7 @@
 pub mod TestLemmas
 pub mod KeyLemmas
 pub mod BatchLemmas
+pub mod KeptLemmas
 pub mod AnswerLemmas
 pub mod RowLemmas
 pub mod RangeLemmas

@@ -1,10 +1,11 @@
 -- Numbers between two ends.
-use Rattle.std.proofs.Common.{◌≡◌, ℕ, ℤ, pos, negsuc, ◌<◌, Bool, true, false, not, ◌&&◌, ◌||◌, ◌==◌, int_lt, List, [], ◌∷◌, ◌++◌, Result, Ok, Err, refl, sym, ap, ap₂, subst, ◌∙◌, arith}
+use Rattle.std.proofs.Common.{◌≡◌, ℕ, ℤ, pos, negsuc, ◌<◌, Bool, true, false, not, ◌&&◌, ◌||◌, ◌==◌, int_lt, List, [], ◌∷◌, ◌++◌, Result, Ok, Err, Option, Some, None, refl, sym, ap, ap₂, subst, ◌∙◌, arith}
 use Rattle.std.specs.declared.cmp.Ordering.{Ordering}
 use Rattle.std.specs.declared.cmp.Ordering.TheVariants.{Less, Equal, Greater}
 use Rattle.std.specs.Ordering.{is_le, nat_cmp, int_cmp, ordering_then, ordering_reverse, MatchOrdering}
 use Rattle.std.specs.List.{filter, list_any, AllByRecursion}
 use Rattle.search_base.specs.declared.document.Leaf.{Leaf}
+use Rattle.std.specs.Option.{IfSome}
 use Rattle.std.specs.Result.{IfOk}
 use Rattle.std.specs.Str.{bytes_eq}
 use Rattle.std.specs.Int.{w128}
@@ -157,13 +158,15 @@ inside_passes first last view documents test index says = record {
 
 pub range_answer : {E : Type 0} → AreInOrder → (view : PostingsView) (path : ℕ) (low high : ℤ) (universe first last : List ℕ)
     → first ≡ end_of path low → last ≡ end_of path high → IsNarrow path (leaf (facet.Number low)) → IsNarrow path (leaf (facet.Number high))
-    → (r : Result SetView E) → IfOk r (λ docs. (passes : ℕ → Bool) → PassesInside first last view passes → docs.ids ≡ filter passes universe)
-    → IfOk r (λ docs. (documents : List LeavesView) → IsIndexOf view documents
-    → docs.ids ≡ filter (passes_at (has_number_that (is_between low high) path) documents) universe)
-range_answer order view path low high universe first last is_first is_last l h (Ok docs) found = λ documents index.
+    → (r : Result (Option SetView) E)
+    → IfOk r (λ found. IfSome found (λ docs. (passes : ℕ → Bool) → PassesInside first last view passes → docs.ids ≡ filter passes universe))
+    → IfOk r (λ found. IfSome found (λ docs. (documents : List LeavesView) → IsIndexOf view documents
+    → docs.ids ≡ filter (passes_at (has_number_that (is_between low high) path) documents) universe))
+range_answer order view path low high universe first last is_first is_last l h (Ok (Some docs)) found = λ documents index.
     found (passes_at (has_number_that (is_between low high) path) documents)
     (subst (λ k. PassesInside k last view (passes_at (has_number_that (is_between low high) path) documents)) (sym is_first)
     (subst (λ k. PassesInside (end_of path low) k view (passes_at (has_number_that (is_between low high) path) documents)) (sym is_last)
     (inside_passes (end_of path low) (end_of path high) view documents (has_number_that (is_between low high) path) index
     (λ document narrow. document_between order path low high l h document narrow))))
+range_answer order view path low high universe first last is_first is_last l h (Ok None) found = tt
 range_answer order view path low high universe first last is_first is_last l h (Err e) found = tt

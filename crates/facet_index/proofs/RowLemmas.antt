@@ -1,11 +1,10 @@
 -- Keys in a row, and their lists.
-use Rattle.std.proofs.Common.{◌≡◌, ℕ, Bool, true, false, ◌&&◌, ◌||◌, cond, List, [], ◌∷◌, None, Some, Result, Ok, Err, refl, sym, ap, ap₂, ◌∙◌}
+use Rattle.std.proofs.Common.{◌≡◌, ℕ, Bool, true, false, ◌&&◌, ◌||◌, cond, List, [], ◌∷◌, None, Some, refl, sym, ap, ap₂, ◌∙◌}
 use Rattle.std.specs.declared.cmp.Ordering.{Ordering}
 use Rattle.std.specs.declared.cmp.Ordering.TheVariants.{Less, Equal, Greater}
 use Rattle.std.specs.Ordering.{is_eq, is_le, ordering_reverse}
 use Rattle.std.specs.Cmp.Lexicographic.{nat_list_cmp_total}
 use Rattle.std.specs.List.{filter, AllByRecursion}
-use Rattle.std.specs.Result.{IfOk}
 use Rattle.std.specs.List.Sorted.{IsStrictlySortedBy}
 use Rattle.std.specs.Map.{keys_of}
 use Rattle.std.proofs.lemmas.Bool.{cond-true, cond-false}
@@ -13,7 +12,6 @@ use Rattle.std.proofs.lemmas.Cmp.{eq_by_cmp_equiv}
 use Rattle.std.proofs.lemmas.Map.Keys.{sorted_head, sorted_tail}
 use Rattle.std.proofs.lemmas.Map.Lookups.{exact_bytes}
 use Rattle.doc_sets.specs.Sets.{has}
-use Rattle.doc_sets.specs.SetView.{SetView}
 use Rattle.postings.specs.Dictionary.{PostingsView, word_cmp, value_at, list_at, some_list}
 use Rattle.facet_index.specs.Places.{has_document}
 use Rattle.facet_index.specs.Ranges.{is_listed, PassesInside}
@@ -154,16 +152,15 @@ listed_passes first last view rows passes sorted are inside d = same_bool (is_li
     (are key.0 ∙ ap (λ b. cond b (some_list (list_at key.0 view)) None) ends.0 ∙ some_document d (list_at key.0 view) key.2) ends.1 key.2)
 
 -- the set of the documents that were added, by what passes
-pub between_answer : {E : Type 0} (first last : List ℕ) (view : PostingsView) (rows : List (List ℕ × List ℕ)) (universe start found : List ℕ)
+pub between_answer : (first last : List ℕ) (view : PostingsView) (rows : List (List ℕ × List ℕ)) (universe start found docs : List ℕ)
     → IsStrictlySortedBy word_cmp (keys_of rows) → AreRowsFrom first view rows → start ≡ []
     → ((d : ℕ) → has found d ≡ ((is_listed last d rows && has universe d) || has start d))
-    → (r : Result SetView E) → IfOk r (λ docs. (passes : ℕ → Bool) → ((d : ℕ) → has found d ≡ (passes d && has universe d)) → docs.ids ≡ filter passes universe)
-    → IfOk r (λ docs. (passes : ℕ → Bool) → PassesInside first last view passes → docs.ids ≡ filter passes universe)
-between_answer first last view rows universe start found sorted are none told (Ok docs) h = λ passes inside.
+    → ((passes : ℕ → Bool) → ((d : ℕ) → has found d ≡ (passes d && has universe d)) → docs ≡ filter passes universe)
+    → (passes : ℕ → Bool) → PassesInside first last view passes → docs ≡ filter passes universe
+between_answer first last view rows universe start found docs sorted are none told h = λ passes inside.
     h passes (λ d. told d ∙ ap (λ xs. (is_listed last d rows && has universe d) || has xs d) none ∙ or_false (is_listed last d rows && has universe d)
     ∙ ap (λ b. b && has universe d) (listed_passes first last view rows passes sorted are inside d))
   where
     or_false : (b : Bool) → (b || false) ≡ b
     or_false true = refl
     or_false false = refl
-between_answer first last view rows universe start found sorted are none told (Err e) h = tt

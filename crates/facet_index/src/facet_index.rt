@@ -1,4 +1,4 @@
-ghost use Rattle.std.specs.Prelude.{◌≡◌, ℕ, List, [], filter, IfOk, MatchResult};
+ghost use Rattle.std.specs.Prelude.{◌≡◌, ℕ, List, [], filter, IfOk, IfSome, MatchResult};
 ghost use Rattle.postings.specs.Dictionary.{list_at, HasRooms, IsTight, none};
 ghost use Rattle.facet_index.specs.LeavesView.{LeavesView};
 ghost use Rattle.facet_index.specs.Documents.{has_value, has_mark, has_number_that, is_between, passes_at};
@@ -7,7 +7,7 @@ ghost use Rattle.facet_index.specs.Batches.{IsBatch, IsChangeFor, IsPreparedFor,
 
 use crate::change::{FacetChange, PreparedFacets};
 use crate::lists::documents_at;
-use crate::ranges::documents_between;
+use crate::ranges::documents_in_short;
 use doc_sets::DocSet;
 use facet_keys::{keys_are_in_order, keys_tell_facets_apart, mark_key, value_key};
 use postings::Postings;
@@ -80,22 +80,24 @@ impl FacetIndex {
     }
 
     /// The documents of the universe that have a number from `low` to `high`, both ends among them, under the
-    /// path. Looks at no number outside.
-    pub fn range(
+    /// path, where the lists of these numbers are short beside the universe, and else none, as testing each of its
+    /// documents takes less time then. Looks at no number outside.
+    pub fn short_range(
         &self,
         alloc: Global,
         path: PathId,
         low: i128,
         high: i128,
         universe: &DocSet,
-    ) -> Result<DocSet, NoMemory>
-        ensures { IfOk result (λ docs. (documents : List LeavesView) → IsIndexOf self.now documents
-            → docs.ids ≡ filter (passes_at (has_number_that (is_between low high) path.0) documents) universe.now.ids) }
+    ) -> Result<Option<DocSet>, NoMemory>
+        ensures { IfOk result (λ found. IfSome found (λ docs.
+            (documents : List LeavesView) → IsIndexOf self.now documents → docs.ids
+            ≡ filter (passes_at (has_number_that (is_between low high) path.0) documents) universe.now.ids)) }
     {
         keys_are_in_order();
         let first = value_key(alloc, path, &FacetValue::Number(low))?;
         let last = value_key(alloc, path, &FacetValue::Number(high))?;
-        documents_between(alloc, &self.keys, &first, &last, universe)
+        documents_in_short(alloc, &self.keys, &first, &last, universe)
     }
 
     /// Takes all memory that the change needs, in proportion to the change. Each answer stays as it

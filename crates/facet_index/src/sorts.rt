@@ -15,9 +15,8 @@ use crate::facet_index::FacetIndex;
 use crate::lists::{document_of, documents_at};
 use doc_sets::DocSet;
 use facet_keys::{end_of_key, is_end_key, keys_are_in_order, keys_tell_facets_apart};
-use postings::{Postings, WordLists};
+use postings::{PostingList, Postings, WordLists};
 use search_base::{CostKey, FacetValue, NoMemory, PathId, SortKey, Word, keys_are_ordered};
-use sorted_pages::SortedPages;
 use std::alloc::Global;
 use std::ops::Bound;
 
@@ -212,7 +211,7 @@ fn first_had<'a>(
 }
 
 // The next of the words that are left, in the direction, with its list, which is taken out of them.
-fn step<'a>(rows: &mut WordLists<'a>, up: bool) -> Option<(&'a Word, &'a SortedPages)>
+fn step<'a>(rows: &mut WordLists<'a>, up: bool) -> Option<(&'a Word, &'a PostingList)>
     ensures some { IfSome result (λ row.
         in_direction up rows.old ≡ (row.0.now, row.1.now.entries) ∷ in_direction up rows.new) }
     ensures none { IfNone result (in_direction up rows.old ≡ []) }
@@ -221,10 +220,10 @@ fn step<'a>(rows: &mut WordLists<'a>, up: bool) -> Option<(&'a Word, &'a SortedP
 }
 
 // Whether a document of the universe has a place in the list.
-fn is_held(list: &SortedPages, universe: &DocSet) -> bool
+fn is_held(list: &PostingList, universe: &DocSet) -> bool
     ensures { result ≡ list_any (λ d. has_document d list.now.entries) universe.now.ids }
 {
-    for entry in list.iter() {
+    for entry in list.pages().iter() {
         if universe.contains(document_of(entry)) {
             return true;
         }

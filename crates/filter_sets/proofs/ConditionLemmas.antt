@@ -16,8 +16,8 @@ use Rattle.filter_tree.specs.View.{test_view}
 use Rattle.row_filter.specs.Holds.{meets, is_number_that, some_number}
 use Rattle.doc_sets.specs.Sets.{has}
 use Rattle.doc_sets.specs.SetView.{SetView}
-use Rattle.postings.specs.Dictionary.{PostingsView}
 use Rattle.facet_index.proofs.TestLemmas.{both, any_implies}
+use Rattle.filter_sets.specs.declared.source.Facets.{Facets}
 use Rattle.filter_sets.specs.declared.conditions.Condition.{Condition}
 use Rattle.filter_sets.specs.Selects.{Selects}
 use Rattle.filter_sets.specs.Conditions.{is_met, Implies}
@@ -123,43 +123,43 @@ between_weaker test other low high lower higher is also h g =
 
 -- ---- conditions one after another
 
-pub each_passed : (index : PostingsView) (xs : List Condition) (i : ℕ) (x : Condition) (last : Option Condition) (docs ids : List ℕ)
+pub each_passed : (facets : Facets) (xs : List Condition) (i : ℕ) (x : Condition) (last : Option Condition) (docs ids : List ℕ)
     → i < length xs → x ≡ get_or xs i x → IsSomeAnd last (λ other. Implies other x)
-    → NarrowsAll index is_met (drop i xs) docs xs ids × IfSome last (λ condition. AllPass index (λ rows. is_met rows condition) docs)
-    → NarrowsAll index is_met (drop (i + 1) xs) docs xs ids × IfSome last (λ condition. AllPass index (λ rows. is_met rows condition) docs)
-each_passed index xs i x None docs ids inside is implied invariant = absurd implied
-each_passed index xs i x (Some other) docs ids inside is implied invariant = (
-  all_passed index is_met xs i x docs ids inside is
-      (pass_weaker index (λ rows. is_met rows other) (λ rows. is_met rows x) docs implied invariant.1) invariant.0,
+    → NarrowsAll facets is_met (drop i xs) docs xs ids × IfSome last (λ condition. AllPass facets (λ rows. is_met rows condition) docs)
+    → NarrowsAll facets is_met (drop (i + 1) xs) docs xs ids × IfSome last (λ condition. AllPass facets (λ rows. is_met rows condition) docs)
+each_passed facets xs i x None docs ids inside is implied invariant = absurd implied
+each_passed facets xs i x (Some other) docs ids inside is implied invariant = (
+  all_passed facets is_met xs i x docs ids inside is
+      (pass_weaker facets (λ rows. is_met rows other) (λ rows. is_met rows x) docs implied invariant.1) invariant.0,
   invariant.1,
 )
 
-pub one_passed : (index : PostingsView) (xs : List Condition) (i : ℕ) (x : Condition) (last : Option Condition) (found ids : List ℕ)
+pub one_passed : (facets : Facets) (xs : List Condition) (i : ℕ) (x : Condition) (last : Option Condition) (found ids : List ℕ)
     → i < length xs → x ≡ get_or xs i x → IsSomeAnd last (λ other. Implies x other)
-    → AddsAny index is_met (drop i xs) found xs ids × IfSome last (λ condition. AreFound index (λ rows. is_met rows condition) found ids)
-    → AddsAny index is_met (drop (i + 1) xs) found xs ids × IfSome last (λ condition. AreFound index (λ rows. is_met rows condition) found ids)
-one_passed index xs i x None found ids inside is implies invariant = absurd implies
-one_passed index xs i x (Some other) found ids inside is implies invariant = (
-  any_passed index is_met xs i x found ids inside is
+    → AddsAny facets is_met (drop i xs) found xs ids × IfSome last (λ condition. AreFound facets (λ rows. is_met rows condition) found ids)
+    → AddsAny facets is_met (drop (i + 1) xs) found xs ids × IfSome last (λ condition. AreFound facets (λ rows. is_met rows condition) found ids)
+one_passed facets xs i x None found ids inside is implies invariant = absurd implies
+one_passed facets xs i x (Some other) found ids inside is implies invariant = (
+  any_passed facets is_met xs i x found ids inside is
       (λ documents rows of are d met there. invariant.1 documents rows of are d (implies (rows d) met) there) invariant.0,
   invariant.1,
 )
 
-pub each_answer : {E : Type 0} (index : PostingsView) (xs ys zs : List Condition) (ids : List ℕ) → zs ≡ ys → IsPermutation xs ys → (r : Result SetView E)
-    → IfOk r (λ docs. Selects index (λ rows. list_all (is_met rows) zs) ids docs.ids) → IfOk r (λ docs. Selects index (λ rows. list_all (is_met rows) xs) ids docs.ids)
-each_answer index xs ys zs ids same moved (Ok docs) h = selects_same index (λ rows. list_all (is_met rows) zs) (λ rows. list_all (is_met rows) xs) ids docs.ids
+pub each_answer : {E : Type 0} (facets : Facets) (xs ys zs : List Condition) (ids : List ℕ) → zs ≡ ys → IsPermutation xs ys → (r : Result SetView E)
+    → IfOk r (λ docs. Selects facets (λ rows. list_all (is_met rows) zs) ids docs.ids) → IfOk r (λ docs. Selects facets (λ rows. list_all (is_met rows) xs) ids docs.ids)
+each_answer facets xs ys zs ids same moved (Ok docs) h = selects_same facets (λ rows. list_all (is_met rows) zs) (λ rows. list_all (is_met rows) xs) ids docs.ids
     (λ rows. ap (list_all (is_met rows)) same ∙ all_moved (is_met rows) xs ys moved) h
-each_answer index xs ys zs ids same moved (Err e) h = tt
+each_answer facets xs ys zs ids same moved (Err e) h = tt
 
-pub one_answer : {E : Type 0} (index : PostingsView) (xs ys zs : List Condition) (ids : List ℕ) → zs ≡ ys → IsPermutation xs ys → (r : Result SetView E)
-    → IfOk r (λ docs. Selects index (λ rows. list_any (is_met rows) zs) ids docs.ids) → IfOk r (λ docs. Selects index (λ rows. list_any (is_met rows) xs) ids docs.ids)
-one_answer index xs ys zs ids same moved (Ok docs) h = selects_same index (λ rows. list_any (is_met rows) zs) (λ rows. list_any (is_met rows) xs) ids docs.ids
+pub one_answer : {E : Type 0} (facets : Facets) (xs ys zs : List Condition) (ids : List ℕ) → zs ≡ ys → IsPermutation xs ys → (r : Result SetView E)
+    → IfOk r (λ docs. Selects facets (λ rows. list_any (is_met rows) zs) ids docs.ids) → IfOk r (λ docs. Selects facets (λ rows. list_any (is_met rows) xs) ids docs.ids)
+one_answer facets xs ys zs ids same moved (Ok docs) h = selects_same facets (λ rows. list_any (is_met rows) zs) (λ rows. list_any (is_met rows) xs) ids docs.ids
     (λ rows. ap (list_any (is_met rows)) same ∙ any_moved (is_met rows) xs ys moved) h
-one_answer index xs ys zs ids same moved (Err e) h = tt
+one_answer facets xs ys zs ids same moved (Err e) h = tt
 
-pub one_selected_answer : {E : Type 0} (index : PostingsView) (xs : List Condition) (i : ℕ) (found ids : List ℕ) → length xs ≤ i
-    → AddsAny index is_met (drop i xs) found xs ids → (r : Result SetView E)
+pub one_selected_answer : {E : Type 0} (facets : Facets) (xs : List Condition) (i : ℕ) (found ids : List ℕ) → length xs ≤ i
+    → AddsAny facets is_met (drop i xs) found xs ids → (r : Result SetView E)
     → IfOk r (λ docs. (passes : ℕ → Bool) → ((d : ℕ) → has found d ≡ (passes d && has ids d)) → docs.ids ≡ filter passes ids)
-    → IfOk r (λ docs. Selects index (λ rows. list_any (is_met rows) xs) ids docs.ids)
-one_selected_answer index xs i found ids past adds (Ok docs) h = any_selected index is_met xs i found docs.ids ids past adds h
-one_selected_answer index xs i found ids past adds (Err e) h = tt
+    → IfOk r (λ docs. Selects facets (λ rows. list_any (is_met rows) xs) ids docs.ids)
+one_selected_answer facets xs i found ids past adds (Ok docs) h = any_selected facets is_met xs i found docs.ids ids past adds h
+one_selected_answer facets xs i found ids past adds (Err e) h = tt

@@ -12,11 +12,10 @@ use Rattle.filter_tree.specs.declared.tree.Filter.TheVariants as filter
 use Rattle.filter_tree.specs.Tree.{Tree, Trees, all, no_trees, tree, trees_of}
 use Rattle.filter_tree.specs.View.{view, view_step}
 use Rattle.row_filter.specs.Holds.{holds, all_hold, one_holds}
-use Rattle.postings.specs.Dictionary.{PostingsView}
 use Rattle.facet_index.specs.LeavesView.{LeavesView}
-use Rattle.facet_index.specs.Places.{IsIndexOf}
+use Rattle.filter_sets.specs.declared.source.Facets.{Facets}
 use Rattle.filter_sets.specs.declared.conditions.Condition.{Condition}
-use Rattle.filter_sets.specs.Selects.{AreRowsOf, Selects}
+use Rattle.filter_sets.specs.Selects.{AreFacetsOf, AreRowsOf, Selects}
 use Rattle.filter_sets.specs.Conditions.{is_met}
 use Rattle.filter_sets.proofs.JoinLemmas.{filter_twice, filter_all, one_more}
 use Rattle.filter_sets.proofs.SweepLemmas.{all_pushed, any_pushed}
@@ -45,14 +44,14 @@ no_more members i past = ap (λ fs. trees_of (map view fs)) (none members i past
     none (f ∷ fs) (suc n) h = none fs n (omega arith)
 
 -- what is left, and the conditions that are not asked yet, narrow the documents as all members do
-abbrev pub Narrows : PostingsView → List (List ℕ) → Trees → List Condition → List ℕ → Trees → List ℕ → Type 0
-Narrows index paths left conditions docs members ids = (documents : List LeavesView) (rows : ℕ → RowsView) → IsIndexOf index documents → AreRowsOf rows documents
+abbrev pub Narrows : Facets → List (List ℕ) → Trees → List Condition → List ℕ → Trees → List ℕ → Type 0
+Narrows facets paths left conditions docs members ids = (documents : List LeavesView) (rows : ℕ → RowsView) → AreFacetsOf facets documents → AreRowsOf rows documents
     → filter (λ d. all_hold paths (rows d) left && list_all (is_met (rows d)) conditions) docs ≡ filter (λ d. all_hold paths (rows d) members) ids
 
-pub narrower : (index : PostingsView) (paths : List (List ℕ)) (members : List Filter) (i : ℕ) (member : Filter) (conditions : List Condition) (docs more ids : List ℕ) (whole : Trees)
-    → i < length members → member ≡ get_or members i member → Selects index (λ rows. holds paths rows (view member)) docs more
-    → Narrows index paths (trees_from i members) conditions docs whole ids → Narrows index paths (trees_from (i + 1) members) conditions more whole ids
-narrower index paths members i member conditions docs more ids whole inside is selects narrows = λ documents rows of are.
+pub narrower : (facets : Facets) (paths : List (List ℕ)) (members : List Filter) (i : ℕ) (member : Filter) (conditions : List Condition) (docs more ids : List ℕ) (whole : Trees)
+    → i < length members → member ≡ get_or members i member → Selects facets (λ rows. holds paths rows (view member)) docs more
+    → Narrows facets paths (trees_from i members) conditions docs whole ids → Narrows facets paths (trees_from (i + 1) members) conditions more whole ids
+narrower facets paths members i member conditions docs more ids whole inside is selects narrows = λ documents rows of are.
     ap (filter (λ d. all_hold paths (rows d) (trees_from (i + 1) members) && list_all (is_met (rows d)) conditions)) (selects documents rows of are)
     ∙ filter_twice (λ d. all_hold paths (rows d) (trees_from (i + 1) members) && list_all (is_met (rows d)) conditions) (λ d. holds paths (rows d) (view member)) docs
     ∙ filter_same (λ d. holds paths (rows d) (view member) && (all_hold paths (rows d) (trees_from (i + 1) members) && list_all (is_met (rows d)) conditions))
@@ -66,11 +65,11 @@ narrower index paths members i member conditions docs more ids whole inside is s
     and_assoc false r l = refl
 
 -- a member that is a condition is asked later
-pub kept : (index : PostingsView) (paths : List (List ℕ)) (members : List Filter) (i : ℕ) (member : Filter) (conditions more : List Condition) (condition : Condition)
+pub kept : (facets : Facets) (paths : List (List ℕ)) (members : List Filter) (i : ℕ) (member : Filter) (conditions more : List Condition) (condition : Condition)
     → (docs ids : List ℕ) (whole : Trees) → i < length members → member ≡ get_or members i member
     → ((rows : RowsView) → holds paths rows (view member) ≡ is_met rows condition) → more ≡ conditions ++ condition ∷ []
-    → Narrows index paths (trees_from i members) conditions docs whole ids → Narrows index paths (trees_from (i + 1) members) more docs whole ids
-kept index paths members i member conditions more condition docs ids whole inside is says pushed narrows = λ documents rows of are.
+    → Narrows facets paths (trees_from i members) conditions docs whole ids → Narrows facets paths (trees_from (i + 1) members) more docs whole ids
+kept facets paths members i member conditions more condition docs ids whole inside is says pushed narrows = λ documents rows of are.
     filter_same (λ d. all_hold paths (rows d) (trees_from (i + 1) members) && list_all (is_met (rows d)) more)
     (λ d. all_hold paths (rows d) (trees_from i members) && list_all (is_met (rows d)) conditions) docs
     (λ d. ap (λ b. all_hold paths (rows d) (trees_from (i + 1) members) && b)
@@ -88,28 +87,28 @@ kept index paths members i member conditions more condition docs ids whole insid
     by false l true = refl
     by false l false = refl
 
-pub narrowed : (index : PostingsView) (paths : List (List ℕ)) (members : List Filter) (i : ℕ) (conditions : List Condition) (docs more ids : List ℕ) (whole : Trees)
-    → length members ≤ i → Narrows index paths (trees_from i members) conditions docs whole ids
-    → Selects index (λ rows. list_all (is_met rows) conditions) docs more → Selects index (λ rows. all_hold paths rows whole) ids more
-narrowed index paths members i conditions docs more ids whole past narrows selects = λ documents rows of are.
+pub narrowed : (facets : Facets) (paths : List (List ℕ)) (members : List Filter) (i : ℕ) (conditions : List Condition) (docs more ids : List ℕ) (whole : Trees)
+    → length members ≤ i → Narrows facets paths (trees_from i members) conditions docs whole ids
+    → Selects facets (λ rows. list_all (is_met rows) conditions) docs more → Selects facets (λ rows. all_hold paths rows whole) ids more
+narrowed facets paths members i conditions docs more ids whole past narrows selects = λ documents rows of are.
     selects documents rows of are
     ∙ ap (λ ts. filter (λ d. all_hold paths (rows d) ts && list_all (is_met (rows d)) conditions) docs) (sym (no_more members i past)) ∙ narrows documents rows of are
 
-pub narrowed_answer : {E : Type 0} (index : PostingsView) (paths : List (List ℕ)) (members : List Filter) (i : ℕ) (conditions : List Condition) (docs ids : List ℕ) (whole : Trees)
-    → length members ≤ i → Narrows index paths (trees_from i members) conditions docs whole ids → (r : Result SetView E)
-    → IfOk r (λ more. Selects index (λ rows. list_all (is_met rows) conditions) docs more.ids) → IfOk r (λ more. Selects index (λ rows. all_hold paths rows whole) ids more.ids)
-narrowed_answer index paths members i conditions docs ids whole past narrows (Ok more) h = narrowed index paths members i conditions docs more.ids ids whole past narrows h
-narrowed_answer index paths members i conditions docs ids whole past narrows (Err e) h = tt
+pub narrowed_answer : {E : Type 0} (facets : Facets) (paths : List (List ℕ)) (members : List Filter) (i : ℕ) (conditions : List Condition) (docs ids : List ℕ) (whole : Trees)
+    → length members ≤ i → Narrows facets paths (trees_from i members) conditions docs whole ids → (r : Result SetView E)
+    → IfOk r (λ more. Selects facets (λ rows. list_all (is_met rows) conditions) docs more.ids) → IfOk r (λ more. Selects facets (λ rows. all_hold paths rows whole) ids more.ids)
+narrowed_answer facets paths members i conditions docs ids whole past narrows (Ok more) h = narrowed facets paths members i conditions docs more.ids ids whole past narrows h
+narrowed_answer facets paths members i conditions docs ids whole past narrows (Err e) h = tt
 
 -- what is left, and the conditions that are not asked yet, add to the documents that were found as all members do
-abbrev pub Adds : PostingsView → List (List ℕ) → Trees → List Condition → List ℕ → Trees → List ℕ → Type 0
-Adds index paths left conditions found members ids = (documents : List LeavesView) (rows : ℕ → RowsView) → IsIndexOf index documents → AreRowsOf rows documents
+abbrev pub Adds : Facets → List (List ℕ) → Trees → List Condition → List ℕ → Trees → List ℕ → Type 0
+Adds facets paths left conditions found members ids = (documents : List LeavesView) (rows : ℕ → RowsView) → AreFacetsOf facets documents → AreRowsOf rows documents
     → (d : ℕ) → (((one_holds paths (rows d) left || list_any (is_met (rows d)) conditions) && has ids d) || has found d) ≡ (one_holds paths (rows d) members && has ids d)
 
-pub adds_more : AreByMembers → (index : PostingsView) (paths : List (List ℕ)) (members : List Filter) (i : ℕ) (member : Filter) (conditions : List Condition) (docs found more ids : List ℕ) (whole : Trees)
-    → i < length members → member ≡ get_or members i member → Selects index (λ rows. holds paths rows (view member)) ids docs → more ≡ union docs found
-    → Adds index paths (trees_from i members) conditions found whole ids → Adds index paths (trees_from (i + 1) members) conditions more whole ids
-adds_more by_members index paths members i member conditions docs found more ids whole inside is selects made adds = λ documents rows of are d.
+pub adds_more : AreByMembers → (facets : Facets) (paths : List (List ℕ)) (members : List Filter) (i : ℕ) (member : Filter) (conditions : List Condition) (docs found more ids : List ℕ) (whole : Trees)
+    → i < length members → member ≡ get_or members i member → Selects facets (λ rows. holds paths rows (view member)) ids docs → more ≡ union docs found
+    → Adds facets paths (trees_from i members) conditions found whole ids → Adds facets paths (trees_from (i + 1) members) conditions more whole ids
+adds_more by_members facets paths members i member conditions docs found more ids whole inside is selects made adds = λ documents rows of are d.
     ap (λ b. ((one_holds paths (rows d) (trees_from (i + 1) members) || list_any (is_met (rows d)) conditions) && has ids d) || b)
     (ap (λ xs. has xs d) made ∙ by_members.union docs found d
     ∙ ap (λ b. b || has found d) (ap (λ xs. has xs d) (selects documents rows of are) ∙ has_filter (λ e. holds paths (rows e) (view member)) ids d))
@@ -123,11 +122,11 @@ adds_more by_members index paths members i member conditions docs found more ids
     or_assoc true r l = refl
     or_assoc false r l = refl
 
-pub adds_kept : (index : PostingsView) (paths : List (List ℕ)) (members : List Filter) (i : ℕ) (member : Filter) (conditions more : List Condition) (condition : Condition)
+pub adds_kept : (facets : Facets) (paths : List (List ℕ)) (members : List Filter) (i : ℕ) (member : Filter) (conditions more : List Condition) (condition : Condition)
     → (found ids : List ℕ) (whole : Trees) → i < length members → member ≡ get_or members i member
     → ((rows : RowsView) → holds paths rows (view member) ≡ is_met rows condition) → more ≡ conditions ++ condition ∷ []
-    → Adds index paths (trees_from i members) conditions found whole ids → Adds index paths (trees_from (i + 1) members) more found whole ids
-adds_kept index paths members i member conditions more condition found ids whole inside is says pushed adds = λ documents rows of are d.
+    → Adds facets paths (trees_from i members) conditions found whole ids → Adds facets paths (trees_from (i + 1) members) more found whole ids
+adds_kept facets paths members i member conditions more condition found ids whole inside is says pushed adds = λ documents rows of are d.
     ap (λ b. (b && has ids d) || has found d)
     (ap (λ b. one_holds paths (rows d) (trees_from (i + 1) members) || b)
     (ap (list_any (is_met (rows d))) pushed ∙ any_pushed (is_met (rows d)) conditions condition
@@ -144,33 +143,33 @@ adds_kept index paths members i member conditions more condition found ids whole
     by false false true = refl
     by false false false = refl
 
-pub added : AreByMembers → (index : PostingsView) (paths : List (List ℕ)) (members : List Filter) (i : ℕ) (conditions : List Condition) (docs found more those ids : List ℕ) (whole : Trees)
-    → length members ≤ i → Adds index paths (trees_from i members) conditions found whole ids
-    → Selects index (λ rows. list_any (is_met rows) conditions) ids docs → more ≡ union docs found
+pub added : AreByMembers → (facets : Facets) (paths : List (List ℕ)) (members : List Filter) (i : ℕ) (conditions : List Condition) (docs found more those ids : List ℕ) (whole : Trees)
+    → length members ≤ i → Adds facets paths (trees_from i members) conditions found whole ids
+    → Selects facets (λ rows. list_any (is_met rows) conditions) ids docs → more ≡ union docs found
     → ((passes : ℕ → Bool) → ((d : ℕ) → has more d ≡ (passes d && has ids d)) → those ≡ filter passes ids)
-    → Selects index (λ rows. one_holds paths rows whole) ids those
-added by_members index paths members i conditions docs found more those ids whole past adds selects made finish = λ documents rows of are.
+    → Selects facets (λ rows. one_holds paths rows whole) ids those
+added by_members facets paths members i conditions docs found more those ids whole past adds selects made finish = λ documents rows of are.
     finish (λ d. one_holds paths (rows d) whole) (λ d.
     ap (λ xs. has xs d) made ∙ by_members.union docs found d
     ∙ ap (λ b. b || has found d) (ap (λ xs. has xs d) (selects documents rows of are) ∙ has_filter (λ e. list_any (is_met (rows e)) conditions) ids d)
     ∙ ap (λ ts. ((one_holds paths (rows d) ts || list_any (is_met (rows d)) conditions) && has ids d) || has found d) (sym (no_more members i past))
     ∙ adds documents rows of are d)
 
-pub added_answer : {E : Type 0} → AreByMembers → (index : PostingsView) (paths : List (List ℕ)) (members : List Filter) (i : ℕ) (conditions : List Condition) (docs found more ids : List ℕ) (whole : Trees)
-    → length members ≤ i → Adds index paths (trees_from i members) conditions found whole ids
-    → Selects index (λ rows. list_any (is_met rows) conditions) ids docs → more ≡ union docs found → (r : Result SetView E)
+pub added_answer : {E : Type 0} → AreByMembers → (facets : Facets) (paths : List (List ℕ)) (members : List Filter) (i : ℕ) (conditions : List Condition) (docs found more ids : List ℕ) (whole : Trees)
+    → length members ≤ i → Adds facets paths (trees_from i members) conditions found whole ids
+    → Selects facets (λ rows. list_any (is_met rows) conditions) ids docs → more ≡ union docs found → (r : Result SetView E)
     → IfOk r (λ those. (passes : ℕ → Bool) → ((d : ℕ) → has more d ≡ (passes d && has ids d)) → those.ids ≡ filter passes ids)
-    → IfOk r (λ those. Selects index (λ rows. one_holds paths rows whole) ids those.ids)
-added_answer by_members index paths members i conditions docs found more ids whole past adds selects made (Ok those) h =
-    added by_members index paths members i conditions docs found more those.ids ids whole past adds selects made h
-added_answer by_members index paths members i conditions docs found more ids whole past adds selects made (Err e) h = tt
+    → IfOk r (λ those. Selects facets (λ rows. one_holds paths rows whole) ids those.ids)
+added_answer by_members facets paths members i conditions docs found more ids whole past adds selects made (Ok those) h =
+    added by_members facets paths members i conditions docs found more those.ids ids whole past adds selects made h
+added_answer by_members facets paths members i conditions docs found more ids whole past adds selects made (Err e) h = tt
 
 -- ---- the levels of a filter
 
 view_all : view filter.All ≡ all
 view_all = ap view (sym filter.rolls-All) ∙ fold-roll-Filter Tree view_step Filter-F.All
 
-pub all_selected : (index : PostingsView) (paths : List (List ℕ)) (self : Filter) (ids docs : List ℕ) → self ≡ filter.All → docs ≡ ids
-    → Selects index (λ rows. holds paths rows (view self)) ids docs
-all_selected index paths self ids docs is same = λ documents rows of are.
+pub all_selected : (facets : Facets) (paths : List (List ℕ)) (self : Filter) (ids docs : List ℕ) → self ≡ filter.All → docs ≡ ids
+    → Selects facets (λ rows. holds paths rows (view self)) ids docs
+all_selected facets paths self ids docs is same = λ documents rows of are.
     same ∙ sym (ap (λ t. filter (λ d. holds paths (rows d) t) ids) (ap view is ∙ view_all) ∙ filter_all ids)

@@ -6,11 +6,10 @@ use Rattle.std.proofs.lemmas.List.Sorted.{list_any-IsPermutation}
 use Rattle.search_base.specs.RowsView.{RowsView}
 use Rattle.doc_sets.specs.Sets.{has, union}
 use Rattle.doc_sets.specs.Membership.{AreByMembers}
-use Rattle.postings.specs.Dictionary.{PostingsView}
 use Rattle.facet_index.specs.LeavesView.{LeavesView}
-use Rattle.facet_index.specs.Places.{IsIndexOf}
 use Rattle.facet_index.proofs.TestLemmas.{filter_same, has_filter}
-use Rattle.filter_sets.specs.Selects.{AreRowsOf, Selects}
+use Rattle.filter_sets.specs.declared.source.Facets.{Facets}
+use Rattle.filter_sets.specs.Selects.{AreFacetsOf, AreRowsOf, Selects}
 use Rattle.filter_sets.proofs.JoinLemmas.{filter_twice, filter_all, one_more}
 
 -- ---- lists
@@ -85,19 +84,19 @@ filter_weaker p q xs weaker same = ap (filter q) (sym same) ∙ filter_twice q p
 -- ---- one of some
 
 -- what is left adds to the documents that were found as all do
-abbrev pub AddsAny : {X : Type 0} → PostingsView → (RowsView → X → Bool) → List X → List ℕ → List X → List ℕ → Type 0
-AddsAny index p left found whole ids = (documents : List LeavesView) (rows : ℕ → RowsView) → IsIndexOf index documents → AreRowsOf rows documents
+abbrev pub AddsAny : {X : Type 0} → Facets → (RowsView → X → Bool) → List X → List ℕ → List X → List ℕ → Type 0
+AddsAny facets p left found whole ids = (documents : List LeavesView) (rows : ℕ → RowsView) → AreFacetsOf facets documents → AreRowsOf rows documents
     → (d : ℕ) → ((list_any (p (rows d)) left && has ids d) || has found d) ≡ (list_any (p (rows d)) whole && has ids d)
 
 -- the documents that pass were found
-abbrev pub AreFound : PostingsView → (RowsView → Bool) → List ℕ → List ℕ → Type 0
-AreFound index passes found ids = (documents : List LeavesView) (rows : ℕ → RowsView) → IsIndexOf index documents → AreRowsOf rows documents
+abbrev pub AreFound : Facets → (RowsView → Bool) → List ℕ → List ℕ → Type 0
+AreFound facets passes found ids = (documents : List LeavesView) (rows : ℕ → RowsView) → AreFacetsOf facets documents → AreRowsOf rows documents
     → (d : ℕ) → passes (rows d) ≡ true → has ids d ≡ true → has found d ≡ true
 
-pub any_more : AreByMembers → {X : Type 0} (index : PostingsView) (p : RowsView → X → Bool) (xs : List X) (i : ℕ) (x : X) (docs found more ids : List ℕ)
-    → i < length xs → x ≡ get_or xs i x → Selects index (λ rows. p rows x) ids docs → more ≡ union docs found
-    → AddsAny index p (drop i xs) found xs ids → AddsAny index p (drop (i + 1) xs) more xs ids
-any_more by_members index p xs i x docs found more ids inside is selects made adds = λ documents rows of are d.
+pub any_more : AreByMembers → {X : Type 0} (facets : Facets) (p : RowsView → X → Bool) (xs : List X) (i : ℕ) (x : X) (docs found more ids : List ℕ)
+    → i < length xs → x ≡ get_or xs i x → Selects facets (λ rows. p rows x) ids docs → more ≡ union docs found
+    → AddsAny facets p (drop i xs) found xs ids → AddsAny facets p (drop (i + 1) xs) more xs ids
+any_more by_members facets p xs i x docs found more ids inside is selects made adds = λ documents rows of are d.
     ap (λ b. (list_any (p (rows d)) (drop (i + 1) xs) && has ids d) || b)
     (ap (λ ys. has ys d) made ∙ by_members.union docs found d
     ∙ ap (λ b. b || has found d) (ap (λ ys. has ys d) (selects documents rows of are) ∙ has_filter (λ e. p (rows e) x) ids d))
@@ -105,10 +104,10 @@ any_more by_members index p xs i x docs found more ids inside is selects made ad
     ∙ ap (λ ys. (list_any (p (rows d)) ys && has ids d) || has found d) (rest_from xs i x inside is) ∙ adds documents rows of are d
 
 -- one whose documents were found need not be asked
-pub any_passed : {X : Type 0} (index : PostingsView) (p : RowsView → X → Bool) (xs : List X) (i : ℕ) (x : X) (found ids : List ℕ)
-    → i < length xs → x ≡ get_or xs i x → AreFound index (λ rows. p rows x) found ids
-    → AddsAny index p (drop i xs) found xs ids → AddsAny index p (drop (i + 1) xs) found xs ids
-any_passed index p xs i x found ids inside is there adds = λ documents rows of are d.
+pub any_passed : {X : Type 0} (facets : Facets) (p : RowsView → X → Bool) (xs : List X) (i : ℕ) (x : X) (found ids : List ℕ)
+    → i < length xs → x ≡ get_or xs i x → AreFound facets (λ rows. p rows x) found ids
+    → AddsAny facets p (drop i xs) found xs ids → AddsAny facets p (drop (i + 1) xs) found xs ids
+any_passed facets p xs i x found ids inside is there adds = λ documents rows of are d.
     covered (p (rows d) x) (list_any (p (rows d)) (drop (i + 1) xs)) (has ids d) (has found d) (there documents rows of are d)
     ∙ ap (λ ys. (list_any (p (rows d)) ys && has ids d) || has found d) (rest_from xs i x inside is) ∙ adds documents rows of are d
   where
@@ -117,56 +116,56 @@ any_passed index p xs i x found ids inside is there adds = λ documents rows of 
     covered true r false f k = ap (λ b. b || f) (and_false r)
     covered false r h f k = refl
 
-pub found_now : AreByMembers → (index : PostingsView) (passes : RowsView → Bool) (docs found more ids : List ℕ)
-    → Selects index passes ids docs → more ≡ union docs found → AreFound index passes more ids
-found_now by_members index passes docs found more ids selects made = λ documents rows of are d met inside.
+pub found_now : AreByMembers → (facets : Facets) (passes : RowsView → Bool) (docs found more ids : List ℕ)
+    → Selects facets passes ids docs → more ≡ union docs found → AreFound facets passes more ids
+found_now by_members facets passes docs found more ids selects made = λ documents rows of are d met inside.
     ap (λ ys. has ys d) made ∙ by_members.union docs found d
     ∙ ap (λ b. b || has found d) (ap (λ ys. has ys d) (selects documents rows of are) ∙ has_filter (λ e. passes (rows e)) ids d ∙ ap₂ (λ a b. a && b) met inside)
 
-pub still_found : AreByMembers → (index : PostingsView) (passes : RowsView → Bool) (docs found more ids : List ℕ)
-    → more ≡ union docs found → AreFound index passes found ids → AreFound index passes more ids
-still_found by_members index passes docs found more ids made there = λ documents rows of are d met inside.
+pub still_found : AreByMembers → (facets : Facets) (passes : RowsView → Bool) (docs found more ids : List ℕ)
+    → more ≡ union docs found → AreFound facets passes found ids → AreFound facets passes more ids
+still_found by_members facets passes docs found more ids made there = λ documents rows of are d met inside.
     ap (λ ys. has ys d) made ∙ by_members.union docs found d ∙ ap (λ b. has docs d || b) (there documents rows of are d met inside) ∙ or_true (has docs d)
 
-pub any_selected : {X : Type 0} (index : PostingsView) (p : RowsView → X → Bool) (xs : List X) (i : ℕ) (found docs ids : List ℕ) → length xs ≤ i
-    → AddsAny index p (drop i xs) found xs ids
+pub any_selected : {X : Type 0} (facets : Facets) (p : RowsView → X → Bool) (xs : List X) (i : ℕ) (found docs ids : List ℕ) → length xs ≤ i
+    → AddsAny facets p (drop i xs) found xs ids
     → ((passes : ℕ → Bool) → ((d : ℕ) → has found d ≡ (passes d && has ids d)) → docs ≡ filter passes ids)
-    → Selects index (λ rows. list_any (p rows) xs) ids docs
-any_selected index p xs i found docs ids past adds finish = λ documents rows of are.
+    → Selects facets (λ rows. list_any (p rows) xs) ids docs
+any_selected facets p xs i found docs ids past adds finish = λ documents rows of are.
     finish (λ d. list_any (p (rows d)) xs) (λ d.
     ap (λ ys. (list_any (p (rows d)) ys && has ids d) || has found d) (sym (no_rest xs i past)) ∙ adds documents rows of are d)
 
 -- ---- each of some
 
 -- what is left narrows the documents as all do
-abbrev pub NarrowsAll : {X : Type 0} → PostingsView → (RowsView → X → Bool) → List X → List ℕ → List X → List ℕ → Type 0
-NarrowsAll index p left docs whole ids = (documents : List LeavesView) (rows : ℕ → RowsView) → IsIndexOf index documents → AreRowsOf rows documents
+abbrev pub NarrowsAll : {X : Type 0} → Facets → (RowsView → X → Bool) → List X → List ℕ → List X → List ℕ → Type 0
+NarrowsAll facets p left docs whole ids = (documents : List LeavesView) (rows : ℕ → RowsView) → AreFacetsOf facets documents → AreRowsOf rows documents
     → filter (λ d. list_all (p (rows d)) left) docs ≡ filter (λ d. list_all (p (rows d)) whole) ids
 
 -- all the documents pass
-abbrev pub AllPass : PostingsView → (RowsView → Bool) → List ℕ → Type 0
-AllPass index passes docs = (documents : List LeavesView) (rows : ℕ → RowsView) → IsIndexOf index documents → AreRowsOf rows documents
+abbrev pub AllPass : Facets → (RowsView → Bool) → List ℕ → Type 0
+AllPass facets passes docs = (documents : List LeavesView) (rows : ℕ → RowsView) → AreFacetsOf facets documents → AreRowsOf rows documents
     → filter (λ d. passes (rows d)) docs ≡ docs
 
-pub all_narrower : {X : Type 0} (index : PostingsView) (p : RowsView → X → Bool) (xs : List X) (i : ℕ) (x : X) (docs more ids : List ℕ)
-    → i < length xs → x ≡ get_or xs i x → Selects index (λ rows. p rows x) docs more
-    → NarrowsAll index p (drop i xs) docs xs ids → NarrowsAll index p (drop (i + 1) xs) more xs ids
-all_narrower index p xs i x docs more ids inside is selects narrows = λ documents rows of are.
+pub all_narrower : {X : Type 0} (facets : Facets) (p : RowsView → X → Bool) (xs : List X) (i : ℕ) (x : X) (docs more ids : List ℕ)
+    → i < length xs → x ≡ get_or xs i x → Selects facets (λ rows. p rows x) docs more
+    → NarrowsAll facets p (drop i xs) docs xs ids → NarrowsAll facets p (drop (i + 1) xs) more xs ids
+all_narrower facets p xs i x docs more ids inside is selects narrows = λ documents rows of are.
     ap (filter (λ d. list_all (p (rows d)) (drop (i + 1) xs))) (selects documents rows of are)
     ∙ filter_twice (λ d. list_all (p (rows d)) (drop (i + 1) xs)) (λ d. p (rows d) x) docs
     ∙ ap (λ ys. filter (λ d. list_all (p (rows d)) ys) docs) (rest_from xs i x inside is) ∙ narrows documents rows of are
 
 -- one that all the documents pass need not be asked
-pub all_passed : {X : Type 0} (index : PostingsView) (p : RowsView → X → Bool) (xs : List X) (i : ℕ) (x : X) (docs ids : List ℕ)
-    → i < length xs → x ≡ get_or xs i x → AllPass index (λ rows. p rows x) docs
-    → NarrowsAll index p (drop i xs) docs xs ids → NarrowsAll index p (drop (i + 1) xs) docs xs ids
-all_passed index p xs i x docs ids inside is pass narrows = λ documents rows of are.
+pub all_passed : {X : Type 0} (facets : Facets) (p : RowsView → X → Bool) (xs : List X) (i : ℕ) (x : X) (docs ids : List ℕ)
+    → i < length xs → x ≡ get_or xs i x → AllPass facets (λ rows. p rows x) docs
+    → NarrowsAll facets p (drop i xs) docs xs ids → NarrowsAll facets p (drop (i + 1) xs) docs xs ids
+all_passed facets p xs i x docs ids inside is pass narrows = λ documents rows of are.
     ap (filter (λ d. list_all (p (rows d)) (drop (i + 1) xs))) (sym (pass documents rows of are))
     ∙ filter_twice (λ d. list_all (p (rows d)) (drop (i + 1) xs)) (λ d. p (rows d) x) docs
     ∙ ap (λ ys. filter (λ d. list_all (p (rows d)) ys) docs) (rest_from xs i x inside is) ∙ narrows documents rows of are
 
-pub pass_now : (index : PostingsView) (passes : RowsView → Bool) (docs more : List ℕ) → Selects index passes docs more → AllPass index passes more
-pass_now index passes docs more selects = λ documents rows of are.
+pub pass_now : (facets : Facets) (passes : RowsView → Bool) (docs more : List ℕ) → Selects facets passes docs more → AllPass facets passes more
+pass_now facets passes docs more selects = λ documents rows of are.
     ap (filter (λ d. passes (rows d))) (selects documents rows of are) ∙ filter_twice (λ d. passes (rows d)) (λ d. passes (rows d)) docs
     ∙ filter_same (λ d. passes (rows d) && passes (rows d)) (λ d. passes (rows d)) docs (λ d. by (passes (rows d))) ∙ sym (selects documents rows of are)
   where
@@ -174,12 +173,12 @@ pass_now index passes docs more selects = λ documents rows of are.
     by true = refl
     by false = refl
 
-pub pass_weaker : (index : PostingsView) (passes other : RowsView → Bool) (docs : List ℕ) → ((rows : RowsView) → passes rows ≡ true → other rows ≡ true)
-    → AllPass index passes docs → AllPass index other docs
-pass_weaker index passes other docs weaker pass = λ documents rows of are.
+pub pass_weaker : (facets : Facets) (passes other : RowsView → Bool) (docs : List ℕ) → ((rows : RowsView) → passes rows ≡ true → other rows ≡ true)
+    → AllPass facets passes docs → AllPass facets other docs
+pass_weaker facets passes other docs weaker pass = λ documents rows of are.
     filter_weaker (λ d. passes (rows d)) (λ d. other (rows d)) docs (λ d. weaker (rows d)) (pass documents rows of are)
 
-pub all_narrowed : {X : Type 0} (index : PostingsView) (p : RowsView → X → Bool) (xs : List X) (i : ℕ) (docs ids : List ℕ) → length xs ≤ i
-    → NarrowsAll index p (drop i xs) docs xs ids → Selects index (λ rows. list_all (p rows) xs) ids docs
-all_narrowed index p xs i docs ids past narrows = λ documents rows of are.
+pub all_narrowed : {X : Type 0} (facets : Facets) (p : RowsView → X → Bool) (xs : List X) (i : ℕ) (docs ids : List ℕ) → length xs ≤ i
+    → NarrowsAll facets p (drop i xs) docs xs ids → Selects facets (λ rows. list_all (p rows) xs) ids docs
+all_narrowed facets p xs i docs ids past narrows = λ documents rows of are.
     sym (filter_all docs) ∙ ap (λ ys. filter (λ d. list_all (p (rows d)) ys) docs) (sym (no_rest xs i past)) ∙ narrows documents rows of are

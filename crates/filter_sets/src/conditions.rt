@@ -10,9 +10,9 @@ ghost use Rattle.filter_sets.specs.Selects.{Selects};
 ghost use Rattle.filter_sets.specs.Conditions.{is_met, Implies};
 
 use crate::join::finish;
+use crate::source::Facets;
 use crate::test::select_at;
 use doc_sets::{DocSet, DocSetBuilder, operations_are_on_members};
-use facet_index::FacetIndex;
 use filter_tree::{Filter, Test};
 use search_base::{NoMemory, PathId, Word};
 use std::alloc::Global;
@@ -62,26 +62,26 @@ fn number_named(paths: &[Word], name: &Word) -> Option<usize>
 /// implies stands behind it and is not asked.
 pub(crate) fn each_met(
     alloc: Global,
-    index: &FacetIndex,
+    facets: &Facets<'_>,
     mut conditions: Vec<Condition<'_>>,
     all: &DocSet,
 ) -> Result<DocSet, NoMemory>
     ensures { IfOk result (λ docs.
-        Selects index.now (λ rows. list_all (is_met rows) conditions.entry.items) all.now.ids docs.ids) }
+        Selects facets.now (λ rows. list_all (is_met rows) conditions.entry.items) all.now.ids docs.ids) }
 {
     conditions.sort_by(|a, b| strongest_first(a, b))?;
-    narrowed(alloc, index, conditions.as_slice(), all)
+    narrowed(alloc, facets, conditions.as_slice(), all)
 }
 
 // The same, in the order of the conditions. One that the last that was asked implies is not asked.
 fn narrowed(
     alloc: Global,
-    index: &FacetIndex,
+    facets: &Facets<'_>,
     conditions: &[Condition<'_>],
     all: &DocSet,
 ) -> Result<DocSet, NoMemory>
     ensures { IfOk result (λ docs.
-        Selects index.now (λ rows. list_all (is_met rows) conditions.now) all.now.ids docs.ids) }
+        Selects facets.now (λ rows. list_all (is_met rows) conditions.now) all.now.ids docs.ids) }
 {
     let mut docs = all.clone()?;
     let mut last = None;
@@ -89,7 +89,7 @@ fn narrowed(
         if is_implied_by(condition, last) {
             continue;
         }
-        let fewer = met(alloc, index, condition, &docs)?;
+        let fewer = met(alloc, facets, condition, &docs)?;
         docs = fewer;
         last = Some(*condition);
     }
@@ -100,26 +100,26 @@ fn narrowed(
 /// one stands behind it and is not asked.
 pub(crate) fn one_met(
     alloc: Global,
-    index: &FacetIndex,
+    facets: &Facets<'_>,
     mut conditions: Vec<Condition<'_>>,
     all: &DocSet,
 ) -> Result<DocSet, NoMemory>
     ensures { IfOk result (λ docs.
-        Selects index.now (λ rows. list_any (is_met rows) conditions.entry.items) all.now.ids docs.ids) }
+        Selects facets.now (λ rows. list_any (is_met rows) conditions.entry.items) all.now.ids docs.ids) }
 {
     conditions.sort_by(|a, b| strongest_first(b, a))?;
-    joined(alloc, index, conditions.as_slice(), all)
+    joined(alloc, facets, conditions.as_slice(), all)
 }
 
 // The same, in the order of the conditions. One that implies the last that was asked is not asked.
 fn joined(
     alloc: Global,
-    index: &FacetIndex,
+    facets: &Facets<'_>,
     conditions: &[Condition<'_>],
     all: &DocSet,
 ) -> Result<DocSet, NoMemory>
     ensures { IfOk result (λ docs.
-        Selects index.now (λ rows. list_any (is_met rows) conditions.now) all.now.ids docs.ids) }
+        Selects facets.now (λ rows. list_any (is_met rows) conditions.now) all.now.ids docs.ids) }
 {
     operations_are_on_members();
     let mut found = DocSetBuilder::new(alloc, 0)?;
@@ -128,7 +128,7 @@ fn joined(
         if implies_last(condition, last) {
             continue;
         }
-        let docs = met(alloc, index, condition, all)?;
+        let docs = met(alloc, facets, condition, all)?;
         found.add(&docs)?;
         last = Some(*condition);
     }
@@ -138,13 +138,13 @@ fn joined(
 // The documents of a set that meet a condition.
 fn met(
     alloc: Global,
-    index: &FacetIndex,
+    facets: &Facets<'_>,
     condition: &Condition<'_>,
     all: &DocSet,
 ) -> Result<DocSet, NoMemory>
-    ensures { IfOk result (λ docs. Selects index.now (λ rows. is_met rows condition.now) all.now.ids docs.ids) }
+    ensures { IfOk result (λ docs. Selects facets.now (λ rows. is_met rows condition.now) all.now.ids docs.ids) }
 {
-    select_at(alloc, index, condition.path, condition.test, all)
+    select_at(alloc, facets, condition.path, condition.test, all)
 }
 
 // Where true, what meets the last condition, which there is, meets the condition.
@@ -193,15 +193,17 @@ fn test_implies(test: &Test, other: &Test) -> bool
     }
 }
 
-// An order in which the conditions of one path and kind stand in a row, those first that others follow from. It decides
-// which conditions are asked and not what is found.
+// An order in which the conditions of one kind and path stand in a row, those first that others follow from, and ranges
+// behind what a list answers. It decides which conditions are asked and not what is found.
 fn strongest_first(condition: &Condition<'_>, other: &Condition<'_>) -> Ordering {
-    match condition.path.cmp(&other.path) {
+    let (kind, next) = (kind_of(condition.test), kind_of(other.test));
+    match kind.cmp(&next).then(condition.path.cmp(&other.path)) {
         Ordering::Equal => stronger_first(condition.test, other.test),
         order => order,
     }
 }
 
+// The same of two tests of one kind.
 fn stronger_first(test: &Test, other: &Test) -> Ordering {
     match (test, other) {
         (Test::Equal(text), Test::Equal(next)) => text.cmp(next),
@@ -212,22 +214,22 @@ fn stronger_first(test: &Test, other: &Test) -> Ordering {
         (Test::Between(low, high), Test::Between(lower, higher)) => {
             lower.cmp(low).then(high.cmp(higher))
         }
-        _ => kind_of(test).cmp(&kind_of(other)),
+        _ => Ordering::Equal,
     }
 }
 
-// A number for each kind of test.
+// A number for each kind of test, the least for those that one list answers.
 fn kind_of(test: &Test) -> u8 {
     match test {
         Test::Equal(_) => 0,
-        Test::Above(_) => 1,
-        Test::AtLeast(_) => 2,
-        Test::Below(_) => 3,
-        Test::AtMost(_) => 4,
-        Test::Between(_, _) => 5,
-        Test::OneOf(_) => 6,
-        Test::Exists => 7,
-        Test::Null => 8,
-        Test::Empty => 9,
+        Test::Null => 1,
+        Test::Empty => 2,
+        Test::Exists => 3,
+        Test::OneOf(_) => 4,
+        Test::Above(_) => 5,
+        Test::AtLeast(_) => 6,
+        Test::Below(_) => 7,
+        Test::AtMost(_) => 8,
+        Test::Between(_, _) => 9,
     }
 }

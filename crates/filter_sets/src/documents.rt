@@ -6,36 +6,36 @@ ghost use Rattle.filter_sets.specs.Selects.{Selects};
 
 use crate::conditions::{condition_of, each_met, one_met, path_named};
 use crate::join::{except, finish};
+use crate::source::Facets;
 use crate::test::select_test;
 use doc_sets::{DocSet, DocSetBuilder, operations_are_on_members};
-use facet_index::FacetIndex;
 use filter_tree::Filter;
 use search_base::{NoMemory, Word};
 use std::alloc::Global;
 
-/// The documents of a set that pass a filter, in an index with this registry of paths. A negation is the complement
-/// within that set.
+/// The documents of a set that pass a filter, under this registry of paths. A negation is the complement within that
+/// set.
 #[cycle(select)]
 pub fn select(
     alloc: Global,
-    index: &FacetIndex,
+    facets: &Facets<'_>,
     tree: &Filter,
     paths: &[Word],
     all: &DocSet,
 ) -> Result<DocSet, NoMemory>
     requires { length paths.now ≤ 1000 }
-    ensures { IfOk result (λ docs. Selects index.now (λ rows. holds paths.now rows (view tree.now)) all.now.ids docs.ids) }
+    ensures { IfOk result (λ docs. Selects facets.now (λ rows. holds paths.now rows (view tree.now)) all.now.ids docs.ids) }
 {
     match tree {
         Filter::All => Ok(all.clone()?),
-        Filter::And(members) => select_each(alloc, index, members, paths, all),
-        Filter::Or(members) => select_any(alloc, index, members, paths, all),
+        Filter::And(members) => select_each(alloc, facets, members, paths, all),
+        Filter::Or(members) => select_any(alloc, facets, members, paths, all),
         Filter::Not(inner) => {
-            let docs = select(alloc, index, inner, paths, all)?;
+            let docs = select(alloc, facets, inner, paths, all)?;
             except(alloc, all, &docs)
         }
         Filter::Test { attribute, test } => {
-            select_test(alloc, index, path_named(paths, attribute), test, all)
+            select_test(alloc, facets, path_named(paths, attribute), test, all)
         }
     }
 }
@@ -44,14 +44,14 @@ pub fn select(
 #[cycle(select)]
 fn select_each(
     alloc: Global,
-    index: &FacetIndex,
+    facets: &Facets<'_>,
     members: &[Filter],
     paths: &[Word],
     all: &DocSet,
 ) -> Result<DocSet, NoMemory>
     requires { length paths.now ≤ 1000 }
     ensures { IfOk result (λ docs.
-        Selects index.now (λ rows. all_hold paths.now rows (trees_of (map view members.now))) all.now.ids docs.ids) }
+        Selects facets.now (λ rows. all_hold paths.now rows (trees_of (map view members.now))) all.now.ids docs.ids) }
 {
     let mut docs = all.clone()?;
     let mut conditions = Vec::new(alloc);
@@ -60,24 +60,24 @@ fn select_each(
             conditions.push(condition)?;
             continue;
         }
-        let fewer = select(alloc, index, member, paths, &docs)?;
+        let fewer = select(alloc, facets, member, paths, &docs)?;
         docs = fewer;
     }
-    each_met(alloc, index, conditions, &docs)
+    each_met(alloc, facets, conditions, &docs)
 }
 
 // The documents of a set that pass one of some filters.
 #[cycle(select)]
 fn select_any(
     alloc: Global,
-    index: &FacetIndex,
+    facets: &Facets<'_>,
     members: &[Filter],
     paths: &[Word],
     all: &DocSet,
 ) -> Result<DocSet, NoMemory>
     requires { length paths.now ≤ 1000 }
     ensures { IfOk result (λ docs.
-        Selects index.now (λ rows. one_holds paths.now rows (trees_of (map view members.now))) all.now.ids docs.ids) }
+        Selects facets.now (λ rows. one_holds paths.now rows (trees_of (map view members.now))) all.now.ids docs.ids) }
 {
     operations_are_on_members();
     let mut found = DocSetBuilder::new(alloc, 0)?;
@@ -87,10 +87,10 @@ fn select_any(
             conditions.push(condition)?;
             continue;
         }
-        let docs = select(alloc, index, member, paths, all)?;
+        let docs = select(alloc, facets, member, paths, all)?;
         found.add(&docs)?;
     }
-    let meeting = one_met(alloc, index, conditions, all)?;
+    let meeting = one_met(alloc, facets, conditions, all)?;
     found.add(&meeting)?;
     finish(alloc, found, all)
 }

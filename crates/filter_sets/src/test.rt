@@ -8,8 +8,8 @@ ghost use Rattle.facet_index.specs.Documents.{is_same};
 ghost use Rattle.filter_sets.specs.Selects.{Selects, AreBetween};
 
 use crate::join::{either, finish};
+use crate::source::Facets;
 use doc_sets::{DocSet, DocSetBuilder, operations_are_on_members};
-use facet_index::FacetIndex;
 use filter_tree::{Test, whole_number};
 use search_base::{FacetValue, MarkKind, NoMemory, PathId, Word};
 use std::alloc::Global;
@@ -19,16 +19,16 @@ use token_words::normal;
 /// The documents of a set that meet a test at a path; a path that is not there is met by none.
 pub(crate) fn select_test(
     alloc: Global,
-    index: &FacetIndex,
+    facets: &Facets<'_>,
     path: Option<PathId>,
     test: &Test,
     all: &DocSet,
 ) -> Result<DocSet, NoMemory>
     ensures { IfOk result (λ docs.
-        Selects index.now (λ rows. meets_at (test_view test.now) rows (option_map (λ p. p.0) path)) all.now.ids docs.ids) }
+        Selects facets.now (λ rows. meets_at (test_view test.now) rows (option_map (λ p. p.0) path)) all.now.ids docs.ids) }
 {
     match path {
-        Some(path) => select_at(alloc, index, path, test, all),
+        Some(path) => select_at(alloc, facets, path, test, all),
         None => Ok(DocSet::new(alloc)),
     }
 }
@@ -36,57 +36,60 @@ pub(crate) fn select_test(
 /// The documents of a set whose values under a path meet a test.
 pub(crate) fn select_at(
     alloc: Global,
-    index: &FacetIndex,
+    facets: &Facets<'_>,
     path: PathId,
     test: &Test,
     all: &DocSet,
 ) -> Result<DocSet, NoMemory>
-    ensures { IfOk result (λ docs. Selects index.now
+    ensures { IfOk result (λ docs. Selects facets.now
         (λ rows. meets (test_view test.now) (leaves_under path.0 rows.leaves) (marks_under path.0 rows.marks))
         all.now.ids docs.ids) }
 {
     match test {
-        Test::Equal(text) => equal(alloc, index, path, text, all),
-        Test::Above(n) => above(alloc, index, path, n, all),
-        Test::AtLeast(n) => at_least(alloc, index, path, n, all),
-        Test::Below(n) => below(alloc, index, path, n, all),
-        Test::AtMost(n) => at_most(alloc, index, path, n, all),
-        Test::Between(low, high) => between(alloc, index, path, low, high, all),
-        Test::OneOf(texts) => one_of(alloc, index, path, texts.as_slice(), all),
-        Test::Exists => marked(alloc, index, path, MarkKind::Exists, all),
-        Test::Null => marked(alloc, index, path, MarkKind::Null, all),
-        Test::Empty => marked(alloc, index, path, MarkKind::Empty, all),
+        Test::Equal(text) => equal(alloc, facets, path, text, all),
+        Test::Above(n) => above(alloc, facets, path, n, all),
+        Test::AtLeast(n) => at_least(alloc, facets, path, n, all),
+        Test::Below(n) => below(alloc, facets, path, n, all),
+        Test::AtMost(n) => at_most(alloc, facets, path, n, all),
+        Test::Between(low, high) => between(alloc, facets, path, low, high, all),
+        Test::OneOf(texts) => one_of(alloc, facets, path, texts.as_slice(), all),
+        Test::Exists => marked(alloc, facets, path, MarkKind::Exists, all),
+        Test::Null => marked(alloc, facets, path, MarkKind::Null, all),
+        Test::Empty => marked(alloc, facets, path, MarkKind::Empty, all),
     }
 }
 
 // The documents of a set that have a wanted number under a path, where those between two are wanted.
 fn numbers(
     alloc: Global,
-    index: &FacetIndex,
+    facets: &Facets<'_>,
     path: PathId,
     low: i128,
     high: i128,
     all: &DocSet,
 ) -> Result<DocSet, NoMemory>
-    ensures { IfOk result (λ docs. (wanted : ℤ → Bool) → AreBetween low high wanted → Selects index.now
+    ensures { IfOk result (λ docs. (wanted : ℤ → Bool) → AreBetween low high wanted → Selects facets.now
         (λ rows. some_number wanted (leaves_under path.0 rows.leaves)) all.now.ids docs.ids) }
 {
-    index.range(alloc, path, low, high, all)
+    match facets.index.short_range(alloc, path, low, high, all)? {
+        Some(docs) => Ok(docs),
+        None => facets.leaves.between(alloc, path, low, high, all),
+    }
 }
 
 // The documents of a set that have a number above one under a path.
 fn above(
     alloc: Global,
-    index: &FacetIndex,
+    facets: &Facets<'_>,
     path: PathId,
     n: &i128,
     all: &DocSet,
 ) -> Result<DocSet, NoMemory>
-    ensures { IfOk result (λ docs. Selects index.now
+    ensures { IfOk result (λ docs. Selects facets.now
         (λ rows. some_number (λ m. int_lt n.now m) (leaves_under path.0 rows.leaves)) all.now.ids docs.ids) }
 {
     match n.checked_add(1) {
-        Some(low) => numbers(alloc, index, path, low, i128::MAX, all),
+        Some(low) => numbers(alloc, facets, path, low, i128::MAX, all),
         None => Ok(DocSet::new(alloc)),
     }
 }
@@ -94,30 +97,30 @@ fn above(
 // The documents of a set that have a number from one on under a path.
 fn at_least(
     alloc: Global,
-    index: &FacetIndex,
+    facets: &Facets<'_>,
     path: PathId,
     n: &i128,
     all: &DocSet,
 ) -> Result<DocSet, NoMemory>
-    ensures { IfOk result (λ docs. Selects index.now
+    ensures { IfOk result (λ docs. Selects facets.now
         (λ rows. some_number (λ m. not (int_lt m n.now)) (leaves_under path.0 rows.leaves)) all.now.ids docs.ids) }
 {
-    numbers(alloc, index, path, *n, i128::MAX, all)
+    numbers(alloc, facets, path, *n, i128::MAX, all)
 }
 
 // The documents of a set that have a number below one under a path.
 fn below(
     alloc: Global,
-    index: &FacetIndex,
+    facets: &Facets<'_>,
     path: PathId,
     n: &i128,
     all: &DocSet,
 ) -> Result<DocSet, NoMemory>
-    ensures { IfOk result (λ docs. Selects index.now
+    ensures { IfOk result (λ docs. Selects facets.now
         (λ rows. some_number (λ m. int_lt m n.now) (leaves_under path.0 rows.leaves)) all.now.ids docs.ids) }
 {
     match n.checked_sub(1) {
-        Some(high) => numbers(alloc, index, path, i128::MIN, high, all),
+        Some(high) => numbers(alloc, facets, path, i128::MIN, high, all),
         None => Ok(DocSet::new(alloc)),
     }
 }
@@ -125,76 +128,76 @@ fn below(
 // The documents of a set that have a number up to one under a path.
 fn at_most(
     alloc: Global,
-    index: &FacetIndex,
+    facets: &Facets<'_>,
     path: PathId,
     n: &i128,
     all: &DocSet,
 ) -> Result<DocSet, NoMemory>
-    ensures { IfOk result (λ docs. Selects index.now
+    ensures { IfOk result (λ docs. Selects facets.now
         (λ rows. some_number (λ m. not (int_lt n.now m)) (leaves_under path.0 rows.leaves)) all.now.ids docs.ids) }
 {
-    numbers(alloc, index, path, i128::MIN, *n, all)
+    numbers(alloc, facets, path, i128::MIN, *n, all)
 }
 
 // The documents of a set that have a number between two under a path, both among them.
 fn between(
     alloc: Global,
-    index: &FacetIndex,
+    facets: &Facets<'_>,
     path: PathId,
     low: &i128,
     high: &i128,
     all: &DocSet,
 ) -> Result<DocSet, NoMemory>
-    ensures { IfOk result (λ docs. Selects index.now
+    ensures { IfOk result (λ docs. Selects facets.now
         (λ rows. some_number (λ m. not (int_lt m low.now) && not (int_lt high.now m)) (leaves_under path.0 rows.leaves)) all.now.ids docs.ids) }
 {
-    numbers(alloc, index, path, *low, *high, all)
+    numbers(alloc, facets, path, *low, *high, all)
 }
 
 // The documents of a set that have a mark of a kind under a path.
 fn marked(
     alloc: Global,
-    index: &FacetIndex,
+    facets: &Facets<'_>,
     path: PathId,
     kind: MarkKind,
     all: &DocSet,
 ) -> Result<DocSet, NoMemory>
     ensures { IfOk result (λ docs.
-        Selects index.now (λ rows. has_mark kind (marks_under path.0 rows.marks)) all.now.ids docs.ids) }
+        Selects facets.now (λ rows. has_mark kind (marks_under path.0 rows.marks)) all.now.ids docs.ids) }
 {
-    index.marked(alloc, path, kind, all)
+    facets.index.marked(alloc, path, kind, all)
 }
 
 // The documents of a set that have a value under a path.
 fn valued(
     alloc: Global,
-    index: &FacetIndex,
+    facets: &Facets<'_>,
     path: PathId,
     value: &FacetValue,
     all: &DocSet,
 ) -> Result<DocSet, NoMemory>
     ensures { IfOk result (λ docs.
-        Selects index.now (λ rows. some_value (is_same value.now) (leaves_under path.0 rows.leaves)) all.now.ids docs.ids) }
+        Selects facets.now (λ rows. some_value (is_same value.now) (leaves_under path.0 rows.leaves)) all.now.ids docs.ids) }
 {
-    index.equal(alloc, path, value, all)
+    facets.index.equal(alloc, path, value, all)
 }
 
 // The documents of a set that have a value equal to a text under a path: the number that it writes, or its normal form.
 fn equal(
     alloc: Global,
-    index: &FacetIndex,
+    facets: &Facets<'_>,
     path: PathId,
     text: &Word,
     all: &DocSet,
 ) -> Result<DocSet, NoMemory>
     ensures { IfOk result (λ docs.
-        Selects index.now (λ rows. some_value (is_equal text.now) (leaves_under path.0 rows.leaves)) all.now.ids docs.ids) }
+        Selects facets.now (λ rows. some_value (is_equal text.now) (leaves_under path.0 rows.leaves)) all.now.ids docs.ids) }
 {
     let form = FacetValue::Text(normal(alloc, text.as_str())?);
-    let docs = valued(alloc, index, path, &form, all)?;
+    let docs = valued(alloc, facets, path, &form, all)?;
     match whole_number(text.as_str()) {
         Some(number) => {
-            let more = valued(alloc, index, path, &FacetValue::Number(number), all)?;
+            let more = valued(alloc, facets, path, &FacetValue::Number(number), all)?;
             either(alloc, &docs, &more, all)
         }
         None => Ok(docs),
@@ -204,12 +207,12 @@ fn equal(
 // The documents of a set that have a value equal to one of some texts under a path.
 fn one_of(
     alloc: Global,
-    index: &FacetIndex,
+    facets: &Facets<'_>,
     path: PathId,
     texts: &[Word],
     all: &DocSet,
 ) -> Result<DocSet, NoMemory>
-    ensures { IfOk result (λ docs. Selects index.now
+    ensures { IfOk result (λ docs. Selects facets.now
         (λ rows. list_any (λ text. some_value (is_equal text) (leaves_under path.0 rows.leaves)) texts.now)
         all.now.ids docs.ids) }
 {
@@ -220,7 +223,7 @@ fn one_of(
         if asked.contains(text) {
             continue;
         }
-        let docs = equal(alloc, index, path, text, all)?;
+        let docs = equal(alloc, facets, path, text, all)?;
         found.add(&docs)?;
         asked.insert(text.clone()?)?;
     }

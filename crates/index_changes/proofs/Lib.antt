@@ -17,3 +17,4 @@ pub mod AsTheyCame
 pub mod Gathering
 pub mod Batching
 pub mod Admitted
+pub mod Noting

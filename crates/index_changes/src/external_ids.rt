@@ -1,16 +1,18 @@
-ghost use Rattle.std.specs.Prelude.{◌≡◌, IfOk};
+ghost use Rattle.std.specs.Prelude.{◌≡◌, List, IfOk};
 ghost use Rattle.std.specs.Option.{option_copied};
 ghost use Rattle.search_base.specs.Gives.{Gives};
 ghost use Rattle.search_base.specs.Trying.{refused_as};
+ghost use Rattle.doc_store.specs.Admitting.{IsAdmitting, IsNoted};
 ghost use Rattle.doc_store.specs.Store.{externals};
+ghost use Rattle.doc_store.specs.declared.rows.StoreRow.{StoreRow as Row};
 ghost use Rattle.doc_values.specs.Ids.{external_id_of};
 ghost use Rattle.index_changes.specs.Keyed.{AreReadBack};
 ghost use Rattle.index_changes.specs.Refusals.{id_refusal};
 ghost use Rattle.index_changes.specs.Plans.{rows_for as rows_of_change, rows_under as rows_from};
 
 use crate::refusal::{CoreFault, CoreRefusal};
-use doc_store::StoreRow;
-use doc_values::{DocumentText, IdRefusal, external_id};
+use doc_store::{Admitting, DocStore, NewPaths, StoreRow};
+use doc_values::{Document, DocumentText, IdRefusal, external_id};
 use search_base::{Fault, NoMemory, Word};
 use std::alloc::Global;
 
@@ -52,17 +54,70 @@ fn rows_under(
     Ok(rows)
 }
 
-/// The external id of the document at a place, which is read back from its text and let go at once.
-pub(crate) fn id_at(
+/// The same documents, each read once, with the paths that the store gains by them behind those that were admitted.
+pub(crate) fn rows_noted(
     alloc: Global,
-    text: &DocumentText,
+    store: &DocStore,
+    admitting: &Admitting,
+    key: Option<&Word>,
+    documents: Vec<DocumentText>,
+) -> Result<(Vec<StoreRow>, NewPaths), CoreFault>
+    requires { (before : List Row) × IsAdmitting store.now.ids store.now.content before admitting.now }
+    ensures rows { Gives (λ read. read.0.items) result (rows_of_change (option_copied key.entry) documents.items) }
+    ensures back { IfOk result (λ read. AreReadBack read.0.items) }
+    ensures noted { IfOk result (λ read. IsNoted store.now.content admitting.now read.0.items read.1) }
+{
+    match key {
+        Some(key) => rows_noted_under(alloc, store, admitting, key.as_str(), documents),
+        None => Ok((Vec::new(alloc), admitting.new_paths(alloc))),
+    }
+}
+
+fn rows_noted_under(
+    alloc: Global,
+    store: &DocStore,
+    admitting: &Admitting,
     key: &str,
-    place: u32,
-) -> Result<Word, CoreFault>
+    documents: Vec<DocumentText>,
+) -> Result<(Vec<StoreRow>, NewPaths), CoreFault>
+    requires { (before : List Row) × IsAdmitting store.now.ids store.now.content before admitting.now }
+    ensures rows { Gives (λ read. read.0.items) result (rows_from key.now 1 documents.items) }
+    ensures back { IfOk result (λ read. AreReadBack read.0.items) }
+    ensures noted { IfOk result (λ read. IsNoted store.now.content admitting.now read.0.items read.1) }
+{
+    let mut rows = Vec::with_capacity(alloc, documents.len())?;
+    let mut paths = admitting.new_paths(alloc);
+    let mut before: u32 = 0;
+    for text in documents {
+        if before == u32::MAX {
+            return Err(Fault::NoMemory);
+        }
+        // A document is read back from its text, so that each name stands in it once.
+        let _text = text.text();
+        let document = text.document(alloc)?;
+        let external = id_of(alloc, &document, key, before + 1)?;
+        store.note(alloc, admitting, &document, &mut paths)?;
+        rows.push(StoreRow {
+            external,
+            document: text,
+        })?;
+        before += 1;
+    }
+    Ok((rows, paths))
+}
+
+// The external id of the document at a place, which is read back from its text and let go at once.
+fn id_at(alloc: Global, text: &DocumentText, key: &str, place: u32) -> Result<Word, CoreFault>
     ensures { Gives (λ id. id) result (refused_as (id_refusal place) (external_id_of key.now text.now)) }
 {
     let document = text.document(alloc)?;
-    match external_id(alloc, &document, key) {
+    id_of(alloc, &document, key, place)
+}
+
+fn id_of(alloc: Global, document: &Document, key: &str, place: u32) -> Result<Word, CoreFault>
+    ensures { Gives (λ id. id) result (refused_as (id_refusal place) (external_id_of key.now document.now)) }
+{
+    match external_id(alloc, document, key) {
         Ok(id) => Ok(id),
         Err(Fault::Refused(IdRefusal::MissingId)) => {
             Err(Fault::Refused(CoreRefusal::MissingId { document: place }))

@@ -4,7 +4,7 @@ ghost use Rattle.std.specs.Option.{option_copied, option_map};
 ghost use Rattle.std.specs.Result.{result_err, result_unwrap_or};
 ghost use Rattle.search_base.specs.Gives.{Gives};
 ghost use Rattle.doc_values.specs.Changes.{kind_view};
-ghost use Rattle.doc_store.specs.Admitting.{IsAdmitting};
+ghost use Rattle.doc_store.specs.Admitting.{IsAdmitting, IsNoted};
 ghost use Rattle.doc_store.specs.Sound.{IsSound};
 ghost use Rattle.index_changes.specs.Batches.{AreOf};
 ghost use Rattle.index_changes.specs.Gathering.{IsGathered, Stores, WouldReadBack, documents_in, key_in, planned_rows, rows_in, rows_planned, with_change, with_planned};
@@ -12,10 +12,10 @@ ghost use Rattle.index_changes.specs.Index.{Index};
 ghost use Rattle.index_changes.specs.Keyed.{AreReadBack, HasKey, IsKeyed};
 ghost use Rattle.index_changes.specs.declared.batch.BatchKind.{BatchKind};
 
-use crate::external_ids::rows_for;
+use crate::external_ids::rows_noted;
 use crate::key::{copy_of, key_for};
 use crate::refusal::{CoreFault, CoreRefusal, of_store, refusal_in};
-use doc_store::{Admission, Admitting, DocStore, StoreRow};
+use doc_store::{Admission, Admitting, DocStore, NewPaths, StoreRow};
 use doc_values::{ChangeKind, DocumentText};
 use search_base::{NoMemory, Word};
 use std::alloc::Global;
@@ -41,17 +41,18 @@ struct Gathering {
     admitting: Admitting,
 }
 
-// The documents of a change under the primary key that it leaves.
+// The documents of a change under the primary key that it leaves, and the paths that the store gains by them.
 #[derive(Drop)]
 struct Planned {
     key: Option<Word>,
     rows: Vec<StoreRow>,
+    paths: NewPaths,
 }
 
 /// Tries changes that store documents one after the other, each on what those before it leave: its key, the id of each
 /// document, and then whether the store has an internal id and paths for them. A change that is refused leaves nothing
-/// behind. No stored document is read, and each that comes is walked once, and once more for each refused change
-/// behind it.
+/// behind. No stored document is read, and each that comes is read once, and once more for each change behind it that
+/// the store refuses.
 pub fn gather(
     alloc: Global,
     own: Option<&Word>,
@@ -134,25 +135,29 @@ fn take_documents(
     ensures admitting { OnOk result
         (IsAdmitting store.now.ids store.now.content gathering.new.rows.items gathering.new.admitting) }
 {
-    match plan_documents(alloc, gathering.key.as_ref(), given, documents) {
+    match plan_documents(alloc, store, gathering, given, documents) {
         Ok(planned) => admit(alloc, store, gathering, planned),
         Err(fault) => Ok(Some(refusal_in(fault)?)),
     }
 }
 
-// The documents of a change under the primary key that it leaves.
+// The documents of a change under the primary key that it leaves. Each is read once.
 fn plan_documents(
     alloc: Global,
-    own: Option<&Word>,
+    store: &DocStore,
+    gathering: &Gathering,
     given: Option<Word>,
     documents: Vec<DocumentText>,
 ) -> Result<Planned, CoreFault>
-    ensures planned { Gives planned_rows result (rows_planned (option_copied own.entry) given documents.items) }
+    requires { IsAdmitting store.now.ids store.now.content gathering.now.rows.items gathering.now.admitting }
+    ensures planned { Gives planned_rows result (rows_planned gathering.now.key given documents.items) }
     ensures back { IfOk result (λ planned. AreReadBack planned.rows.items) }
+    ensures noted { IfOk result (λ planned. IsNoted store.now.content gathering.now.admitting
+        planned.rows.items planned.paths) }
 {
-    let key = key_for(alloc, own, given, documents.as_slice())?;
-    let rows = rows_for(alloc, key.as_ref(), documents)?;
-    Ok(Planned { key, rows })
+    let key = key_for(alloc, gathering.key.as_ref(), given, documents.as_slice())?;
+    let (rows, paths) = rows_noted(alloc, store, &gathering.admitting, key.as_ref(), documents)?;
+    Ok(Planned { key, rows, paths })
 }
 
 // Takes the documents of a change, unless the store has no internal id or no path more for them.
@@ -162,7 +167,8 @@ fn admit(
     gathering: &mut Gathering,
     planned: Planned,
 ) -> Result<Option<CoreRefusal>, NoMemory>
-    requires { IsAdmitting store.now.ids store.now.content gathering.old.rows.items gathering.old.admitting }
+    requires admitting { IsAdmitting store.now.ids store.now.content gathering.old.rows.items gathering.old.admitting }
+    requires noted { IsNoted store.now.content gathering.old.admitting planned.rows.items planned.paths }
     ensures fault { IfOk result (λ fault. fault ≡ result_err
         (with_planned (rows_in gathering.old) (planned_rows planned) store.now.content)) }
     ensures taken { OnOk result (rows_in gathering.new ≡ result_unwrap_or
@@ -173,8 +179,9 @@ fn admit(
     let Planned {
         key,
         rows: mut more,
+        paths,
     } = planned;
-    match store.admit_more(alloc, &mut gathering.admitting, more.as_slice()) {
+    match store.admit_noted(&mut gathering.admitting, more.as_slice(), paths) {
         Ok(()) => {
             gathering.rows.append(&mut more)?;
             gathering.key = key;

@@ -1,20 +1,29 @@
-ghost use Rattle.std.specs.Prelude.{◌≡◌, List, [], map, true, IfOk, unwrap_or};
+ghost use Rattle.std.specs.Prelude.{◌≡◌, ◌+◌, ◌≤◌, ℕ, List, [], ◌∷◌, length, map, true, IfOk, OnOk, unwrap_or};
 ghost use Rattle.std.specs.Option.{option_copied};
 ghost use Rattle.doc_values.specs.Ids.{is_uid};
-ghost use Rattle.doc_store.specs.Restored.{restored_row};
+ghost use Rattle.doc_store.specs.Restored.{restored, restored_row};
 ghost use Rattle.doc_store.specs.Sound.{IsSound};
+ghost use Rattle.row_index.specs.Changes.{IsChangeOf};
+ghost use Rattle.row_index.specs.Documents.{IndexedDocument};
+ghost use Rattle.doc_index.specs.Documents.{indexed, rising};
 ghost use Rattle.index_image.specs.Rows.{IndexData, index_view};
-ghost use Rattle.index_image.specs.State.{IsIndex, is_above};
+ghost use Rattle.index_image.specs.State.{IsIndex, id_under, is_above};
 ghost use Rattle.index_changes.specs.Images.{index_of, row_under, document_of};
+ghost use Rattle.index_changes.specs.Indexed.{IsIndexed};
 ghost use Rattle.index_changes.specs.Keyed.{IsKeyed};
 
 use crate::change::joined;
-use crate::external_ids::id_at;
+use crate::kept::KeptRows;
 use crate::key::{copy_of, text_of};
+use doc_index::index_of_change;
+use doc_rows::{PathUse, rows};
 use doc_store::{DocStore, StoredRow};
+use doc_values::{Document, external_id};
 use index_image::{ImageDocument, ImageIndex};
 use index_settings::{Settings, patch_checked};
+use row_index::RowChange;
 use search_base::{NoMemory, Steps, Word};
+use search_settings::uses_of;
 use serde_json::{Map, Value};
 use std::alloc::Global;
 
@@ -71,33 +80,113 @@ fn image_documents(alloc: Global, store: &DocStore) -> Result<Vec<ImageDocument>
     Ok(documents)
 }
 
-/// The documents of an image with the external ids that they have by the key. One that has none counts as want of
-/// memory; an image has no such document.
-pub fn stored_rows(
+/// The documents of an image as they were read.
+#[derive(Drop)]
+pub struct ReadDocuments {
+    /// Each with the external id that it has by the key, in the order of the internal ids.
+    pub rows: Vec<StoredRow>,
+    /// What an index keeps of them.
+    pub kept: KeptRows,
+}
+
+// What the documents of an image are read by: the key, the paths of the registry, and how each of these is used.
+#[derive(Drop)]
+struct Reader<'a> {
+    key: &'a str,
+    paths: &'a [Word],
+    uses: &'a [PathUse],
+}
+
+/// Reads the documents of an image, each once, for their external ids by the key and for what an index with these
+/// paths keeps of them under these settings. One that has no id counts as want of memory; an image has no such document.
+pub fn read_documents<F>(
     alloc: Global,
     key: &Option<Word>,
+    paths: &[Word],
+    settings: &Settings,
     documents: Vec<ImageDocument>,
-) -> Result<Vec<StoredRow>, NoMemory>
-    ensures { IfOk result (λ rows. map restored_row rows.items ≡ map (row_under (unwrap_or key.now [])) documents.items) }
+    fetches: &mut Steps<F>,
+) -> Result<ReadDocuments, NoMemory>
+    requires few { length paths.now ≤ 1000 }
+    ensures rows { IfOk result (λ read. map restored_row read.rows.items
+        ≡ map (row_under (unwrap_or key.now [])) documents.items) }
+    ensures kept { IfOk result (λ read. (next_id : ℕ) → IsSound (restored paths.now next_id read.rows.items)
+        → IsIndexed read.kept settings.now (restored paths.now next_id read.rows.items)) }
+    ensures fetches { OnOk result (fetches.new ≡ fetches.old + length documents.items) }
+    ensures at_most { fetches.new ≤ fetches.old + length documents.items }
 {
-    let name = text_of(key);
+    let uses = uses_of(alloc, settings, paths)?;
+    let reader = Reader {
+        key: text_of(key),
+        paths,
+        uses: uses.as_slice(),
+    };
+    let mut change = RowChange::new(alloc);
+    let rows = read_each(alloc, &reader, documents, &mut change, fetches)?;
+    let kept = KeptRows {
+        rows: index_of_change(alloc, change)?,
+        uses,
+    };
+    Ok(ReadDocuments { rows, kept })
+}
+
+// Reads documents, which come to the index by the change.
+fn read_each<F>(
+    alloc: Global,
+    reader: &Reader<'_>,
+    documents: Vec<ImageDocument>,
+    change: &mut RowChange,
+    fetches: &mut Steps<F>,
+) -> Result<Vec<StoredRow>, NoMemory>
+    requires few { length reader.now.paths.now ≤ 1000 }
+    requires uses { length reader.now.uses.now ≡ length reader.now.paths.now }
+    ensures rows { IfOk result (λ rows. map restored_row rows.items
+        ≡ map (row_under reader.now.key.now) documents.items) }
+    ensures change { OnOk result (IsChangeOf change.old [] [] → IsChangeOf change.new [] (rising
+        reader.now.paths.now reader.now.uses.now (map (row_under reader.now.key.now) documents.items) [])) }
+    ensures fetches { OnOk result (fetches.new ≡ fetches.old + length documents.items) }
+    ensures at_most { fetches.new ≤ fetches.old + length documents.items }
+{
     let mut rows = Vec::with_capacity(alloc, documents.len())?;
     for document in documents {
-        rows.push(stored_row(alloc, name, document)?)?;
+        fetches.tick();
+        rows.push(read_one(alloc, reader, document, change)?)?;
     }
     Ok(rows)
 }
 
-fn stored_row(alloc: Global, key: &str, document: ImageDocument) -> Result<StoredRow, NoMemory>
-    ensures { IfOk result (λ row. restored_row row ≡ row_under key.now document) }
+// Reads a document, which comes to the index by the change.
+fn read_one(
+    alloc: Global,
+    reader: &Reader<'_>,
+    document: ImageDocument,
+    change: &mut RowChange,
+) -> Result<StoredRow, NoMemory>
+    requires few { length reader.now.paths.now ≤ 1000 }
+    requires uses { length reader.now.uses.now ≡ length reader.now.paths.now }
+    ensures row { IfOk result (λ row. restored_row row ≡ row_under reader.now.key.now document) }
+    ensures change { OnOk result ((come : List IndexedDocument) → IsChangeOf change.old [] come
+        → IsChangeOf change.new [] (indexed reader.now.paths.now reader.now.uses.now document.id.0 document.document
+        ∷ come)) }
 {
-    let ImageDocument { id, document } = document;
-    match id_at(alloc, &document, key, 1) {
-        Ok(external) => Ok(StoredRow {
-            id,
-            external,
-            document,
-        }),
+    let ImageDocument { id, document: text } = document;
+    let document = text.document(alloc)?;
+    let external = external_under(alloc, &document, reader.key)?;
+    let rows = rows(alloc, &document, reader.paths, reader.uses)?;
+    change.put_in(alloc, id, &rows)?;
+    Ok(StoredRow {
+        id,
+        external,
+        document: text,
+    })
+}
+
+// The external id of a document under a key. One that has none counts as want of memory.
+fn external_under(alloc: Global, document: &Document, key: &str) -> Result<Word, NoMemory>
+    ensures { IfOk result (λ external. external ≡ unwrap_or (id_under key.now document.now) []) }
+{
+    match external_id(alloc, document, key) {
+        Ok(external) => Ok(external),
         Err(_) => Err(NoMemory),
     }
 }

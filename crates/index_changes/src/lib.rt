@@ -27,11 +27,11 @@ mod update;
 pub use batch::{BatchKind, batch_kind, no_faults, removed_ids};
 pub use change::{remove_named, replace_documents, store_gathered, update_documents};
 pub use gathered::{Gathered, gather};
-pub use image::{image_of, stored_rows};
+pub use image::{ReadDocuments, image_of, read_documents};
 pub use kept::KeptRows;
 pub use laws::{
     changes_keep_key_paths_and_ids, documents_stay_under_their_ids, settings_read_once,
 };
-pub use new_settings::{index_of_store, patch_settings, reset_settings};
+pub use new_settings::{patch_settings, reset_settings};
 pub use plan::{Plan, Work, keeping_key, no_work, planned_patch, planned_replace, planned_update};
 pub use refusal::{CoreFault, CoreRefusal, refusal_in};

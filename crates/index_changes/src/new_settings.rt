@@ -149,8 +149,8 @@ fn stay_alike(settings: &Settings, others: &Settings, paths: &[Word], may_differ
     }
 }
 
-/// The index of all documents of a store under these settings. Each document is read once.
-pub fn index_of_store<F>(
+// The index of all documents of a store under these settings. Each document is read once.
+fn index_of_store<F>(
     alloc: Global,
     store: &DocStore,
     settings: &Settings,

@@ -54,10 +54,10 @@ use doc_store::DocStore;
 use doc_values::{ChangeKind, DocumentText};
 use facet_counts::CountRow;
 use index_changes::{
-    BatchKind, CoreFault, CoreRefusal, Gathered, KeptRows, Plan, Work, batch_kind, gather,
-    image_of, index_of_store, keeping_key, no_faults, no_work, patch_settings, planned_patch,
-    planned_replace, planned_update, refusal_in, remove_named, removed_ids, replace_documents,
-    reset_settings, store_gathered, stored_rows, update_documents,
+    BatchKind, CoreFault, CoreRefusal, Gathered, KeptRows, Plan, ReadDocuments, Work, batch_kind,
+    gather, image_of, keeping_key, no_faults, no_work, patch_settings, planned_patch,
+    planned_replace, planned_update, read_documents, refusal_in, remove_named, removed_ids,
+    replace_documents, reset_settings, store_gathered, update_documents,
 };
 use index_image::ImageIndex;
 use index_settings::Settings;
@@ -726,9 +726,15 @@ impl IndexCore {
             settings,
             documents,
         } = image;
-        let rows = stored_rows(alloc, &key, documents)?;
+        let ReadDocuments { rows, kept } = read_documents(
+            alloc,
+            &key,
+            paths.as_slice(),
+            &settings,
+            documents,
+            fetches,
+        )?;
         let store = DocStore::restore(alloc, paths, next_id, rows)?;
-        let kept = index_of_store(alloc, &store, &settings, fetches)?;
         Ok(IndexCore {
             key,
             store,

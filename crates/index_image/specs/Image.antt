@@ -1,10 +1,14 @@
 -- The state of an image, by its fields in order.
 use Rattle.std.specs.Prelude.{ℕ, zero, suc, ◌+◌, ◌&&◌, ◌||◌, ◌==◌, not, Bool, List, [], ◌∷◌, ◌++◌, length, nat_lt, if◌then◌else◌, Option, None, Some, option_and_then, unwrap_or, Result, Ok, Err}
 use Rattle.std.specs.Int.{Width, w32, w64}
+use Rattle.std.specs.Result.{result_ok}
+use Rattle.std.specs.Str.{is_utf8}
 use Rattle.search_base.specs.declared.outcome.OutcomeRow.{OutcomeRow}
 use Rattle.serde_json.specs.Data.{Data}
+use Rattle.serde_json.specs.Read.{read}
 use Rattle.doc_values.specs.Ids.{is_uid}
 use Rattle.doc_values.specs.Stored.{document_at}
+use Rattle.doc_values.specs.Walk.{document_of}
 use Rattle.index_settings.specs.View.{SettingsView}
 use Rattle.index_image.specs.declared.rows.ImageDocument.{ImageDocument}
 use Rattle.change_payloads.specs.Change.{Spot, kind_at, or_spot}
@@ -62,6 +66,10 @@ unfoldable pub id_at : ℕ → List ImageDocument → List ℕ → Result (ℕ �
 id_at next_id before bytes = do
   id ← number_at w32 bytes
   if is_next before id.0 && nat_lt id.0 next_id then Ok id else Err (length bytes)
+
+-- the document that these bytes spell, in whatever JSON text
+abbrev pub spelled : List ℕ → Option Data
+spelled bytes = option_and_then (λ d. result_ok (document_of d)) (if is_utf8 bytes then read bytes else None)
 
 abbrev pub if_fits : List ℕ → List (List ℕ) → List (List ℕ) → Data → Option Data
 if_fits key paths taken d = if fits key paths taken d then Some d else None

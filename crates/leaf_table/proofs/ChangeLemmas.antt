@@ -1,5 +1,5 @@
 -- The rows of a table of leaves, and how they change.
-use Rattle.std.proofs.Common.{◌≡◌, ℕ, suc, ◌+◌, ◌-◌, ◌<◌, ◌≤◌, Bool, true, false, not, ◌==◌, ◌||◌, cond, List, [], ◌∷◌, ◌++◌, Option, None, Some, Vec, map, reverse, length, take, get_or, set, refl, sym, ap, subst, ◌∙◌, arith}
+use Rattle.std.proofs.Common.{◌≡◌, ℕ, zero, suc, ◌+◌, ◌-◌, ◌<◌, ◌≤◌, Bool, true, false, not, ◌==◌, ◌||◌, cond, List, [], ◌∷◌, ◌++◌, Option, None, Some, Vec, map, reverse, length, take, get_or, set, refl, sym, ap, subst, ◌∙◌, arith}
 use borrow.Author.Count.{below_more}
 use Rattle.std.specs.Global.{Global}
 use Rattle.std.specs.Option.{option_map}
@@ -28,6 +28,17 @@ pub kept_set : (id : ℕ) (rows : List (Option (Vec Leaf Global))) (at : ℕ) (r
 kept_set id rows at row within =
     ap (λ list. get_or list id None) (map-set row_leaves rows at row)
     ∙ set_in (table_rows rows) at id (row_leaves row) (let n = length-map rows row_leaves in omega arith)
+
+none_behind : (rows : List (Option (List Leaf))) (id : ℕ) → get_or (rows ++ None ∷ []) id None ≡ get_or rows id None
+none_behind [] zero = refl
+none_behind [] (suc n) = refl
+none_behind (row ∷ rows) zero = refl
+none_behind (row ∷ rows) (suc n) = none_behind rows n
+
+-- an empty row comes behind
+pub kept_pushed : (id : ℕ) (rows : List (Option (Vec Leaf Global))) → kept_in id (rows ++ None ∷ []) ≡ kept_in id rows
+kept_pushed id rows =
+    ap (λ list. get_or list id None) (map-append row_leaves rows (None ∷ [])) ∙ none_behind (table_rows rows) id
 
 -- ---- rows that come
 
@@ -194,3 +205,9 @@ pub sets_one : (start rows : List (Option (Vec Leaf Global))) (come left rest : 
 sets_one start rows come left rest row id leaves first is setting =
     subst (λ at. IsSetting start (set rows at (Some leaves)) come rest) (sym (ap (λ (r : RowView). r.id) is))
     (one_set start rows come rest row leaves (sym (ap (λ (r : RowView). r.leaves) is)) (subst (IsSetting start rows come) first setting))
+
+-- the row that comes next has its place
+pub next_within : (start rows : List (Option (Vec Leaf Global))) (come left rest : List RowView) (row : RowView) (id : ℕ) (leaves : Vec Leaf Global)
+    → left ≡ row ∷ rest → record { id = id; leaves = leaves.items } ≡ row → IsSetting start rows come left → id < length rows
+next_within start rows come left rest row id leaves first is setting =
+    subst (λ n. n < length rows) (sym (ap (λ (r : RowView). r.id) is)) ((subst (IsSetting start rows come) first setting).within 0 row (omega arith))

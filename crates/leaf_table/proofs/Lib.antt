@@ -1,2 +1,4 @@
 pub mod TableLemmas
 pub mod ChangeLemmas
+pub mod ColumnLemmas
+pub mod NumberLemmas

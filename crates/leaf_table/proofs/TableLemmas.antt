@@ -1,7 +1,6 @@
 -- What a table of leaves has of documents.
 use Rattle.std.proofs.Common.{◌≡◌, ℕ, List, [], Option, None, Some, unwrap_or, refl, ap, ◌∙◌}
 use Rattle.std.specs.Option.{option_map}
-use Rattle.search_base.specs.declared.document.Leaf.{Leaf}
 use Rattle.facet_index.specs.LeavesView.{LeavesView, leaves_of}
 use Rattle.facet_index.specs.Batches.{document_at}
 use Rattle.leaf_table.specs.Tables.{TableView, kept_at, AreLeavesOf}

@@ -1,3 +1,5 @@
 -- The leaves of each document.
 pub mod Tables
+pub mod Columns
+pub mod Numbers
 pub mod Changes

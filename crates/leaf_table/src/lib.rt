@@ -7,6 +7,8 @@
 #![tactic(auto)]
 
 mod change;
+mod columns;
+mod numbers;
 mod table;
 
 pub use change::{LeafChange, PreparedLeaves};

@@ -1,12 +1,16 @@
-ghost use Rattle.std.specs.Prelude.{◌≡◌, ◌≤◌, ◌<◌, ℕ, List, [], reverse, length, IfOk, OnOk};
+ghost use Rattle.std.specs.Prelude.{◌≡◌, ◌≤◌, ◌<◌, ℕ, List, [], filter, reverse, length, IfSome, IfOk, OnOk};
 ghost use Rattle.std.specs.List.{All};
 ghost use Rattle.facet_index.specs.LeavesView.{LeavesView};
 ghost use Rattle.facet_index.specs.Batches.{after};
 ghost use Rattle.leaf_table.specs.Tables.{row_at, kept_at, AreLeavesOf};
+ghost use Rattle.leaf_table.specs.Numbers.{has_between, AreNumbersOf};
 ghost use Rattle.leaf_table.specs.Changes.{numbers, IsLeafChangeOf, HasRows, come_at, left_at};
 
 use crate::change::{LeafChange, PreparedLeaves, Row, rows_for};
-use search_base::{DocId, Leaf, NoMemory};
+use crate::columns::{column_of, leaves_of, make_room, set_leaves, unset_leaves, widen};
+use crate::numbers::{NumberRange, between, numbers};
+use doc_sets::DocSet;
+use search_base::{DocId, Leaf, NoMemory, PathId};
 use std::alloc::Global;
 use std::marker::Model;
 
@@ -14,14 +18,21 @@ use std::marker::Model;
 #[derive(Drop)]
 pub struct LeafTable {
     rows: Vec<Option<Vec<Leaf>>>,
+    // For each path, by its number, what each document has there, by its internal id.
+    columns: Vec<Vec<i64>>,
+    // For each path how many numbers came.
+    counts: Vec<usize>,
 }
 
 impl Model for LeafTable {
     ghost use Rattle.leaf_table.specs.Tables.{TableView, table_rows};
+    ghost use Rattle.leaf_table.specs.Columns.{AreColumns};
 
     ghost Value = { TableView };
 
     ghost view = { λ table. record { rows = table_rows table.rows.items } };
+
+    ghost invariant = { λ table. AreColumns table.columns.items (table_rows table.rows.items) };
 }
 
 impl LeafTable {
@@ -31,6 +42,8 @@ impl LeafTable {
     {
         LeafTable {
             rows: Vec::new(alloc),
+            columns: Vec::new(alloc),
+            counts: Vec::new(alloc),
         }
     }
 
@@ -38,10 +51,42 @@ impl LeafTable {
     pub fn leaves(&self, id: DocId) -> &[Leaf]
         ensures { result.now ≡ kept_at id.0 self.now }
     {
-        match self.rows.get(id.0 as usize) {
-            Some(Some(leaves)) => leaves.as_slice(),
-            _ => &[],
-        }
+        leaves_of(self.rows.as_slice(), id.0 as usize)
+    }
+
+    /// The documents of the universe that have a number from `low` to `high` under the path, both ends among them. Goes
+    /// over the universe once, and looks only at the leaves of those that have several there, or no number of 64 bits.
+    pub fn between(
+        &self,
+        alloc: Global,
+        path: PathId,
+        low: i128,
+        high: i128,
+        universe: &DocSet,
+    ) -> Result<DocSet, NoMemory>
+        ensures { IfOk result (λ docs.
+            docs.ids ≡ filter (λ d. has_between path.0 low high (kept_at d self.now)) universe.now.ids) }
+    {
+        let column = column_of(self.columns.as_slice(), path);
+        let range = NumberRange { path, low, high };
+        between(alloc, self.rows.as_slice(), column, &range, universe)
+    }
+
+    /// Each document of the universe with the number that is its only leaf under the path, in the order of the
+    /// universe. None where a document of the universe has no leaf there, or several, or one that is no number of 64
+    /// bits and not one of its two least; none too where so few documents have a number there that it is not known
+    /// without looking at their leaves. Goes over the universe once, and stops at the first such document.
+    pub fn numbers(
+        &self,
+        alloc: Global,
+        path: PathId,
+        universe: &DocSet,
+    ) -> Result<Option<Vec<(i64, DocId)>>, NoMemory>
+        ensures { IfOk result (λ found. IfSome found (λ pairs.
+            AreNumbersOf path.0 self.now universe.now.ids pairs.items)) }
+    {
+        let column = column_of(self.columns.as_slice(), path);
+        numbers(alloc, self.rows.as_slice(), column, path, universe)
     }
 
     /// Takes all memory that the change needs: there is a row for each id up to the greatest that comes. The leaves of
@@ -53,6 +98,7 @@ impl LeafTable {
     {
         let LeafChange { gone, come } = change;
         self.grow(rows_for(come.as_slice()))?;
+        self.widen(come.as_slice())?;
         Ok(PreparedLeaves { gone, come })
     }
 
@@ -73,10 +119,24 @@ impl LeafTable {
         ensures same { (id : ℕ) → row_at id self.new ≡ row_at id self.old }
         ensures rows { OnOk result (len ≤ length self.new.rows) }
     {
+        make_room(&mut self.rows, len)?;
         while self.rows.len() < len {
             self.rows.push(None)?;
         }
         Ok(())
+    }
+
+    // Makes the columns long enough for the numbers that come, where they are not.
+    fn widen(&mut self, come: &[Row]) -> Result<(), NoMemory>
+        ensures { self.new ≡ self.old }
+    {
+        widen(
+            *self.rows.allocator(),
+            &mut self.columns,
+            &mut self.counts,
+            self.rows.as_slice(),
+            come,
+        )
     }
 
     // Empties the rows of these ids.
@@ -87,6 +147,7 @@ impl LeafTable {
         for id in gone {
             let at = id.0 as usize;
             if at < self.rows.len() {
+                unset_leaves(self.columns.as_mut_slice(), *id);
                 self.rows[at] = None;
             }
         }
@@ -98,6 +159,7 @@ impl LeafTable {
         ensures { (id : ℕ) → row_at id self.new ≡ come_at id (reverse come.items) (row_at id self.old) }
     {
         for row in come {
+            set_leaves(self.columns.as_mut_slice(), row.id, row.leaves.as_slice());
             self.rows[row.id.0 as usize] = Some(row.leaves);
         }
     }

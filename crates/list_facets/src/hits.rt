@@ -5,7 +5,8 @@ ghost use Rattle.facet_index.specs.Places.{has_document};
 ghost use Rattle.list_facets.specs.Hits.{ids_of, AreHits, IsWhole};
 
 use crate::matching::Matching;
-use doc_sets::sets_are_their_members;
+use doc_sets::{DocSet, sets_are_their_members};
+use postings::PostingList;
 use search_base::{DocId, NoMemory};
 use sorted_pages::SortedPages;
 
@@ -63,8 +64,30 @@ fn is_walked(entries: usize, documents: u64) -> bool {
     entries as u64 / LOOK_UP <= documents
 }
 
-/// The documents of the set that have an entry in the list. The list is walked, or the set where this is much shorter.
-pub(crate) fn hits_of(list: &SortedPages, matching: &Matching<'_>) -> Result<Hits, NoMemory>
+/// The documents of the set that have an entry in the list. Where those of the list are kept as a set, no entry is looked
+/// at.
+pub(crate) fn hits_at(list: &PostingList, matching: &Matching<'_>) -> Result<Hits, NoMemory>
+    ensures { IfOk result (λ hits. IsWhole list.now.entries
+        → AreHits hits (filter (λ d. has_document d list.now.entries) matching.now.ids)) }
+{
+    match list.documents() {
+        Some(kept) => Ok(hits_in_kept(kept, matching)),
+        None => hits_of(list.pages(), matching),
+    }
+}
+
+// The documents that are in both sets.
+fn hits_in_kept(kept: &DocSet, matching: &Matching<'_>) -> Hits
+    ensures { AreHits result (filter (has kept.now.ids) matching.now.ids) }
+{
+    Hits {
+        count: matching.count_both(kept),
+        first: matching.first_both(kept),
+    }
+}
+
+// The same of its entries. They are walked, or the set where this is much shorter.
+fn hits_of(list: &SortedPages, matching: &Matching<'_>) -> Result<Hits, NoMemory>
     ensures { IfOk result (λ hits. IsWhole list.now.entries
         → AreHits hits (filter (λ d. has_document d list.now.entries) matching.now.ids)) }
 {

@@ -79,6 +79,25 @@ impl<'a> Matching<'a> {
         None
     }
 
+    /// How many of them are in a set.
+    pub(crate) fn count_both(&self, kept: &DocSet) -> u64
+        ensures { result ≡ length (filter (has kept.now.ids) self.now.ids) }
+    {
+        self.set.and_len(kept)
+    }
+
+    /// The first of them that is in a set.
+    pub(crate) fn first_both(&self, kept: &DocSet) -> Option<DocId>
+        ensures { option_map (λ id. id.0) result ≡ slice_get (filter (has kept.now.ids) self.now.ids) 0 }
+    {
+        for id in self.set.iter() {
+            if kept.contains(id) {
+                return Some(id);
+            }
+        }
+        None
+    }
+
     /// How many they are.
     pub(crate) fn len(&self) -> u64
         ensures len { result ≡ length self.now.ids }

@@ -5,16 +5,15 @@ ghost use Rattle.facet_keys.specs.Keys.{counted, key_bytes, IsNarrow};
 ghost use Rattle.postings.specs.Dictionary.{list_at};
 ghost use Rattle.list_facets.specs.Rows.{AreRowsIn, row_if, listed, rows_asked};
 
-use crate::hits::hits_of;
+use crate::hits::hits_at;
 use crate::matching::Matching;
 use crate::query::FacetQuery;
 use crate::spellings::{rest_of, shown_in};
 use doc_sets::DocSet;
 use facet_counts::CountRow;
 use facet_keys::{counted_key, keys_tell_facets_apart};
-use postings::Postings;
+use postings::{PostingList, Postings};
 use search_base::{NoMemory, PathId, Word};
-use sorted_pages::SortedPages;
 use std::alloc::Global;
 
 /// The first `most` values that documents of the set have under the path. Looks at no later value.
@@ -86,7 +85,7 @@ fn row_of(
     path: PathId,
     first: &Word,
     key: &Word,
-    list: &SortedPages,
+    list: &PostingList,
     matching: &Matching<'_>,
 ) -> Result<Option<CountRow>, NoMemory>
     requires first { first.now ≡ key_bytes path.0 (counted []) }
@@ -96,7 +95,7 @@ fn row_of(
         → listed row ≡ row_if path.0 (map rows matching.now.ids) text) }
 {
     keys_tell_facets_apart();
-    let hits = hits_of(list, matching)?;
+    let hits = hits_at(list, matching)?;
     match hits.first {
         Some(id) => {
             let value = rest_of(alloc, key, first)?;

@@ -38,7 +38,7 @@ fn shown_from(
 {
     keys_tell_facets_apart();
     for (key, list) in keys.with_prefix(first) {
-        if list.contains(u64::from(id.0) << 32) {
+        if list.pages().contains(u64::from(id.0) << 32) {
             return rest_of(alloc, key, first);
         }
     }

@@ -72,7 +72,7 @@ fn gathered(
 {
     let mut entries = Vec::new(alloc);
     for (_word, list) in postings.with_prefix(prefix) {
-        add_inside(universe, list, &mut entries)?;
+        add_inside(universe, list.pages(), &mut entries)?;
     }
     Ok(entries)
 }

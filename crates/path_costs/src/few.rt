@@ -380,8 +380,7 @@ pub(crate) fn next_of_few<R: Resolve>(
     let _many = remaining.len();
     let ids = ids_at(alloc, rows, cost)?;
     let docs = DocSet::from_sorted(alloc, &ids)?;
-    let rest = remaining.minus(alloc, &docs)?;
+    remaining.subtract(alloc, &docs)?;
     leave_out(rows, cost);
-    *remaining = rest;
     Ok(Some((cost as u32, docs)))
 }

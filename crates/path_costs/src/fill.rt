@@ -142,12 +142,39 @@ fn add_met<R: Resolve>(
         return Ok(docs);
     }
     if is_free(&condition_at(links, edge).condition) {
-        let with_rest = docs.or(alloc, rest)?;
+        let copy = rest.clone()?;
+        let with_rest = docs.join(alloc, copy)?;
         return Ok(with_rest);
     }
     let both = meeting_among(alloc, links, source, universe, met, edge, rest)?;
-    let all = docs.or(alloc, &both)?;
+    let all = docs.join(alloc, both)?;
     Ok(all)
+}
+
+// Adds the documents of the universe that meet the condition of an edge to the last node, where no cost is left there.
+fn add_last<R: Resolve>(
+    alloc: Global,
+    links: &Links,
+    source: &mut R,
+    universe: &DocSet,
+    met: &Vec<Option<DocSet>>,
+    edge: usize,
+    left: u32,
+    docs: DocSet,
+) -> Result<DocSet, NoMemory>
+    requires links { IsLinks links.now }
+    requires edge { edge < length links.now.edges.items }
+    requires len { length met.now.items ≡ length links.now.edges.items }
+    requires right { AreMet (R.meets source.old) links.now.edges.items universe.now.ids met.now.items }
+    ensures kept { R.meets source.new ≡ R.meets source.old }
+    ensures docs { IfOk result (λ set. (e : ConditionEdge) → slice_get links.now.edges.items edge ≡ Some e
+        → (d : ℕ) → has universe.now.ids d ≡ true → has set.ids d
+        ≡ (has docs.ids d || (R.meets source.old e.condition d && (has universe.now.ids d && (0 == left))))) }
+{
+    if left > 0 {
+        return Ok(docs);
+    }
+    add_met(alloc, links, source, universe, met, edge, universe, docs)
 }
 
 // The lesser of a bound and what comes next along an edge of this cost.
@@ -208,6 +235,19 @@ pub(crate) fn fill<R: Resolve>(
         let step = edge.cost;
         if cost < step {
             beyond = bound_of(beyond, step);
+            continue;
+        }
+        if edge.to == links.last {
+            docs = add_last(
+                alloc,
+                links,
+                source,
+                universe,
+                &found.met,
+                index,
+                cost - step,
+                docs,
+            )?;
             continue;
         }
         let at = fill(alloc, links, source, universe, found, edge.to, cost - step)?;

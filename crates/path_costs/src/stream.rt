@@ -91,8 +91,7 @@ fn advance<R: Resolve>(
         if docs.is_empty() {
             continue;
         }
-        let rest = remaining.minus(alloc, &docs)?;
-        *remaining = rest;
+        remaining.subtract(alloc, &docs)?;
         return Ok(Some((cost, docs)));
     }
     Ok(None)

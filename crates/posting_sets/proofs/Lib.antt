@@ -11,3 +11,5 @@ pub mod LeastLemmas
 pub mod ByNumberLemmas
 pub mod BlockLemmas
 pub mod BeginningLemmas
+pub mod KeptLemmas
+pub mod RankLemmas

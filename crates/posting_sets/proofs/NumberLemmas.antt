@@ -30,6 +30,21 @@ one_more sets at id old new l is e n q = by (eqb at n) refl
         let apart : n ≢ at = λ s. eqb-false at n f (sym s) in
         ap (λ v. has v q) (get_or-set_other sets at n new [] apart) ∙ ap (λ a. (a && eqb id q) || has (ids_at n sets) q) (sym f)
 
+-- the set of a number with more in it
+pub one_changed : (sets : List (List ℕ)) (at : ℕ) (old new : List ℕ) (q : ℕ) (more : Bool) → at < length sets → old ≡ get_or sets at old → has new q ≡ (more || has old q)
+    → (n : ℕ) → has (ids_at n (set sets at new)) q ≡ ((eqb at n && more) || has (ids_at n sets) q)
+one_changed sets at old new q more l is e n = by (eqb at n) refl
+  where
+    by : (b : Bool) → eqb at n ≡ b → has (ids_at n (set sets at new)) q ≡ ((eqb at n && more) || has (ids_at n sets) q)
+    by true t =
+        let same : at ≡ n = eqb-true at n t in
+        ap (λ i. has (ids_at i (set sets at new)) q) (sym same)
+        ∙ ap (λ v. has v q) (get_or-set_same sets at new [] l) ∙ e
+        ∙ ap₂ (λ a v. (a && more) || has v q) (sym t) (is ∙ get_or_in sets at old [] l ∙ ap (λ i. ids_at i sets) same)
+    by false f =
+        let apart : n ≢ at = λ s. eqb-false at n f (sym s) in
+        ap (λ v. has v q) (get_or-set_other sets at n new [] apart) ∙ ap (λ a. (a && more) || has (ids_at n sets) q) (sym f)
+
 pub on_ok : {X E P Q : Type 0} (r : Result X E) → OnOk r P → (P → Q) → OnOk r Q
 on_ok (Ok x) p f = f p
 on_ok (Err e) p f = tt

@@ -111,7 +111,7 @@ among_keys [] row h = h
 among_keys (r ∷ rs) row (inl same) = inl (ap (λ r. r.0) same)
 among_keys (r ∷ rs) row (inr later) = inr (among_keys rs row later)
 
-value_of_row : (rows : Rows) (row : List ℕ × List ℕ) → IsStrictlySortedBy word_cmp (keys_of rows) → Among rows row → value_at row.0 rows ≡ Some row.1
+pub value_of_row : (rows : Rows) (row : List ℕ × List ℕ) → IsStrictlySortedBy word_cmp (keys_of rows) → Among rows row → value_at row.0 rows ≡ Some row.1
 value_of_row [] row sorted h = absurd h
 value_of_row (r ∷ rs) row sorted (inl same) =
     cond-true _ _ _ (ap (λ (s : List ℕ × List ℕ). is_eq (word_cmp row.0 s.0)) same ∙ itself row.0) ∙ ap (λ (s : List ℕ × List ℕ). Some s.1) same
@@ -128,7 +128,7 @@ row_of_value word (r ∷ rs) list e = by (is_at (word_cmp word) r.0) e (row_of_v
     by true e later = (r, inl refl, cc)
     by false e later = let f = later e in (f.0, inr f.1, f.2)
 
-shown : (b : Bool) (xs list : List ℕ) → cond b (some_list xs) None ≡ Some list → (b ≡ true) × (xs ≡ list)
+pub shown : (b : Bool) (xs list : List ℕ) → cond b (some_list xs) None ≡ Some list → (b ≡ true) × (xs ≡ list)
 shown true [] list e = absurd (cc)
 shown true (x ∷ xs) list e = (refl, cc)
 shown false xs list e = absurd (cc)

@@ -1,5 +1,5 @@
 -- The documents in which a term occurs.
-use Rattle.std.specs.Prelude.{◌≡◌, ℕ, Bool, true, ◌==◌, ◌&&◌, List, length}
+use Rattle.std.specs.Prelude.{◌≡◌, ℕ, Bool, true, ◌==◌, ◌&&◌, List, [], ◌∷◌, length}
 use Rattle.std.specs.List.{filter, list_any}
 use Rattle.doc_sets.specs.Sets.{has, IsIncreasing}
 use Rattle.search_base.specs.Occurrence.{occurs}
@@ -36,6 +36,11 @@ pub record AreInLists (universe : List ℕ) (lists : List (List ℕ)) (ids : Lis
 -- one word, or all words that begin so
 abbrev pub term_of : Bool → List (List ℕ) → TermView
 term_of prefix words = record { words = words; prefix = prefix }
+
+-- these are exactly the documents of the list of the words, which are one
+abbrev pub IsKeptOf : PostingsView → List (List ℕ) → List ℕ → Type 0
+IsKeptOf view (word ∷ []) ids = (id : ℕ) → has ids id ≡ has_document (list_at word view) id
+IsKeptOf view words ids = ⊥
 
 -- one of the words has no list
 abbrev pub lacks_list : PostingsView → List (List ℕ) → Bool

@@ -33,6 +33,10 @@ abbrev pub is_numbered : Number → ℕ → ℕ → ℕ → Bool
 is_numbered number n id entry =
     (document_of entry == id) && option_eq nat_eq (number_at number (path_of entry) (position_of entry)) (Some n)
 
+-- the same of the rank of its path
+abbrev pub is_ranked : List (Option ℕ) → ℕ → ℕ → ℕ → Bool
+is_ranked ranks n id entry = (document_of entry == id) && option_eq nat_eq (rank_at ranks (path_of entry)) (Some n)
+
 -- the documents that have a number, by the numbers
 abbrev pub ids_at : ℕ → List (List ℕ) → List ℕ
 ids_at n sets = get_or sets n []

@@ -9,11 +9,31 @@ ghost use Rattle.posting_sets.specs.Beginnings.{AreBeginning};
 
 use crate::lists::lists_of;
 use crate::number::Number;
-use crate::numbered::{add_places, finished, least_sets};
+use crate::numbered::{add_list, add_places, finished, least_sets};
 use doc_sets::{DocSet, DocSetBuilder};
 use postings::Postings;
 use search_base::{NoMemory, Term, Word};
 use std::alloc::Global;
+
+// The documents of each number of a place where the word stands.
+fn numbers_of_word(
+    alloc: Global,
+    postings: &Postings,
+    word: &Word,
+    number: Number<'_>,
+    universe: &DocSet,
+) -> Result<Vec<DocSetBuilder>, NoMemory>
+    ensures each { IfOk result (λ sets. AreOfNumbers postings.now (term_of false (word.now ∷ []))
+        (place_number number.entry) universe.now.ids sets.items) }
+    ensures few { IfOk result (λ sets. length sets.items ≤ 2 ^ 16) }
+{
+    let Some(list) = postings.row(word) else {
+        return Ok(Vec::new(alloc));
+    };
+    let mut sets = Vec::new(alloc);
+    add_list(alloc, &mut sets, list, number, universe)?;
+    Ok(sets)
+}
 
 // The documents of each number of a place where the words stand in a row.
 fn numbers_of_words(
@@ -28,6 +48,9 @@ fn numbers_of_words(
         (place_number number.entry) universe.now.ids sets.items) }
     ensures few { IfOk result (λ sets. length sets.items ≤ 2 ^ 16) }
 {
+    if words.len() == 1 {
+        return numbers_of_word(alloc, postings, &words[0], number, universe);
+    }
     let Some(lists) = lists_of(alloc, postings, words)? else {
         return Ok(Vec::new(alloc));
     };
@@ -50,8 +73,7 @@ fn numbers_of_prefix(
 {
     let mut sets = Vec::new(alloc);
     for (_word, list) in postings.with_prefix(prefix) {
-        let lists = [list];
-        add_places(alloc, &mut sets, &lists, number, universe)?;
+        add_list(alloc, &mut sets, list, number, universe)?;
     }
     Ok(sets)
 }

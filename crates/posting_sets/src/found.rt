@@ -1,14 +1,15 @@
-ghost use Rattle.std.specs.Prelude.{◌≡◌, ℕ, ◌<◌, true, false, ◌&&◌, ◌||◌, List, [], ◌∷◌, map, length, IfOk, OnOk};
+ghost use Rattle.std.specs.Prelude.{◌≡◌, ℕ, ◌<◌, true, false, ◌&&◌, ◌||◌, List, [], ◌∷◌, map, length};
+ghost use Rattle.std.specs.Prelude.{IfOk, IfSome, OnOk};
 ghost use Rattle.std.specs.List.{filter};
 ghost use Rattle.doc_sets.specs.Sets.{has, IsIncreasing};
 ghost use Rattle.search_base.specs.Graphs.{IsTerm};
-ghost use Rattle.posting_sets.specs.Found.{has_document, AreInLists, AreOccurring, term_of};
+ghost use Rattle.posting_sets.specs.Found.{has_document, AreInLists, AreOccurring, IsKeptOf, term_of};
 
 use crate::entry::document_of;
 use crate::lists::{is_walked, lists_of};
 use crate::occurrences::Occurrences;
 use doc_sets::{DocSet, DocSetBuilder};
-use postings::Postings;
+use postings::{PostingList, Postings};
 use search_base::{DocId, NoMemory, Term, Word};
 use sorted_pages::SortedPages;
 use std::alloc::Global;
@@ -75,6 +76,26 @@ fn add_list(
     add_documents(builder, occurrences)
 }
 
+// Adds the documents of a list to a set, maybe with some from outside of the universe. Where they are kept beside a list
+// that would be walked, they are taken from there.
+fn add_kept_or_list(
+    alloc: Global,
+    builder: &mut DocSetBuilder,
+    list: &PostingList,
+    universe: &DocSet,
+) -> Result<(), NoMemory>
+    ensures { OnOk result ((q : ℕ) → (has universe.now.ids q && has builder.new q)
+        ≡ (has universe.now.ids q && (has_document list.now.entries q || has builder.old q))) }
+{
+    let pages = list.pages();
+    if is_walked(pages.len(), universe.len()) {
+        if let Some(kept) = list.documents() {
+            return builder.add(kept);
+        }
+    }
+    add_list(alloc, builder, pages, universe)
+}
+
 // The documents of the universe that have an entry in the list.
 fn documents_of_list(
     alloc: Global,
@@ -110,6 +131,17 @@ fn documents_of_lists(
     DocSet::from_sorted(alloc, ids.as_slice())
 }
 
+// The documents of a single word, where they are kept as a set.
+fn kept_documents<'a>(postings: &'a Postings, words: &[Word]) -> Option<&'a DocSet>
+    ensures { IfSome result (λ set. IsKeptOf postings.now words.now set.now.ids) }
+{
+    if words.len() == 1 {
+        postings.row(&words[0])?.documents()
+    } else {
+        None
+    }
+}
+
 // The documents in which the words stand in a row.
 fn documents_of_words(
     alloc: Global,
@@ -121,6 +153,9 @@ fn documents_of_words(
     requires universe { IsIncreasing universe.now.ids }
     ensures { IfOk result (λ set. AreOccurring postings.now (term_of false words.now) universe.now.ids set.ids) }
 {
+    if let Some(kept) = kept_documents(postings, words) {
+        return universe.and(alloc, kept);
+    }
     match lists_of(alloc, postings, words)? {
         Some(lists) => documents_of_lists(alloc, lists.as_slice(), universe),
         None => Ok(DocSet::new(alloc)),
@@ -139,7 +174,7 @@ fn documents_of_prefix(
 {
     let mut builder = DocSetBuilder::new(alloc, 0)?;
     for (_word, list) in postings.with_prefix(prefix) {
-        add_list(alloc, &mut builder, list, universe)?;
+        add_kept_or_list(alloc, &mut builder, list, universe)?;
     }
     let all = builder.finish(alloc)?;
     universe.and(alloc, &all)
@@ -149,7 +184,8 @@ fn documents_of_prefix(
 /// as the word of a prefix term does. A term has a word at least, and a prefix term has just one. The
 /// documents are those that the postings stand for; an id of the universe that none of them has is
 /// not in the answer. It looks at the lists of the term's words alone: a list much longer than the
-/// universe is sought in, and of several words the rarest is walked. Where there is no memory,
+/// universe is sought in, and of several words the rarest is walked. Of a single word whose documents
+/// are kept as a set no list is looked at. Where there is no memory,
 /// nothing has changed.
 pub fn documents(
     alloc: Global,

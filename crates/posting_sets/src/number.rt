@@ -1,5 +1,6 @@
 ghost use Rattle.std.specs.Prelude.{◌≡◌};
 ghost use Rattle.posting_sets.specs.Entries.{path_of, position_of};
+ghost use Rattle.posting_sets.specs.Numbers.{rank_at};
 ghost use Rattle.posting_sets.specs.Gathered.{number_at};
 
 use crate::entry::{path_of, position_of};
@@ -16,13 +17,20 @@ pub(crate) enum Number<'a> {
     Beginning,
 }
 
+// The rank of a path, if it has one.
+pub(crate) fn rank_of(ranks: &[Option<u16>], path: u16) -> Option<u16>
+    ensures { result ≡ rank_at ranks.now path }
+{
+    ranks.get(usize::from(path)).copied().flatten()
+}
+
 // The number of an entry. A path without a rank has none, nor has a place behind the beginning of its path where these
 // are asked for.
 pub(crate) fn number_of(number: Number<'_>, entry: u64) -> Option<u16>
     ensures { result ≡ number_at number.entry (path_of entry) (position_of entry) }
 {
     match number {
-        Number::Rank(ranks) => ranks.get(usize::from(path_of(entry))).copied().flatten(),
+        Number::Rank(ranks) => rank_of(ranks, path_of(entry)),
         Number::Bucket => Some(u16::from(bucket(position_of(entry)))),
         Number::Beginning => {
             if position_of(entry) == 0 {

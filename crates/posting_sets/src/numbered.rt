@@ -1,17 +1,36 @@
-ghost use Rattle.std.specs.Prelude.{◌≡◌, ℕ, ◌<◌, ◌≤◌, ◌^◌, ◌==◌, ◌&&◌, ◌||◌, map, length, IfOk, OnOk};
+ghost use Rattle.std.specs.Prelude.{◌≡◌, ℕ, nat_eq, ◌<◌, ◌≤◌, ◌^◌, ◌==◌, ◌&&◌, ◌||◌, true, [], ◌∷◌, map, length};
+ghost use Rattle.std.specs.Prelude.{Some, IfOk, OnOk};
+ghost use Rattle.std.specs.Option.{option_eq};
 ghost use Rattle.std.specs.List.{filter, list_any, AllByRecursion};
 ghost use Rattle.doc_sets.specs.Sets.{has, IsIncreasing, difference};
 ghost use Rattle.posting_sets.specs.Starts.{is_inside};
-ghost use Rattle.posting_sets.specs.Gathered.{is_numbered, ids_at, AreLeast, AddsRow, AddsStarts};
+ghost use Rattle.posting_sets.specs.Entries.{path_of};
+ghost use Rattle.posting_sets.specs.Gathered.{is_numbered, is_ranked, ids_at, AreLeast, AddsRow, AddsStarts};
 
 use crate::entry::document_of;
 use crate::lists::is_walked;
-use crate::number::{Number, number_of};
+use crate::number::{Number, number_of, rank_of};
 use crate::occurrences::Occurrences;
 use doc_sets::{DocSet, DocSetBuilder};
-use search_base::{DocId, NoMemory};
+use postings::PostingList;
+use search_base::{DocId, NoMemory, PathId};
 use sorted_pages::SortedPages;
 use std::alloc::Global;
+
+// Makes empty sets as far as there is none up to a number.
+fn make_up_to(alloc: Global, sets: &mut Vec<DocSetBuilder>, number: u16) -> Result<(), NoMemory>
+    requires { length sets.old.items ≤ 2 ^ 16 }
+    ensures same { (n : ℕ) → ids_at n sets.new.items ≡ ids_at n sets.old.items }
+    ensures few { length sets.new.items ≤ 2 ^ 16 }
+    ensures long { OnOk result (number < length sets.new.items) }
+{
+    let at = usize::from(number);
+    while sets.len() <= at {
+        let empty = DocSetBuilder::new(alloc, 0)?;
+        sets.push(empty)?;
+    }
+    Ok(())
+}
 
 // Adds a document to the set of a number.
 fn add(alloc: Global, sets: &mut Vec<DocSetBuilder>, number: u16, id: DocId) -> Result<(), NoMemory>
@@ -20,12 +39,26 @@ fn add(alloc: Global, sets: &mut Vec<DocSetBuilder>, number: u16, id: DocId) -> 
         ≡ ((number == n && id.0 == q) || has (ids_at n sets.old.items) q)) }
     ensures few { length sets.new.items ≤ 2 ^ 16 }
 {
-    let at = usize::from(number);
-    while sets.len() <= at {
-        let empty = DocSetBuilder::new(alloc, 0)?;
-        sets.push(empty)?;
-    }
-    sets[at].add_id(id)
+    make_up_to(alloc, sets, number)?;
+    sets[usize::from(number)].add_id(id)
+}
+
+// Adds the documents of a set that are in the universe to the set of a number.
+fn add_set(
+    alloc: Global,
+    sets: &mut Vec<DocSetBuilder>,
+    number: u16,
+    set: &DocSet,
+    universe: &DocSet,
+) -> Result<(), NoMemory>
+    requires { length sets.old.items ≤ 2 ^ 16 }
+    ensures each { OnOk result ((n q : ℕ) → has (ids_at n sets.new.items) q
+        ≡ ((number == n && (has universe.now.ids q && has set.now.ids q)) || has (ids_at n sets.old.items) q)) }
+    ensures few { length sets.new.items ≤ 2 ^ 16 }
+{
+    let inside = universe.and(alloc, set)?;
+    make_up_to(alloc, sets, number)?;
+    sets[usize::from(number)].add(&inside)
 }
 
 // Adds the document of an entry to the set of its number, if it has one.
@@ -108,6 +141,93 @@ pub(crate) fn add_places(
     }
     let occurrences = Occurrences::new(alloc, lists, universe)?;
     add_numbered(alloc, sets, occurrences, number)
+}
+
+// Adds the documents of the universe that are in a path, of which the set is given, to the set of the path's rank, if it
+// has one.
+fn add_path(
+    alloc: Global,
+    sets: &mut Vec<DocSetBuilder>,
+    rank: Option<u16>,
+    set: &DocSet,
+    universe: &DocSet,
+) -> Result<(), NoMemory>
+    requires { length sets.old.items ≤ 2 ^ 16 }
+    ensures each { OnOk result ((n q : ℕ) → has (ids_at n sets.new.items) q
+        ≡ ((option_eq nat_eq rank (Some n) && (has universe.now.ids q && has set.now.ids q))
+        || has (ids_at n sets.old.items) q)) }
+    ensures few { length sets.new.items ≤ 2 ^ 16 }
+{
+    match rank {
+        Some(number) => add_set(alloc, sets, number, set, universe),
+        None => Ok(()),
+    }
+}
+
+// The same as `add_listed` for the ranks of paths below a limit, where no entry is in another path. The documents of
+// each path are taken from the set beside the list.
+fn add_paths(
+    alloc: Global,
+    sets: &mut Vec<DocSetBuilder>,
+    list: &PostingList,
+    ranks: &[Option<u16>],
+    universe: &DocSet,
+    limit: u16,
+) -> Result<(), NoMemory>
+    requires few { length sets.old.items ≤ 2 ^ 16 }
+    requires limit { (entry : ℕ) → has list.now.entries entry ≡ true → path_of entry < limit }
+    ensures each { OnOk result ((n q : ℕ) → has (ids_at n sets.new.items) q
+        ≡ (list_any (is_ranked ranks.now n q) (filter (is_inside universe.now.ids) list.now.entries)
+        || has (ids_at n sets.old.items) q)) }
+    ensures few { length sets.new.items ≤ 2 ^ 16 }
+{
+    for path in 0..limit {
+        let Some(set) = list.in_path(PathId(path)) else {
+            return add_listed(alloc, sets, list.pages(), Number::Rank(ranks), universe);
+        };
+        add_path(alloc, sets, rank_of(ranks, path), set, universe)?;
+    }
+    Ok(())
+}
+
+// The same as `add_places` for one list.
+fn add_pages(
+    alloc: Global,
+    sets: &mut Vec<DocSetBuilder>,
+    list: &PostingList,
+    number: Number<'_>,
+    universe: &DocSet,
+) -> Result<(), NoMemory>
+    requires { length sets.old.items ≤ 2 ^ 16 }
+    ensures each { OnOk result (AddsStarts sets.old.items sets.new.items number.entry universe.now.ids
+        (list.now.entries ∷ [])) }
+    ensures few { length sets.new.items ≤ 2 ^ 16 }
+{
+    let lists = [list.pages()];
+    add_places(alloc, sets, &lists, number, universe)
+}
+
+// The same, with the ranks of places from the sets of paths beside the list, where it has them.
+pub(crate) fn add_list(
+    alloc: Global,
+    sets: &mut Vec<DocSetBuilder>,
+    list: &PostingList,
+    number: Number<'_>,
+    universe: &DocSet,
+) -> Result<(), NoMemory>
+    requires { length sets.old.items ≤ 2 ^ 16 }
+    ensures each { OnOk result (AddsStarts sets.old.items sets.new.items number.entry universe.now.ids
+        (list.now.entries ∷ [])) }
+    ensures few { length sets.new.items ≤ 2 ^ 16 }
+{
+    let _entries = list.pages().len();
+    match number {
+        Number::Rank(ranks) => match list.path_limit() {
+            Some(limit) => add_paths(alloc, sets, list, ranks, universe, limit),
+            None => add_pages(alloc, sets, list, number, universe),
+        },
+        _ => add_pages(alloc, sets, list, number, universe),
+    }
 }
 
 // Adds the documents of a set that were not seen before, under this number, if there is one.

@@ -6,3 +6,6 @@ pub mod PrefixLemmas
 pub mod TightLemmas
 pub mod FromLemmas
 pub mod BackLemmas
+pub mod SetLemmas
+pub mod KeptLemmas
+pub mod NumberLemmas

@@ -1,5 +1,5 @@
 -- The words that begin so stand in a row.
-use Rattle.std.proofs.Common.{◌≡◌, ℕ, ◌<◌, length, arith, Bool, true, false, ◌&&◌, cond, List, [], ◌∷◌, Option, None, Some, nat_eq, refl, sym, ap, ◌∙◌}
+use Rattle.std.proofs.Common.{◌≡◌, ℕ, Bool, true, false, ◌&&◌, cond, List, [], ◌∷◌, Option, None, Some, nat_eq, refl, sym, ap, ◌∙◌}
 use Rattle.std.specs.declared.cmp.Ordering.{Ordering}
 use Rattle.std.specs.declared.cmp.Ordering.TheVariants.{Less, Equal, Greater}
 use Rattle.std.specs.declared.ops.Bound.TheVariants.{Included, Unbounded}
@@ -13,9 +13,10 @@ use Rattle.std.proofs.lemmas.Bool.{cond-true, cond-false, eqb-true, eq-eqb}
 use Rattle.std.proofs.lemmas.Cmp.{nat_cmp_total, tied_itself}
 use Rattle.std.proofs.lemmas.Map.Keys.{sorted_head, sorted_tail}
 use Rattle.std.proofs.lemmas.Map.Lookups.{exact_unsigned}
-use Rattle.sorted_pages.specs.Rooms.{PagesView}
-use Rattle.postings.specs.Dictionary.{word_cmp, value_at, entries_of, some_list}
-use Rattle.postings.specs.Prefixes.{with_list, first_rows}
+use Rattle.std.specs.Option.{unwrap_or}
+use Rattle.postings.specs.declared.slots.Slot.{Slot}
+use Rattle.postings.specs.Dictionary.{word_cmp, value_at, entries_of, pages_in, some_list}
+use Rattle.postings.specs.Prefixes.{entries_in, with_list, first_rows}
 use Rattle.postings.proofs.WordLemmas.{same_word}
 
 both : (a b : Bool) → (a && b) ≡ true → (a ≡ true) × (b ≡ true)
@@ -51,8 +52,17 @@ above_all (x ∷ xs) (z ∷ zs) (y ∷ ys) le misses begins =
     by Greater s le later = absurd (cc)
 
 -- what a list shows: nothing where it is empty
-abbrev pub shown : Option PagesView → Option (List ℕ)
-shown o = some_list (entries_of o)
+abbrev pub shown : List (Option Slot) → Option ℕ → Option (List ℕ)
+shown slots o = some_list (entries_of (pages_in slots o))
+
+-- a list that shows its entries, or nothing
+pub listed : (word entries list : List ℕ) (rows : List (List ℕ × List ℕ)) → Some list ≡ some_list entries → with_list word entries rows ≡ (word, list) ∷ rows
+listed word [] list rows some = absurd (cc)
+listed word (x ∷ xs) list rows some = ap (λ o. (word, unwrap_or o list) ∷ rows) (sym some)
+
+pub unlisted : (word entries : List ℕ) (rows : List (List ℕ × List ℕ)) → None ≡ some_list entries → with_list word entries rows ≡ rows
+unlisted word [] rows none = refl
+unlisted word (x ∷ xs) rows none = absurd (cc)
 
 pub row_other : (w word entries : List ℕ) (rows : List (List ℕ × List ℕ)) → is_eq (word_cmp w word) ≡ false → value_at w (with_list word entries rows) ≡ value_at w rows
 row_other w word [] rows h = refl
@@ -73,26 +83,26 @@ none_equal w word (r ∷ rs) above same =
     cond-false _ _ _ (ap is_eq (ap (λ v. word_cmp v r.0) (same_word w word same) ∙ above.0)) ∙ none_equal w word rs above.1 same
 
 -- the entries from the prefix on, as a range of the map has them
-abbrev pub from_prefix : List ℕ → List (List ℕ × PagesView) → List (List ℕ × PagesView)
+abbrev pub from_prefix : List ℕ → List (List ℕ × ℕ) → List (List ℕ × ℕ)
 from_prefix prefix lists = entries_between word_cmp (Included prefix) Unbounded lists
 
 -- each list of a word that begins so is there, and no other
-abbrev pub Shows : List ℕ → List ℕ → List (List ℕ × PagesView) → List (List ℕ × List ℕ) → Type 0
-Shows prefix w lists rows = value_at w rows ≡ cond (starts_with nat_eq w prefix) (shown (value_at w lists)) None
+abbrev pub Shows : List (Option Slot) → List ℕ → List ℕ → List (List ℕ × ℕ) → List (List ℕ × List ℕ) → Type 0
+Shows slots prefix w lists rows = value_at w rows ≡ cond (starts_with nat_eq w prefix) (shown slots (value_at w lists)) None
 
-pub shows_all : (prefix w : List ℕ) (lists : List (List ℕ × PagesView)) → IsStrictlySortedBy word_cmp (keys_of lists) → Shows prefix w lists (first_rows prefix (from_prefix prefix lists))
-shows_all prefix w [] sorted = none (starts_with nat_eq w prefix)
+pub shows_all : (slots : List (Option Slot)) (prefix w : List ℕ) (lists : List (List ℕ × ℕ)) → IsStrictlySortedBy word_cmp (keys_of lists) → Shows slots prefix w lists (first_rows slots prefix (from_prefix prefix lists))
+shows_all slots prefix w [] sorted = none (starts_with nat_eq w prefix)
   where
     none : (b : Bool) → ◌≡◌ {A = Option (List ℕ)} None (cond b None None)
     none true = refl
     none false = refl
-shows_all prefix w (r ∷ rs) sorted =
-    by_range (is_le (word_cmp prefix r.0)) (starts_with nat_eq r.0 prefix) (is_eq (word_cmp w r.0)) refl refl refl (shows_all prefix w rs (sorted_tail word_cmp r.0 (keys_of rs) sorted))
+shows_all slots prefix w (r ∷ rs) sorted =
+    by_range (is_le (word_cmp prefix r.0)) (starts_with nat_eq r.0 prefix) (is_eq (word_cmp w r.0)) refl refl refl (shows_all slots prefix w rs (sorted_tail word_cmp r.0 (keys_of rs) sorted))
   where
     above : AllByRecursion (λ y. word_cmp r.0 y ≡ Less) (keys_of rs)
     above = sorted_head word_cmp r.0 (keys_of rs) sorted
 
-    rest : List (List ℕ × PagesView)
+    rest : List (List ℕ × ℕ)
     rest = from_prefix prefix rs
 
     clash : (b : Bool) → b ≡ true → b ≡ false → ⊥
@@ -112,90 +122,83 @@ shows_all prefix w (r ∷ rs) sorted =
     unless false u v x f = refl
 
     by_range : (inside starts same : Bool) → inside ≡ is_le (word_cmp prefix r.0) → starts ≡ starts_with nat_eq r.0 prefix → same ≡ is_eq (word_cmp w r.0)
-        → Shows prefix w rs (first_rows prefix rest)
-        → value_at w (first_rows prefix (cond (inside && true) (r ∷ rest) rest)) ≡ cond (starts_with nat_eq w prefix) (shown (cond same (Some r.1) (value_at w rs))) None
+        → Shows slots prefix w rs (first_rows slots prefix rest)
+        → value_at w (first_rows slots prefix (cond (inside && true) (r ∷ rest) rest)) ≡ cond (starts_with nat_eq w prefix) (shown slots (cond same (Some r.1) (value_at w rs))) None
     by_range false starts false p q s later = later
     by_range false starts true p q s later = later ∙ unless (starts_with nat_eq w prefix) _ _ None
         (λ begins. absurd (clash (is_le (word_cmp prefix r.0)) (ap (λ v. is_le (word_cmp prefix v)) (sym (same_word w r.0 (sym s))) ∙ not_below prefix w begins) (sym p)))
-    by_range true false same p q s later = ap (λ b. value_at w (cond b (with_list r.0 r.1.entries (first_rows prefix rest)) [])) (sym q)
-        ∙ none_if (starts_with nat_eq w prefix) (shown (cond same (Some r.1) (value_at w rs)))
+    by_range true false same p q s later = ap (λ b. value_at w (cond b (with_list r.0 (entries_in slots r.1) (first_rows slots prefix rest)) [])) (sym q)
+        ∙ none_if (starts_with nat_eq w prefix) (shown slots (cond same (Some r.1) (value_at w rs)))
         (λ begins.
         let less : word_cmp w r.0 ≡ Less = above_all prefix r.0 w (sym p) (sym q) begins in
-        ap (λ b. shown (cond b (Some r.1) (value_at w rs))) (s ∙ ap is_eq less) ∙ ap shown (none_above w r.0 rs above less))
-    by_range true true true p q s later = ap (λ b. value_at w (cond b (with_list r.0 r.1.entries (first_rows prefix rest)) [])) (sym q)
-        ∙ row_here w r.0 r.1.entries (first_rows prefix rest) (sym s)
-        (later ∙ ap (λ o. cond (starts_with nat_eq w prefix) (shown o) None) (none_equal w r.0 rs above (sym s)) ∙ none_both (starts_with nat_eq w prefix))
+        ap (λ b. shown slots (cond b (Some r.1) (value_at w rs))) (s ∙ ap is_eq less) ∙ ap (shown slots) (none_above w r.0 rs above less))
+    by_range true true true p q s later = ap (λ b. value_at w (cond b (with_list r.0 (entries_in slots r.1) (first_rows slots prefix rest)) [])) (sym q)
+        ∙ row_here w r.0 (entries_in slots r.1) (first_rows slots prefix rest) (sym s)
+        (later ∙ ap (λ o. cond (starts_with nat_eq w prefix) (shown slots o) None) (none_equal w r.0 rs above (sym s)) ∙ none_both (starts_with nat_eq w prefix))
         ∙ sym (cond-true (starts_with nat_eq w prefix) _ _ (ap (λ v. starts_with nat_eq v prefix) (same_word w r.0 (sym s)) ∙ sym q))
-    by_range true true false p q s later = ap (λ b. value_at w (cond b (with_list r.0 r.1.entries (first_rows prefix rest)) [])) (sym q)
-        ∙ row_other w r.0 r.1.entries (first_rows prefix rest) (sym s) ∙ later
+    by_range true true false p q s later = ap (λ b. value_at w (cond b (with_list r.0 (entries_in slots r.1) (first_rows slots prefix rest)) [])) (sym q)
+        ∙ row_other w r.0 (entries_in slots r.1) (first_rows slots prefix rest) (sym s) ∙ later
 
-all_after : (prefix word : List ℕ) (lists : List (List ℕ × PagesView)) → AllByRecursion (λ y. word_cmp word y ≡ Less) (keys_of lists)
-    → AllByRecursion (λ y. word_cmp word y ≡ Less) (keys_of (first_rows prefix (from_prefix prefix lists)))
-all_after prefix word [] above = tt
-all_after prefix word (r ∷ rs) above = by_range (is_le (word_cmp prefix r.0)) (all_after prefix word rs above.1)
+all_after : (slots : List (Option Slot)) (prefix word : List ℕ) (lists : List (List ℕ × ℕ)) → AllByRecursion (λ y. word_cmp word y ≡ Less) (keys_of lists)
+    → AllByRecursion (λ y. word_cmp word y ≡ Less) (keys_of (first_rows slots prefix (from_prefix prefix lists)))
+all_after slots prefix word [] above = tt
+all_after slots prefix word (r ∷ rs) above = by_range (is_le (word_cmp prefix r.0)) (all_after slots prefix word rs above.1)
   where
-    rest : List (List ℕ × PagesView)
+    rest : List (List ℕ × ℕ)
     rest = from_prefix prefix rs
 
-    listed : (entries : List ℕ) → AllByRecursion (λ y. word_cmp word y ≡ Less) (keys_of (first_rows prefix rest))
-        → AllByRecursion (λ y. word_cmp word y ≡ Less) (keys_of (with_list r.0 entries (first_rows prefix rest)))
-    listed [] later = later
-    listed (x ∷ xs) later = (above.0, later)
+    one_more : (entries : List ℕ) → AllByRecursion (λ y. word_cmp word y ≡ Less) (keys_of (first_rows slots prefix rest))
+        → AllByRecursion (λ y. word_cmp word y ≡ Less) (keys_of (with_list r.0 entries (first_rows slots prefix rest)))
+    one_more [] later = later
+    one_more (x ∷ xs) later = (above.0, later)
 
-    starting : (b : Bool) → AllByRecursion (λ y. word_cmp word y ≡ Less) (keys_of (first_rows prefix rest))
-        → AllByRecursion (λ y. word_cmp word y ≡ Less) (keys_of (cond b (with_list r.0 r.1.entries (first_rows prefix rest)) []))
-    starting true later = listed r.1.entries later
+    starting : (b : Bool) → AllByRecursion (λ y. word_cmp word y ≡ Less) (keys_of (first_rows slots prefix rest))
+        → AllByRecursion (λ y. word_cmp word y ≡ Less) (keys_of (cond b (with_list r.0 (entries_in slots r.1) (first_rows slots prefix rest)) []))
+    starting true later = one_more (entries_in slots r.1) later
     starting false later = tt
 
-    by_range : (b : Bool) → AllByRecursion (λ y. word_cmp word y ≡ Less) (keys_of (first_rows prefix rest))
-        → AllByRecursion (λ y. word_cmp word y ≡ Less) (keys_of (first_rows prefix (cond (b && true) (r ∷ rest) rest)))
+    by_range : (b : Bool) → AllByRecursion (λ y. word_cmp word y ≡ Less) (keys_of (first_rows slots prefix rest))
+        → AllByRecursion (λ y. word_cmp word y ≡ Less) (keys_of (first_rows slots prefix (cond (b && true) (r ∷ rest) rest)))
     by_range true later = starting (starts_with nat_eq r.0 prefix) later
     by_range false later = later
 
-pub rows_sorted : (prefix : List ℕ) (lists : List (List ℕ × PagesView)) → IsStrictlySortedBy word_cmp (keys_of lists)
-    → IsStrictlySortedBy word_cmp (keys_of (first_rows prefix (from_prefix prefix lists)))
+pub rows_sorted : (slots : List (Option Slot)) (prefix : List ℕ) (lists : List (List ℕ × ℕ)) → IsStrictlySortedBy word_cmp (keys_of lists)
+    → IsStrictlySortedBy word_cmp (keys_of (first_rows slots prefix (from_prefix prefix lists)))
 unfolding IsStrictlySortedBy
-rows_sorted prefix [] sorted = tt
-rows_sorted prefix (r ∷ rs) sorted =
-    by_range (is_le (word_cmp prefix r.0)) (all_after prefix r.0 rs sorted.0) (rows_sorted prefix rs sorted.1)
+rows_sorted slots prefix [] sorted = tt
+rows_sorted slots prefix (r ∷ rs) sorted =
+    by_range (is_le (word_cmp prefix r.0)) (all_after slots prefix r.0 rs sorted.0) (rows_sorted slots prefix rs sorted.1)
   where
-    rest : List (List ℕ × PagesView)
+    rest : List (List ℕ × ℕ)
     rest = from_prefix prefix rs
 
     Above : Type 0
-    Above = AllByRecursion (λ y. word_cmp r.0 y ≡ Less) (keys_of (first_rows prefix rest))
+    Above = AllByRecursion (λ y. word_cmp r.0 y ≡ Less) (keys_of (first_rows slots prefix rest))
 
     Sorted : List (List ℕ × List ℕ) → Type 0
     Sorted rows = IsStrictlySortedBy word_cmp (keys_of rows)
 
-    listed : (entries : List ℕ) → Above → Sorted (first_rows prefix rest) → Sorted (with_list r.0 entries (first_rows prefix rest))
-    listed [] above later = later
-    listed (x ∷ xs) above later = (above, later)
+    one_more : (entries : List ℕ) → Above → Sorted (first_rows slots prefix rest) → Sorted (with_list r.0 entries (first_rows slots prefix rest))
+    one_more [] above later = later
+    one_more (x ∷ xs) above later = (above, later)
 
-    starting : (b : Bool) → Above → Sorted (first_rows prefix rest) → Sorted (cond b (with_list r.0 r.1.entries (first_rows prefix rest)) [])
-    starting true above later = listed r.1.entries above later
+    starting : (b : Bool) → Above → Sorted (first_rows slots prefix rest) → Sorted (cond b (with_list r.0 (entries_in slots r.1) (first_rows slots prefix rest)) [])
+    starting true above later = one_more (entries_in slots r.1) above later
     starting false above later = tt
 
-    by_range : (b : Bool) → Above → Sorted (first_rows prefix rest) → Sorted (first_rows prefix (cond (b && true) (r ∷ rest) rest))
+    by_range : (b : Bool) → Above → Sorted (first_rows slots prefix rest) → Sorted (first_rows slots prefix (cond (b && true) (r ∷ rest) rest))
     by_range true above later = starting (starts_with nat_eq r.0 prefix) above later
     by_range false above later = later
 
 -- one word of the dictionary less, if it begins so and has a place
-pub first_found : (prefix word : List ℕ) (pages : PagesView) (rows : List (List ℕ × PagesView)) → starts_with nat_eq word prefix ≡ true → 0 < length pages.entries
-    → first_rows prefix ((word, pages) ∷ rows) ≡ (word, pages.entries) ∷ first_rows prefix rows
-first_found prefix word pages rows begins some = cond-true (starts_with nat_eq word prefix) _ [] begins ∙ by pages.entries some
-  where
-    by : (entries : List ℕ) → 0 < length entries → with_list word entries (first_rows prefix rows) ≡ (word, entries) ∷ first_rows prefix rows
-    by [] h = absurd (omega arith)
-    by (x ∷ xs) h = refl
+pub first_found : (slots : List (Option Slot)) (prefix word : List ℕ) (number : ℕ) (list : List ℕ) (rows : List (List ℕ × ℕ)) → starts_with nat_eq word prefix ≡ true
+    → Some list ≡ some_list (entries_in slots number) → first_rows slots prefix ((word, number) ∷ rows) ≡ (word, list) ∷ first_rows slots prefix rows
+first_found slots prefix word number list rows begins some = cond-true (starts_with nat_eq word prefix) _ [] begins ∙ listed word (entries_in slots number) list (first_rows slots prefix rows) some
 
-pub first_passed : (prefix word : List ℕ) (pages : PagesView) (rows : List (List ℕ × PagesView)) → starts_with nat_eq word prefix ≡ true → length pages.entries ≡ 0
-    → first_rows prefix ((word, pages) ∷ rows) ≡ first_rows prefix rows
-first_passed prefix word pages rows begins none = cond-true (starts_with nat_eq word prefix) _ [] begins ∙ by pages.entries none
-  where
-    by : (entries : List ℕ) → length entries ≡ 0 → with_list word entries (first_rows prefix rows) ≡ first_rows prefix rows
-    by [] h = refl
-    by (x ∷ xs) h = absurd (omega arith)
+pub first_passed : (slots : List (Option Slot)) (prefix word : List ℕ) (number : ℕ) (rows : List (List ℕ × ℕ)) → starts_with nat_eq word prefix ≡ true → None ≡ some_list (entries_in slots number)
+    → first_rows slots prefix ((word, number) ∷ rows) ≡ first_rows slots prefix rows
+first_passed slots prefix word number rows begins none = cond-true (starts_with nat_eq word prefix) _ [] begins ∙ unlisted word (entries_in slots number) (first_rows slots prefix rows) none
 
-pub first_ends : (prefix word : List ℕ) (pages : PagesView) (rows : List (List ℕ × PagesView)) → starts_with nat_eq word prefix ≡ false → first_rows prefix ((word, pages) ∷ rows) ≡ []
-first_ends prefix word pages rows fails = cond-false (starts_with nat_eq word prefix) _ [] fails
+pub first_ends : (slots : List (Option Slot)) (prefix word : List ℕ) (number : ℕ) (rows : List (List ℕ × ℕ)) → starts_with nat_eq word prefix ≡ false
+    → first_rows slots prefix ((word, number) ∷ rows) ≡ []
+first_ends slots prefix word number rows fails = cond-false (starts_with nat_eq word prefix) _ [] fails

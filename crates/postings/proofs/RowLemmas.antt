@@ -13,11 +13,10 @@ use Rattle.std.proofs.lemmas.List.{get_or-map}
 use Rattle.std.proofs.lemmas.Map.Entries.{length-keys_of}
 use Rattle.std.proofs.lemmas.Map.Keys.{Less-from_sorted, sorted_head, sorted_tail}
 use Rattle.sorted_pages.specs.Entries.{has}
-use Rattle.sorted_pages.specs.Rooms.{PagesView}
 use Rattle.postings.specs.declared.change.Side.{Side}
 use Rattle.postings.specs.declared.change.Side.TheVariants.{Goes, Comes}
 use Rattle.postings.specs.declared.change.WordChange.{WordChange}
-use Rattle.postings.specs.Dictionary.{word_cmp, value_at, entries_of}
+use Rattle.postings.specs.Dictionary.{Lists, word_cmp, value_at, entries_of, pages_at}
 use Rattle.postings.specs.Changes.{ChangeView, is_side, side_of, side_at, named, IsRowOf, IsChangeOf}
 use Rattle.postings.specs.Documents.{Document, stands_in, AreNarrow}
 use Rattle.postings.proofs.WordLemmas.{Written, same_word, by_word, itself, turned, bytes_itself, bytes_apart, written_here, written_other}
@@ -222,20 +221,20 @@ named_more side word entry old new m n was written more s w e =
         ∙ ap (λ b. (is_side side s && (b && (entry == e))) || named s w e m) (sym (bytes_apart word w apart))
 
 -- the lists after the changes of some rows
-abbrev pub Told : List (List ℕ × PagesView) → List (List ℕ × WordChange) → List (List ℕ × PagesView) → List ℕ → ℕ → Type 0
-Told first rows now w e = has (entries_of (value_at w now)) e ≡ ((named Comes w e rows || has (entries_of (value_at w first)) e) && not (named Goes w e rows))
+abbrev pub Told : Lists → List (List ℕ × WordChange) → Lists → List ℕ → ℕ → Type 0
+Told first rows now w e = has (entries_of (pages_at w now)) e ≡ ((named Comes w e rows || has (entries_of (pages_at w first)) e) && not (named Goes w e rows))
 
-pub told_none : (first : List (List ℕ × PagesView)) (w : List ℕ) (e : ℕ) → Told first [] first w e
-told_none first w e = by (has (entries_of (value_at w first)) e)
+pub told_none : (first : Lists) (w : List ℕ) (e : ℕ) → Told first [] first w e
+told_none first w e = by (has (entries_of (pages_at w first)) e)
   where
     by : (b : Bool) → b ≡ (b && true)
     by true = refl
     by false = refl
 
-pub told_more : (x : List ℕ × WordChange) (rows : List (List ℕ × WordChange)) (first old new : List (List ℕ × PagesView)) → value_at x.0 rows ≡ None
+pub told_more : (x : List ℕ × WordChange) (rows : List (List ℕ × WordChange)) (first old new : Lists) → value_at x.0 rows ≡ None
     → ((w : List ℕ) (e : ℕ) → Told first rows old w e)
-    → ((e : ℕ) → has (entries_of (value_at x.0 new)) e ≡ ((has x.1.come.items e || has (entries_of (value_at x.0 old)) e) && not (has x.1.gone.items e)))
-    → ((w : List ℕ) → is_eq (word_cmp x.0 w) ≡ false → value_at w new ≡ value_at w old)
+    → ((e : ℕ) → has (entries_of (pages_at x.0 new)) e ≡ ((has x.1.come.items e || has (entries_of (pages_at x.0 old)) e) && not (has x.1.gone.items e)))
+    → ((w : List ℕ) → is_eq (word_cmp x.0 w) ≡ false → pages_at w new ≡ pages_at w old)
     → (w : List ℕ) (e : ℕ) → Told first (rows ++ x ∷ []) new w e
 told_more x rows first old new absent told changed others w e = by_word x.0 (λ w. Told first (rows ++ x ∷ []) new w e) here there w
   where
@@ -243,14 +242,14 @@ told_more x rows first old new absent told changed others w e = by_word x.0 (λ 
     as_it_was true = refl
     as_it_was false = refl
 
-    before : has (entries_of (value_at x.0 old)) e ≡ has (entries_of (value_at x.0 first)) e
-    before = told x.0 e ∙ ap (λ o. (has (side_at Comes o) e || has (entries_of (value_at x.0 first)) e) && not (has (side_at Goes o) e)) absent
-        ∙ as_it_was (has (entries_of (value_at x.0 first)) e)
+    before : has (entries_of (pages_at x.0 old)) e ≡ has (entries_of (pages_at x.0 first)) e
+    before = told x.0 e ∙ ap (λ o. (has (side_at Comes o) e || has (entries_of (pages_at x.0 first)) e) && not (has (side_at Goes o) e)) absent
+        ∙ as_it_was (has (entries_of (pages_at x.0 first)) e)
 
     here : Told first (rows ++ x ∷ []) new x.0 e
     here = changed e ∙ ap (λ b. (has x.1.come.items e || b) && not (has x.1.gone.items e)) before
-        ∙ ap (λ o. (has (side_at Comes o) e || has (entries_of (value_at x.0 first)) e) && not (has (side_at Goes o) e)) (sym (value_push_here x rows absent))
+        ∙ ap (λ o. (has (side_at Comes o) e || has (entries_of (pages_at x.0 first)) e) && not (has (side_at Goes o) e)) (sym (value_push_here x rows absent))
 
     there : (w : List ℕ) → is_eq (word_cmp x.0 w) ≡ false → Told first (rows ++ x ∷ []) new w e
     there w apart = ap (λ o. has (entries_of o) e) (others w apart) ∙ told w e
-        ∙ ap (λ o. (has (side_at Comes o) e || has (entries_of (value_at w first)) e) && not (has (side_at Goes o) e)) (sym (value_push_other x rows w apart))
+        ∙ ap (λ o. (has (side_at Comes o) e || has (entries_of (pages_at w first)) e) && not (has (side_at Goes o) e)) (sym (value_push_other x rows w apart))

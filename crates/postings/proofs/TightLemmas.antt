@@ -4,17 +4,16 @@ use Rattle.std.specs.Ordering.{is_eq}
 use Rattle.std.specs.BTreeMap.{is_at}
 use Rattle.std.proofs.Math.Seq.{drop-cons}
 use Rattle.std.proofs.lemmas.Bool.{cond-false}
-use Rattle.sorted_pages.specs.Rooms.{PagesView}
 use Rattle.postings.specs.declared.change.WordChange.{WordChange}
-use Rattle.postings.specs.Dictionary.{word_cmp, value_at, entries_of, IsTight, none}
+use Rattle.postings.specs.Dictionary.{Lists, word_cmp, value_at, entries_of, pages_at, IsTight, none}
 use Rattle.postings.proofs.WordLemmas.{by_word, turned}
 
 -- one word less of which an empty list may stay
-pub tight_less : (x : List ℕ × WordChange) (rows : List (List ℕ × WordChange)) (old new : List (List ℕ × PagesView))
-    → (entries_of (value_at x.0 new) ≡ [] → value_at x.0 new ≡ None)
-    → ((w : List ℕ) → is_eq (word_cmp x.0 w) ≡ false → value_at w new ≡ value_at w old)
+pub tight_less : (x : List ℕ × WordChange) (rows : List (List ℕ × WordChange)) (old new : Lists)
+    → (entries_of (pages_at x.0 new) ≡ [] → pages_at x.0 new ≡ None)
+    → ((w : List ℕ) → is_eq (word_cmp x.0 w) ≡ false → pages_at w new ≡ pages_at w old)
     → IsTight (x ∷ rows) old → IsTight rows new
-tight_less x rows old new here others before = by_word x.0 (λ w. value_at w rows ≡ None → entries_of (value_at w new) ≡ [] → value_at w new ≡ None)
+tight_less x rows old new here others before = by_word x.0 (λ w. value_at w rows ≡ None → entries_of (pages_at w new) ≡ [] → pages_at w new ≡ None)
     (λ gone. here)
     (λ w apart gone empty. others w apart ∙ before w (cond-false _ _ _ (turned w x.0 ∙ apart) ∙ gone) (ap entries_of (sym (others w apart)) ∙ empty))
 
@@ -37,6 +36,6 @@ absent_apart {X} (r ∷ rs) (suc i) d w inside none = absent_apart rs i d w (ome
     later false e = e
 
 -- only words of the rows may have got an empty list
-pub tight_but : (rows : List (List ℕ × WordChange)) (old new : List (List ℕ × PagesView)) → ((w : List ℕ) → value_at w rows ≡ None → value_at w new ≡ value_at w old)
+pub tight_but : (rows : List (List ℕ × WordChange)) (old new : Lists) → ((w : List ℕ) → value_at w rows ≡ None → pages_at w new ≡ pages_at w old)
     → IsTight none old → IsTight rows new
 tight_but rows old new others tight w absent empty = others w absent ∙ tight w refl (ap entries_of (sym (others w absent)) ∙ empty)

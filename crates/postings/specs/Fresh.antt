@@ -1,6 +1,6 @@
 -- When lists are those of documents.
 use Rattle.std.specs.Prelude.{◌≡◌, ℕ, List}
-use Rattle.sorted_pages.specs.Entries.{has, IsIncreasing}
+use Rattle.sorted_pages.specs.Entries.{has}
 use Rattle.postings.specs.Dictionary.{PostingsView, list_at}
 use Rattle.postings.specs.Documents.{Document, stands, AllNarrow, AreApart}
 

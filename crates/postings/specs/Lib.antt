@@ -5,3 +5,4 @@ pub mod Changes
 pub mod Fresh
 pub mod Prefixes
 pub mod Words
+pub mod Sets

@@ -48,6 +48,8 @@ impl Model for Change {
 #[derive(Drop)]
 pub struct Prepared {
     pub(crate) words: Vec<(Word, WordChange)>,
+    // The numbers that the words had in the dictionary.
+    pub(crate) numbers: Vec<u32>,
 }
 
 impl Model for Prepared {

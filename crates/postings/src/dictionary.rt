@@ -1,134 +1,270 @@
-ghost use Rattle.std.specs.Prelude.{◌≡◌, ℕ, List, [], not, ◌&&◌, ◌||◌, OnOk, None};
+ghost use Rattle.std.specs.Prelude.{◌≡◌, ℕ, ◌<◌, List, [], length, not, ◌&&◌, ◌||◌, IfOk, OnOk, None, Some};
 ghost use Rattle.std.specs.Bool.{OnTrue, OnFalse};
+ghost use Rattle.std.specs.Option.{option_map, option_copied};
+ghost use Rattle.std.specs.Ordering.{is_eq};
 ghost use Rattle.sorted_pages.specs.Entries.{has, IsIncreasing};
-ghost use Rattle.postings.specs.Dictionary.{value_at, entries_of, RoomAt, HasRooms};
+ghost use Rattle.postings.specs.Dictionary.{word_cmp, value_at, entries_of, RoomAt, HasRooms};
+ghost use Rattle.postings.specs.Dictionary.{IsNumbered, lists_of, pages_at};
 ghost use Rattle.postings.specs.Dictionary.{HasSameLists, HasSameOthers, IsTight, IsTightAt, none};
 ghost use Rattle.postings.specs.Changes.{named, AreSettled};
 ghost use Rattle.postings.specs.declared.change.Side.TheVariants.{Goes, Comes};
 
 use crate::change::{WordChange, copy_word};
-use search_base::{NoMemory, Word};
-use sorted_pages::{SortedPages, changes_are_on_members};
+use crate::posting_list::PostingList;
+use crate::slots::{
+    Slot, change_at, clear_at, free_number, is_empty_at, is_word_at, put_at, reserve_at, slot_at,
+};
+use search_base::{DocId, NoMemory, Word};
 use std::alloc::Global;
 use std::collections::BTreeMap;
 
-// The lists by word. One that is empty only holds room.
-pub(crate) type Lists = BTreeMap<Word, SortedPages>;
+// The words with their lists, each under its number, and the numbers of the words in order. A list that is empty only
+// holds room.
+#[derive(Drop)]
+pub(crate) struct Dictionary {
+    pub(crate) slots: Vec<Option<Slot>>,
+    pub(crate) numbers: BTreeMap<Word, u32>,
+    // Numbers of no word, with room for all.
+    pub(crate) free: Vec<u32>,
+}
 
-// Makes room for what a word gains.
-fn reserve_word(alloc: Global, lists: &mut Lists, word: &Word, come: &[u64]) -> Result<(), NoMemory>
-    requires { IsIncreasing come.now }
-    ensures lists { HasSameLists lists.old.entries lists.new.entries }
-    ensures others { HasSameOthers word.now lists.old.entries lists.new.entries }
-    ensures room { OnOk result (RoomAt (value_at word.now lists.new.entries) come.now) }
+// A dictionary of no word. Takes no memory.
+pub(crate) fn no_words(alloc: Global) -> Dictionary
+    ensures numbered { IsNumbered (lists_of result) }
+    ensures empty { (word : List ℕ) → pages_at word (lists_of result) ≡ None }
 {
-    match lists.get_mut(word) {
-        Some(list) => return list.reserve(alloc, come),
+    Dictionary {
+        slots: Vec::new(alloc),
+        numbers: BTreeMap::new(alloc),
+        free: Vec::new(alloc),
+    }
+}
+
+// The number of a word, if it has one.
+fn number_of(lists: &Dictionary, word: &Word) -> Option<u32>
+    ensures { result ≡ value_at word.now lists.now.numbers.entries }
+{
+    lists.numbers.get(word).copied()
+}
+
+// The same, where it is likely this one.
+fn likely_number_of(lists: &Dictionary, word: &Word, likely: Option<u32>) -> Option<u32>
+    requires { IsNumbered (lists_of lists.now) }
+    ensures { result ≡ value_at word.now lists.now.numbers.entries }
+{
+    match likely {
+        Some(number) => {
+            if is_word_at(&lists.slots, number, word) {
+                return Some(number);
+            }
+        }
         None => {}
     }
-    let mut list = SortedPages::new(alloc);
-    list.reserve(alloc, come)?;
-    lists.insert(copy_word(word)?, list)?;
-    Ok(())
+    number_of(lists, word)
 }
 
-// Makes room for what each word gains.
+// The list of a word, if it has one.
+pub(crate) fn list_of<'a>(lists: &'a Dictionary, word: &Word) -> Option<&'a PostingList>
+    ensures { option_copied result ≡ pages_at word.now (lists_of lists.now) }
+{
+    match number_of(lists, word) {
+        Some(number) => match slot_at(&lists.slots, number) {
+            Some(slot) => Some(&slot.list),
+            None => None,
+        },
+        None => None,
+    }
+}
+
+// Gives a word that has none a number and an empty list.
+fn add_word(alloc: Global, lists: &mut Dictionary, word: &Word) -> Result<u32, NoMemory>
+    requires numbered { IsNumbered (lists_of lists.old) }
+    requires new { value_at word.now lists.old.numbers.entries ≡ None }
+    ensures numbered { IsNumbered (lists_of lists.new) }
+    ensures lists { HasSameLists (lists_of lists.old) (lists_of lists.new) }
+    ensures others { HasSameOthers word.now (lists_of lists.old) (lists_of lists.new) }
+    ensures number { IfOk result (λ number. value_at word.now lists.new.numbers.entries ≡ Some number) }
+{
+    let slot = Slot {
+        word: copy_word(word)?,
+        list: PostingList::new(alloc),
+    };
+    let key = copy_word(word)?;
+    let number = free_number(&mut lists.slots, &mut lists.free)?;
+    match lists.numbers.insert(key, number) {
+        Ok(_) => {
+            put_at(&mut lists.slots, number, slot);
+            Ok(number)
+        }
+        Err(_) => {
+            let _kept = lists.free.push(number);
+            Err(NoMemory)
+        }
+    }
+}
+
+// The number of a word, which is given one with an empty list where it has none.
+fn some_number_of(alloc: Global, lists: &mut Dictionary, word: &Word) -> Result<u32, NoMemory>
+    requires { IsNumbered (lists_of lists.old) }
+    ensures numbered { IsNumbered (lists_of lists.new) }
+    ensures lists { HasSameLists (lists_of lists.old) (lists_of lists.new) }
+    ensures others { HasSameOthers word.now (lists_of lists.old) (lists_of lists.new) }
+    ensures number { IfOk result (λ number. value_at word.now lists.new.numbers.entries ≡ Some number) }
+{
+    match number_of(lists, word) {
+        Some(number) => Ok(number),
+        None => add_word(alloc, lists, word),
+    }
+}
+
+// Makes room for what a word gains, and gives its number.
+fn reserve_word(
+    alloc: Global,
+    lists: &mut Dictionary,
+    word: &Word,
+    come: &[u64],
+    last: DocId,
+) -> Result<u32, NoMemory>
+    requires numbered { IsNumbered (lists_of lists.old) }
+    requires come { IsIncreasing come.now }
+    ensures numbered { IsNumbered (lists_of lists.new) }
+    ensures lists { HasSameLists (lists_of lists.old) (lists_of lists.new) }
+    ensures others { HasSameOthers word.now (lists_of lists.old) (lists_of lists.new) }
+    ensures room { OnOk result (RoomAt (pages_at word.now (lists_of lists.new)) come.now) }
+{
+    let number = some_number_of(alloc, lists, word)?;
+    reserve_at(alloc, &mut lists.slots, number, come, last)?;
+    Ok(number)
+}
+
+// Makes room for what each word gains, where no document is above the last, and adds the numbers of the words.
 pub(crate) fn reserve_words(
     alloc: Global,
-    lists: &mut Lists,
+    lists: &mut Dictionary,
     rows: &[(Word, WordChange)],
+    last: DocId,
+    numbers: &mut Vec<u32>,
 ) -> Result<(), NoMemory>
-    requires { AreSettled rows.now }
-    ensures lists { HasSameLists lists.old.entries lists.new.entries }
-    ensures others { (w : List ℕ) → value_at w rows.now ≡ None
-        → value_at w lists.new.entries ≡ value_at w lists.old.entries }
-    ensures room { OnOk result (HasRooms lists.new.entries rows.now) }
+    requires numbered { IsNumbered (lists_of lists.old) }
+    requires settled { AreSettled rows.now }
+    ensures numbered { IsNumbered (lists_of lists.new) }
+    ensures lists { HasSameLists (lists_of lists.old) (lists_of lists.new) }
+    ensures others { (w : List ℕ) → value_at w rows.now ≡ None → pages_at w (lists_of lists.new) ≡ pages_at w (lists_of lists.old) }
+    ensures room { OnOk result (HasRooms (lists_of lists.new) rows.now) }
 {
     for row in rows {
-        reserve_word(alloc, lists, &row.0, &row.1.come)?;
+        let number = reserve_word(alloc, lists, &row.0, &row.1.come, last)?;
+        numbers.push(number)?;
     }
     Ok(())
 }
 
-// Makes the change of a word, for which there is room, and tells whether its list is there and empty after that.
-fn change_list(lists: &mut Lists, word: &Word, change: &WordChange) -> bool
-    requires gone { IsIncreasing change.now.gone.items }
-    requires come { IsIncreasing change.now.come.items }
-    requires room { RoomAt (value_at word.now lists.old.entries) change.now.come.items }
-    ensures list { (entry : ℕ) → has (entries_of (value_at word.now lists.new.entries)) entry
-        ≡ ((has change.now.come.items entry || has (entries_of (value_at word.now lists.old.entries)) entry)
-        && not (has change.now.gone.items entry)) }
-    ensures others { HasSameOthers word.now lists.old.entries lists.new.entries }
-    ensures spent { OnTrue result (entries_of (value_at word.now lists.new.entries) ≡ []) }
-    ensures kept { OnFalse result (IsTightAt word.now lists.new.entries) }
+// Takes out a word.
+fn drop_word(lists: &mut Dictionary, word: &Word, number: u32)
+    requires numbered { IsNumbered (lists_of lists.old) }
+    requires number { value_at word.now lists.old.numbers.entries ≡ Some number }
+    ensures numbered { IsNumbered (lists_of lists.new) }
+    ensures others { HasSameOthers word.now (lists_of lists.old) (lists_of lists.new) }
+    ensures gone { pages_at word.now (lists_of lists.new) ≡ None }
 {
-    match lists.get_mut(word) {
-        Some(list) => {
-            changes_are_on_members();
-            list.insert_reserved(&change.come);
-            list.remove_all(&change.gone);
-            list.is_empty()
-        }
-        None => false,
-    }
+    let _number = lists.numbers.remove(word);
+    clear_at(&mut lists.slots, number);
+    let _kept = lists.free.push(number);
 }
 
 // Makes the change of a word, for which there is room, and keeps no empty list.
-fn change_word(lists: &mut Lists, word: &Word, change: &WordChange)
+fn change_number(lists: &mut Dictionary, word: &Word, number: u32, change: &WordChange, last: DocId)
+    requires numbered { IsNumbered (lists_of lists.old) }
+    requires number { value_at word.now lists.old.numbers.entries ≡ Some number }
     requires gone { IsIncreasing change.now.gone.items }
     requires come { IsIncreasing change.now.come.items }
-    requires room { RoomAt (value_at word.now lists.old.entries) change.now.come.items }
-    ensures list { (entry : ℕ) → has (entries_of (value_at word.now lists.new.entries)) entry
-        ≡ ((has change.now.come.items entry || has (entries_of (value_at word.now lists.old.entries)) entry)
+    requires room { RoomAt (pages_at word.now (lists_of lists.old)) change.now.come.items }
+    ensures numbered { IsNumbered (lists_of lists.new) }
+    ensures list { (entry : ℕ) → has (entries_of (pages_at word.now (lists_of lists.new))) entry
+        ≡ ((has change.now.come.items entry || has (entries_of (pages_at word.now (lists_of lists.old))) entry)
         && not (has change.now.gone.items entry)) }
-    ensures others { HasSameOthers word.now lists.old.entries lists.new.entries }
-    ensures tight { IsTightAt word.now lists.new.entries }
+    ensures others { HasSameOthers word.now (lists_of lists.old) (lists_of lists.new) }
+    ensures tight { IsTightAt word.now (lists_of lists.new) }
 {
-    if change_list(lists, word, change) {
-        let _emptied = lists.remove(word);
+    change_at(&mut lists.slots, number, &change.gone, &change.come, last);
+    if is_empty_at(&lists.slots, number) {
+        drop_word(lists, word, number);
     }
 }
 
-// Makes the change of each word, for all of which there is room.
-pub(crate) fn change_words(lists: &mut Lists, rows: &[(Word, WordChange)])
+// The same, where the number is likely this one.
+fn change_word(
+    lists: &mut Dictionary,
+    word: &Word,
+    likely: Option<u32>,
+    change: &WordChange,
+    last: DocId,
+)
+    requires numbered { IsNumbered (lists_of lists.old) }
+    requires gone { IsIncreasing change.now.gone.items }
+    requires come { IsIncreasing change.now.come.items }
+    requires room { RoomAt (pages_at word.now (lists_of lists.old)) change.now.come.items }
+    ensures numbered { IsNumbered (lists_of lists.new) }
+    ensures list { (entry : ℕ) → has (entries_of (pages_at word.now (lists_of lists.new))) entry
+        ≡ ((has change.now.come.items entry || has (entries_of (pages_at word.now (lists_of lists.old))) entry)
+        && not (has change.now.gone.items entry)) }
+    ensures others { HasSameOthers word.now (lists_of lists.old) (lists_of lists.new) }
+    ensures tight { IsTightAt word.now (lists_of lists.new) }
+{
+    match likely_number_of(lists, word, likely) {
+        Some(number) => change_number(lists, word, number, change, last),
+        None => {}
+    }
+}
+
+// Makes the change of each word, for all of which there is room. No document is above the last. The numbers of the
+// words are likely these.
+pub(crate) fn change_words(
+    lists: &mut Dictionary,
+    rows: &[(Word, WordChange)],
+    likely: &[u32],
+    last: DocId,
+)
+    requires numbered { IsNumbered (lists_of lists.old) }
     requires settled { AreSettled rows.now }
-    requires room { HasRooms lists.old.entries rows.now }
-    ensures lists { (word : List ℕ) (entry : ℕ) → has (entries_of (value_at word lists.new.entries)) entry
-        ≡ ((named Comes word entry rows.now || has (entries_of (value_at word lists.old.entries)) entry)
+    requires room { HasRooms (lists_of lists.old) rows.now }
+    ensures numbered { IsNumbered (lists_of lists.new) }
+    ensures lists { (word : List ℕ) (entry : ℕ) → has (entries_of (pages_at word (lists_of lists.new))) entry
+        ≡ ((named Comes word entry rows.now || has (entries_of (pages_at word (lists_of lists.old))) entry)
         && not (named Goes word entry rows.now)) }
-    ensures tight { IsTight rows.now lists.old.entries → IsTight none lists.new.entries }
+    ensures tight { IsTight rows.now (lists_of lists.old) → IsTight none (lists_of lists.new) }
 {
+    let mut numbers = likely.iter();
     for row in rows {
-        change_word(lists, &row.0, &row.1);
+        let likely = numbers.next().copied();
+        change_word(lists, &row.0, likely, &row.1, last);
     }
 }
 
-// Whether the word has an empty list.
-fn is_spent(lists: &Lists, word: &Word) -> bool
-    ensures spent { OnTrue result (entries_of (value_at word.now lists.now.entries) ≡ []) }
-    ensures kept { OnFalse result (IsTightAt word.now lists.now.entries) }
+// Takes out a word, if its list is empty.
+fn drop_spent(lists: &mut Dictionary, word: &Word)
+    requires { IsNumbered (lists_of lists.old) }
+    ensures numbered { IsNumbered (lists_of lists.new) }
+    ensures lists { HasSameLists (lists_of lists.old) (lists_of lists.new) }
+    ensures others { HasSameOthers word.now (lists_of lists.old) (lists_of lists.new) }
+    ensures tight { IsTightAt word.now (lists_of lists.new) }
 {
-    match lists.get(word) {
-        Some(list) => list.is_empty(),
-        None => false,
+    match number_of(lists, word) {
+        Some(number) => {
+            if is_empty_at(&lists.slots, number) {
+                drop_word(lists, word, number);
+            }
+        }
+        None => {}
     }
 }
 
-// Takes out the list of a word, if it is empty.
-fn drop_spent(lists: &mut Lists, word: &Word)
-    ensures lists { HasSameLists lists.old.entries lists.new.entries }
-    ensures others { HasSameOthers word.now lists.old.entries lists.new.entries }
-    ensures tight { IsTightAt word.now lists.new.entries }
-{
-    if is_spent(lists, word) {
-        let _list = lists.remove(word);
-    }
-}
-
-// Takes out the lists of these words that are empty.
-pub(crate) fn drop_all_spent(lists: &mut Lists, rows: &[(Word, WordChange)])
-    ensures lists { HasSameLists lists.old.entries lists.new.entries }
-    ensures tight { IsTight rows.now lists.old.entries → IsTight none lists.new.entries }
+// Takes out those of these words whose lists are empty.
+pub(crate) fn drop_all_spent(lists: &mut Dictionary, rows: &[(Word, WordChange)])
+    requires { IsNumbered (lists_of lists.old) }
+    ensures numbered { IsNumbered (lists_of lists.new) }
+    ensures lists { HasSameLists (lists_of lists.old) (lists_of lists.new) }
+    ensures tight { IsTight rows.now (lists_of lists.old) → IsTight none (lists_of lists.new) }
 {
     for row in rows {
         drop_spent(lists, &row.0);

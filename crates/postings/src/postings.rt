@@ -1,4 +1,5 @@
-ghost use Rattle.std.specs.Prelude.{◌≡◌, ℕ, List, [], not, ◌&&◌, ◌||◌, IfOk, MatchResult, None, nat_eq, if◌then◌else◌};
+ghost use Rattle.std.specs.Prelude.{◌≡◌, ℕ, List, [], not, ◌&&◌, ◌||◌, None, nat_eq, if◌then◌else◌};
+ghost use Rattle.std.specs.Prelude.{IfOk, MatchResult};
 ghost use Rattle.std.specs.List.{starts_with};
 ghost use Rattle.std.specs.List.Sorted.{IsStrictlySortedBy};
 ghost use Rattle.std.specs.Map.{keys_of};
@@ -14,29 +15,36 @@ ghost use Rattle.postings.specs.Fresh.{StandsFor};
 ghost use Rattle.postings.specs.Prefixes.{rows_left};
 
 use crate::change::{Change, Prepared};
-use crate::dictionary::{Lists, change_words, drop_all_spent, reserve_words};
+use crate::dictionary::{
+    Dictionary, change_words, drop_all_spent, list_of, no_words, reserve_words,
+};
+use crate::documents::last_document;
+use crate::posting_list::PostingList;
 use crate::prefix::PrefixLists;
 use crate::settled::settle;
 use crate::words::WordLists;
-use search_base::{NoMemory, Word};
+use search_base::{DocId, NoMemory, Word};
 use sorted_pages::SortedPages;
 use std::alloc::Global;
-use std::collections::BTreeMap;
 use std::marker::Model;
 use std::ops::Bound;
 
 /// For each word the list of its places.
 #[derive(Drop)]
 pub struct Postings {
-    lists: Lists,
+    lists: Dictionary,
+    // No document that came is above it.
+    last: DocId,
 }
 
 impl Model for Postings {
-    ghost use Rattle.postings.specs.Dictionary.{PostingsView};
+    ghost use Rattle.postings.specs.Dictionary.{PostingsView, IsNumbered, lists_of};
 
     ghost Value = { PostingsView };
 
-    ghost view = { λ postings. record { lists = postings.lists.entries } };
+    ghost view = { λ postings. record { lists = lists_of postings.lists } };
+
+    ghost invariant = { λ postings. IsNumbered (lists_of postings.lists) };
 }
 
 impl Postings {
@@ -46,7 +54,18 @@ impl Postings {
         ensures tight { IsTight none result.lists }
     {
         Postings {
-            lists: BTreeMap::new(alloc),
+            lists: no_words(alloc),
+            last: DocId(0),
+        }
+    }
+
+    /// The list of the word, or none where it stands nowhere. Takes no memory.
+    pub fn row(&self, word: &Word) -> Option<&PostingList>
+        ensures { option_map (λ list. list.now.entries) result ≡ some_list (list_at word.now self.now) }
+    {
+        match list_of(&self.lists, word) {
+            Some(list) => { if list.is_empty() { None } else { Some(list) } }
+            None => None,
         }
     }
 
@@ -54,10 +73,7 @@ impl Postings {
     pub fn list(&self, word: &Word) -> Option<&SortedPages>
         ensures { option_map (λ pages. pages.now.entries) result ≡ some_list (list_at word.now self.now) }
     {
-        match self.lists.get(word) {
-            Some(list) => { if list.is_empty() { None } else { Some(list) } }
-            None => None,
-        }
+        Some(self.row(word)?.pages())
     }
 
     /// The words that begin so, in order, each with the list of its places. Takes no memory, and
@@ -67,11 +83,13 @@ impl Postings {
             ≡ (if starts_with nat_eq word prefix.now then some_list (list_at word self.now) else None) }
         ensures order { IsStrictlySortedBy word_cmp (keys_of (rows_left result)) }
     {
-        let _words = self.lists.len();
+        let _words = self.lists.numbers.len();
         PrefixLists {
             prefix,
+            slots: &self.lists.slots,
             lists: self
                 .lists
+                .numbers
                 .range((Bound::Included(prefix), Bound::Unbounded)),
             done: false,
         }
@@ -85,9 +103,10 @@ impl Postings {
             then some_list (list_at word self.now) else None) }
         ensures order { IsStrictlySortedBy word_cmp (keys_of result) }
     {
-        let _words = self.lists.len();
+        let _words = self.lists.numbers.len();
         WordLists {
-            lists: self.lists.range((low, Bound::Unbounded)),
+            slots: &self.lists.slots,
+            lists: self.lists.numbers.range((low, Bound::Unbounded)),
         }
     }
 
@@ -99,9 +118,10 @@ impl Postings {
             else some_list (list_at word self.now)) }
         ensures order { IsStrictlySortedBy word_cmp (keys_of result) }
     {
-        let _words = self.lists.len();
+        let _words = self.lists.numbers.len();
         WordLists {
-            lists: self.lists.range((Bound::Unbounded, high)),
+            slots: &self.lists.slots,
+            lists: self.lists.numbers.range((Bound::Unbounded, high)),
         }
     }
 
@@ -118,10 +138,13 @@ impl Postings {
             (λ _. IsTight none self.new.lists) }
     {
         let words = settle(alloc, change.words)?;
-        match reserve_words(alloc, &mut self.lists, words.as_slice()) {
-            Ok(()) => Ok(Prepared { words }),
+        let rows = words.as_slice();
+        self.last = last_document(rows, self.last);
+        let mut numbers = Vec::new(alloc);
+        match reserve_words(alloc, &mut self.lists, rows, self.last, &mut numbers) {
+            Ok(()) => Ok(Prepared { words, numbers }),
             Err(refused) => {
-                drop_all_spent(&mut self.lists, words.as_slice());
+                drop_all_spent(&mut self.lists, rows);
                 Err(refused)
             }
         }
@@ -140,7 +163,8 @@ impl Postings {
             → StandsFor self.new (after gone come documents) }
         ensures tight { IsTight prepared.words self.old.lists → IsTight none self.new.lists }
     {
-        change_words(&mut self.lists, prepared.words.as_slice());
+        let rows = prepared.words.as_slice();
+        change_words(&mut self.lists, rows, &prepared.numbers, self.last);
     }
 
     /// Gives back the room of a prepared change that is not to be made. Each list stays as it was.

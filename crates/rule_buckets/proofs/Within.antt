@@ -1,5 +1,5 @@
 -- The levels of a query inside a universe.
-use Rattle.std.proofs.Common.{◌≡◌, ℕ, ◌<◌, ◌≤◌, ◌^◌, Bool, true, false, ◌&&◌, List, [], ◌∷◌, map, length, refl, sym, ap, ◌∙◌, ◌⊎◌, inl, inr, arith, Option, Some, None, option_map, unwrap_or}
+use Rattle.std.proofs.Common.{◌≡◌, ℕ, ◌<◌, ◌≤◌, ◌^◌, Bool, true, false, ◌&&◌, List, [], ◌∷◌, map, length, refl, sym, ap, subst, ◌∙◌, ◌⊎◌, inl, inr, arith, Option, Some, None, option_map, unwrap_or}
 use Rattle.std.proofs.lemmas.List.{length-map}
 use Rattle.std.specs.List.{list_any, slice_get}
 use Rattle.std.proofs.lemmas.Option.{slice_get-map}
@@ -70,6 +70,33 @@ module _ (levels sets : List SetView) (universe : List ℕ)
       all : (d : ℕ) (b : Bool) → has universe d ≡ b → (b && (has matching d && is_match (rows d) graph)) ≡ b
       all d true h = let m = among d h in rw (m, known d m) refl
       all d false h = refl
+
+  -- of some of the documents that match
+  pub within-levels : (rows : ℕ → RowsView) (graph : GraphView) (matching : List ℕ) → AreLevels rows graph matching levels
+      → AreAmong (has matching) universe → AreLevels rows graph universe sets
+  within-levels rows graph matching is among = record {
+    each = λ k set f d. by k d set (slice_get levels k) refl
+        (sym (slice_get-map (λ (s : SetView). intersection s.ids universe) levels k) ∙ ap (λ l. slice_get l k) (sym are) ∙ slice_get-map (λ (s : SetView). s.ids) sets k ∙ ap (option_map (λ (s : SetView). s.ids)) f);
+    count = subst (IsCount graph.levels) (sym within-count) is.count;
+  }
+    where
+      inside : (u m b : Bool) → (u ≡ true → m ≡ true) → ((m && b) && u) ≡ (u && b)
+      inside true true true h = refl
+      inside true true false h = refl
+      inside true false b h = absurd (let no : false ≡ true = h refl in cc)
+      inside false true true h = refl
+      inside false true false h = refl
+      inside false false b h = refl
+
+      by : (k d : ℕ) (set : SetView) (o : Option SetView) → slice_get levels k ≡ o
+          → option_map (λ (s : SetView). intersection s.ids universe) o ≡ Some set.ids
+          → has set.ids d ≡ (has universe d && is_cost k (cost_of (rows d).places graph.levels))
+      by k d set None e f = absurd (cc)
+      by k d set (Some own) e f =
+          let same : intersection own.ids universe ≡ set.ids = cc in
+          ap (λ l. has l d) (sym same) ∙ has-filter (λ x. has universe x) own.ids d
+          ∙ ap (λ b. b && has universe d) (is.each k own e d)
+          ∙ inside (has universe d) (has matching d) (is_cost k (cost_of (rows d).places graph.levels)) (among d)
 
 -- where the query has no level, or by the rule on words, the level that matches first is the entry
 pub listed-entries : (rows : ℕ → RowsView) (graph : GraphView) (rule : Rule) (sets : List SetView) → IsGraph graph

@@ -1,5 +1,5 @@
 -- What contracts see of rules over an index.
-use Rattle.std.specs.Prelude.{ℕ, ◌≡◌, Bool, ◌&&◌, true, false, List, [], ◌∷◌, length, slice_get, Some}
+use Rattle.std.specs.Prelude.{ℕ, ◌≡◌, ◌≤◌, Bool, ◌&&◌, true, false, List, [], ◌∷◌, length, slice_get, Some}
 use Rattle.search_base.specs.declared.rule.Rule.{Rule}
 use Rattle.search_base.specs.declared.rule.Rule.TheVariants.{Words, Proximity, Field, Position, Whole, Inexact, Up, Down}
 use Rattle.search_base.specs.GraphView.{GraphView, LevelView}
@@ -26,6 +26,11 @@ pub record AreLevels (rows : ℕ → RowsView) (graph : GraphView) (universe : L
   pub each : (k : ℕ) (set : SetView) → slice_get levels k ≡ Some set → (d : ℕ)
       → has set.ids d ≡ (has universe d && is_cost k (cost_of (rows d).places graph.levels))
   pub count : IsCount graph.levels (length levels)
+
+-- the same of several levels, and no set where there is one at most
+abbrev pub AreLevelsOrOne : (ℕ → RowsView) → GraphView → List ℕ → List SetView → Type 0
+AreLevelsOrOne rows graph matching [] = length graph.levels ≤ 1
+AreLevelsOrOne rows graph matching (set ∷ sets) = AreLevels rows graph matching (set ∷ sets)
 
 -- the documents at a place are matched first by the level of that number
 abbrev pub AreTheirs : (ℕ → RowsView) → GraphView → List SetView → Type 0

@@ -9,7 +9,7 @@ use crate::source::RuleSource;
 use bucket_sort::{Bucket, BucketStream};
 use doc_sets::DocSet;
 use search_base::{CostKey, NoMemory, PathId, Rule, SortKey, Steps};
-use sort_rule::{OrderedRows, SortBuckets};
+use sort_rule::{Numbered, OrderedRows, SortBuckets};
 use std::alloc::Global;
 use std::marker::Model;
 use std::mem;
@@ -43,6 +43,20 @@ impl<'a, S: RuleSource> OrderedRows for KeyedRows<'a, S> {
 
     fn docs_at(&self, alloc: Global, at: &CostKey, universe: &DocSet) -> Result<DocSet, NoMemory> {
         docs_under(alloc, &self.query, at, universe)
+    }
+
+    /// What the source tells of the values of a path, and nothing of whole attributes.
+    fn numbers(&self, alloc: Global, universe: &DocSet) -> Result<Option<Numbered>, NoMemory> {
+        match key_kind(self.query.rule) {
+            KeyKind::Values { path, up } => {
+                let source = self.query.source;
+                match source.numbers(alloc, path, universe)? {
+                    Some(pairs) => Ok(Some(Numbered { up, pairs })),
+                    None => Ok(None),
+                }
+            }
+            KeyKind::Whole | KeyKind::Nothing => Ok(None),
+        }
     }
 
     /// What the source tells of the values of a path, and nothing of whole attributes.

@@ -1,8 +1,9 @@
-ghost use Rattle.std.specs.Prelude.{◌≡◌, ◌<◌, ◌&&◌, ℕ, length, map, slice_get, IfOk, IfSome};
+ghost use Rattle.std.specs.Prelude.{◌≡◌, ◌<◌, ◌≤◌, ◌&&◌, ℕ, length, map, slice_get, IfOk, IfSome};
 ghost use Rattle.std.specs.List.{list_any};
 ghost use Rattle.search_base.specs.Graphs.{IsGraph};
 ghost use Rattle.search_base.specs.WordsCost.{level_matches};
 ghost use Rattle.doc_sets.specs.Sets.{has, intersection, IsIncreasing};
+ghost use Rattle.rule_buckets.specs.Entries.{is_match};
 ghost use Rattle.rule_buckets.specs.Rules.{AreLevels};
 
 use crate::source::{Asked, RuleSource};
@@ -41,6 +42,28 @@ pub(crate) fn level_count(graph: &Graph) -> usize
     graph.levels.len()
 }
 
+/// The documents of the universe that a query of at most one level matches.
+pub(crate) fn matching_alone<S: RuleSource>(
+    alloc: Global,
+    source: &S,
+    graph: &Graph,
+    universe: &DocSet,
+) -> Result<DocSet, NoMemory>
+    requires graph { IsGraph graph.now }
+    requires one { length graph.now.levels ≤ 1 }
+    ensures docs { IfOk result (λ docs. (d : ℕ)
+        → has docs.ids d ≡ (has universe.now.ids d && is_match (S.rows source.now d) graph.now)) }
+    ensures increasing { IfOk result (λ docs. IsIncreasing docs.ids) }
+{
+    let docs = if level_count(graph) == 0 {
+        universe.clone()?
+    } else {
+        matching_level(alloc, source, graph, 0, universe)?
+    };
+    let _len = docs.len();
+    Ok(docs)
+}
+
 /// For each level of the query the documents of the universe that it matches first. A query without a level matches
 /// all of them at once, and they stand at level 0.
 pub(crate) fn matching_levels<S: RuleSource>(
@@ -61,8 +84,7 @@ pub(crate) fn matching_levels<S: RuleSource>(
     }
     for level in 0..count {
         let docs = matching_level(alloc, source, graph, level, &rest)?;
-        let others = rest.minus(alloc, &docs)?;
-        rest = others;
+        rest.subtract(alloc, &docs)?;
         levels.push(docs)?;
     }
     Ok(levels)
@@ -75,7 +97,8 @@ pub(crate) fn all_of(alloc: Global, levels: &[DocSet]) -> Result<DocSet, NoMemor
 {
     let mut all = DocSet::new(alloc);
     for docs in levels {
-        let more = all.or(alloc, docs)?;
+        let copy = docs.clone()?;
+        let more = all.join(alloc, copy)?;
         all = more;
     }
     let _len = all.len();

@@ -221,7 +221,8 @@ fn take_from<'a, S: RuleSource>(
                     next: Some((here, docs)),
                 });
             }
-            let all = found.or(alloc, &docs)?;
+            let others = mem::replace(found, DocSet::new(alloc));
+            let all = others.join(alloc, docs)?;
             *found = all;
             Ok(LevelCosts { costs, next: None })
         }

@@ -1,4 +1,4 @@
-ghost use Rattle.std.specs.Prelude.{◌≡◌, false, length, filter, IfOk};
+ghost use Rattle.std.specs.Prelude.{◌≡◌, ◌==◌, false, ◌∷◌, [], length, filter, IfOk};
 ghost use Rattle.search_base.specs.Graphs.{IsGraph};
 ghost use Rattle.doc_sets.specs.Sets.{has};
 ghost use Rattle.bucket_sort.specs.Buckets.{AreAmong};
@@ -9,7 +9,7 @@ ghost use Rattle.rule_buckets.specs.Rules.{AreTheirs, IsCount, is_keyed, is_list
 use crate::buckets::{Kind, KindBuckets, RuleBuckets};
 use crate::keyed::keyed_buckets;
 use crate::listed::ListedBuckets;
-use crate::matching::{all_of, level_count, matching_levels, within};
+use crate::matching::{all_of, level_count, matching_alone, matching_levels, within};
 use crate::paths::path_buckets;
 use crate::query::RuleQuery;
 use crate::source::RuleSource;
@@ -25,6 +25,7 @@ pub struct Rules<'a, S: RuleSource> {
     source: &'a S,
     graph: &'a Graph,
     rules: &'a [Rule],
+    // The documents of each level, where the query has several.
     levels: Vec<DocSet>,
     matching: DocSet,
 }
@@ -34,7 +35,7 @@ impl<'a, S: RuleSource> Model for Rules<'a, S> {
     ghost use Rattle.search_base.specs.Graphs.{IsGraph};
     ghost use Rattle.doc_sets.specs.Sets.{has as has_id};
     ghost use Rattle.rule_buckets.specs.Entries.{is_match as matches};
-    ghost use Rattle.rule_buckets.specs.Rules.{RulesView, AreLevels};
+    ghost use Rattle.rule_buckets.specs.Rules.{RulesView, AreLevelsOrOne};
 
     ghost Value = { RulesView S };
 
@@ -46,7 +47,7 @@ impl<'a, S: RuleSource> Model for Rules<'a, S> {
     } };
 
     ghost invariant = { λ r. IsGraph r.graph.now
-        × AreLevels (S.rows r.source.now) r.graph.now r.matching.ids r.levels.items
+        × AreLevelsOrOne (S.rows r.source.now) r.graph.now r.matching.ids r.levels.items
         × ((d : ℕ) → has_id r.matching.ids d ≡ true → matches (S.rows r.source.now d) r.graph.now ≡ true) };
 }
 
@@ -68,6 +69,16 @@ impl<'a, S: RuleSource> Rules<'a, S> {
         ensures rules { IfOk result (λ made. made.rules ≡ rules.now) }
     {
         let _len = universe.len();
+        if level_count(graph) < 2 {
+            let matching = matching_alone(alloc, source, graph, universe)?;
+            return Ok(Rules {
+                source,
+                graph,
+                rules,
+                levels: Vec::new(alloc),
+                matching,
+            });
+        }
         let levels = matching_levels(alloc, source, graph, universe)?;
         let matching = all_of(alloc, levels.as_slice())?;
         Ok(Rules {
@@ -76,6 +87,24 @@ impl<'a, S: RuleSource> Rules<'a, S> {
             rules,
             levels,
             matching,
+        })
+    }
+
+    /// The same rules over some of the documents that match.
+    pub fn narrowed(self, alloc: Global, docs: DocSet) -> Result<Rules<'a, S>, NoMemory>
+        requires { AreAmong (has self.matching) docs.ids }
+        ensures matching { IfOk result (λ made. made.matching ≡ docs.ids) }
+        ensures source { IfOk result (λ made. made.source ≡ self.entry.source) }
+        ensures graph { IfOk result (λ made. made.graph ≡ self.entry.graph) }
+        ensures rules { IfOk result (λ made. made.rules ≡ self.entry.rules) }
+    {
+        let levels = within(alloc, self.levels.as_slice(), &docs)?;
+        Ok(Rules {
+            source: self.source,
+            graph: self.graph,
+            rules: self.rules,
+            levels,
+            matching: docs,
         })
     }
 
@@ -121,25 +150,45 @@ impl<'a, S: RuleSource> RuleSet for Rules<'a, S> {
             };
             return Ok(RuleBuckets::new(buckets));
         }
-        let sets = sets_of(alloc, self, &universe)?;
+        let sets = sets_of(alloc, self, universe)?;
         let buckets = counted(alloc, query, sets)?;
         Ok(buckets)
     }
 }
 
-// Of each level the documents of a universe that match.
+// Whether no set is there.
+fn are_none(sets: &[DocSet]) -> bool
+    ensures { result ≡ (length sets.now == 0) }
+{
+    sets.is_empty()
+}
+
+// One set in a list.
+fn alone(alloc: Global, set: DocSet) -> Result<Vec<DocSet>, NoMemory>
+    ensures { IfOk result (λ sets. sets.items ≡ set ∷ []) }
+{
+    let mut sets = Vec::with_capacity(alloc, 1)?;
+    sets.push(set)?;
+    Ok(sets)
+}
+
+// Of each level the documents of a universe that match. Of one level they are the universe.
 fn sets_of<'a, S: RuleSource>(
     alloc: Global,
     rules: &Rules<'a, S>,
-    universe: &DocSet,
+    universe: DocSet,
 ) -> Result<Vec<DocSet>, NoMemory>
-    requires { AreAmong (has rules.now.matching) universe.now.ids }
+    requires { AreAmong (has rules.now.matching) universe.ids }
     ensures theirs { IfOk result (λ sets. AreTheirs (S.rows rules.now.source) rules.now.graph sets.items) }
-    ensures all { IfOk result (λ sets. left_from 0 sets.items ≡ universe.now.ids) }
+    ensures all { IfOk result (λ sets. left_from 0 sets.items ≡ universe.ids) }
     ensures count { IfOk result (λ sets. IsCount rules.now.graph.levels (length sets.items)) }
 {
     let _len = universe.len();
-    let sets = within(alloc, rules.levels.as_slice(), universe)?;
+    if are_none(rules.levels.as_slice()) {
+        let one = alone(alloc, universe)?;
+        return Ok(one);
+    }
+    let sets = within(alloc, rules.levels.as_slice(), &universe)?;
     Ok(sets)
 }
 

@@ -10,13 +10,14 @@ ghost use Rattle.condition_graph.specs.Promise.{IsCondition};
 ghost use Rattle.path_costs.specs.Sets.{AreByNumber};
 ghost use Rattle.sort_rule.specs.Rows.{AreRows, is_under, IsNextFor, HasNoneAfter};
 ghost use Rattle.sort_rule.specs.Ordered.{AreOrdered};
+ghost use Rattle.sort_rule.specs.Numbers.{AreNumbered};
 ghost use Rattle.rule_buckets.specs.Entries.{sort_entry, missing_entry};
 
 use bucket_sort::Bucket;
 use condition_graph::Condition;
 use doc_sets::DocSet;
 use path_costs::Resolve;
-use search_base::{CostKey, NoMemory, PathId, Word};
+use search_base::{CostKey, DocId, NoMemory, PathId, Word};
 use std::alloc::Global;
 
 /// An index as ranking rules see it. A universe is a set of its documents; each answer is about these alone.
@@ -97,6 +98,17 @@ pub trait RuleSource {
     ) -> Result<DocSet, NoMemory>
         ensures { IfOk result (λ set.
             set.ids ≡ filter (λ d. is_under at.now (sort_entry up path.0 (rows self.now d).leaves)) universe.now.ids) };
+
+    /// The documents of the universe, in order, each with the number that its entry under the path is of, whatever the
+    /// direction; none where one of them has no such entry, or where another way is sooner done.
+    fn numbers(
+        &self,
+        alloc: Global,
+        path: PathId,
+        universe: &DocSet,
+    ) -> Result<Option<Vec<(i64, DocId)>>, NoMemory>
+        ensures { IfOk result (λ found. IfSome found (λ pairs. (up : Bool) → AreNumbered
+            (λ d. sort_entry up path.0 (rows self.now d).leaves) up universe.now.ids pairs.items)) };
 
     /// The documents of the universe in buckets by their entries under the path, that of the least entry last, where that
     /// is sooner done than going through the entries, and else none. Documents without an entry stand in no bucket.

@@ -1,3 +1,4 @@
 pub mod SortLemmas
 pub mod EntryLemmas
 pub mod GroupLemmas
+pub mod HeapLemmas

@@ -3,3 +3,6 @@ pub mod Rows
 pub mod Buckets
 pub mod Ordered
 pub mod Entries
+pub mod Numbers
+pub mod Heaps
+pub mod Left

@@ -3,11 +3,20 @@ ghost use Rattle.std.specs.Option.{option_copied};
 ghost use Rattle.search_base.specs.declared.cost_key.CostKey.{CostKey as Key};
 ghost use Rattle.sort_rule.specs.Rows.{is_under, IsNextFor, HasNoneAfter};
 ghost use Rattle.sort_rule.specs.Ordered.{AreOrdered};
+ghost use Rattle.sort_rule.specs.Numbers.{AreNumbered};
 
 use bucket_sort::Bucket;
 use doc_sets::DocSet;
-use search_base::{CostKey, NoMemory};
+use search_base::{CostKey, DocId, NoMemory};
 use std::alloc::Global;
+
+/// Documents, each with the number that it is sorted by.
+#[derive(Drop)]
+pub struct Numbered {
+    /// Whether the least number comes first, and else the greatest.
+    pub up: bool,
+    pub pairs: Vec<(i64, DocId)>,
+}
 
 /// Documents under keys, which are known in their order.
 pub trait OrderedRows {
@@ -34,6 +43,12 @@ pub trait OrderedRows {
     fn docs_at(&self, alloc: Global, at: &CostKey, universe: &DocSet) -> Result<DocSet, NoMemory>
         ensures { IfOk result (λ docs.
             docs.ids ≡ filter (λ d. is_under at.now (key self.now d)) universe.now.ids) };
+
+    /// The documents of the universe, in order, each with the number whose key it stands under; none where one of them
+    /// has no such key, or where another way is sooner done.
+    fn numbers(&self, alloc: Global, universe: &DocSet) -> Result<Option<Numbered>, NoMemory>
+        ensures { IfOk result (λ found. IfSome found (λ numbered.
+            AreNumbered (key self.now) numbered.up universe.now.ids numbered.pairs.items)) };
 
     /// The documents of the universe in buckets by their keys, that of the least key last, where that is sooner done than
     /// going through the keys, and else none. Documents without a key stand in no bucket.

@@ -20,6 +20,15 @@ pub(crate) fn set(rt: &impl Abort, alloc: Global, ids: &[u32]) -> DocSet {
     set
 }
 
+// These documents and five hundred others, beside which the list of a value is short.
+pub(crate) fn wide_set(rt: &impl Abort, alloc: Global, ids: &[u32]) -> DocSet {
+    let mut set = set(rt, alloc, ids);
+    for id in 1_000..1_500_u32 {
+        let _new = set.insert(DocId(id)).expect(rt, "memory");
+    }
+    set
+}
+
 // The set has exactly these documents.
 pub(crate) fn check_ids(rt: &impl Abort, docs: &DocSet, ids: &[u32], row: &str) {
     check(rt, docs.len() == ids.len() as u64, row);

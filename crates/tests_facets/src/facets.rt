@@ -1,7 +1,8 @@
-use crate::checks::{check, check_ids, set, word};
+use crate::checks::{check, check_ids, set, wide_set, word};
 use doc_sets::DocSet;
 use facet_index::{FacetChange, FacetIndex};
 use facet_keys::{greatest_key, least_key, mark_key, value_key};
+use leaf_table::{LeafChange, LeafTable};
 use postings::{Change, Postings};
 use search_base::{DocId, FacetValue, Leaf, Mark, MarkKind, PathId, Place, Word};
 use std::alloc::Global;
@@ -213,16 +214,36 @@ fn values_and_marks(rt: HostRuntime) {
     check_equal(&rt, alloc, &index, 1, &text, &all, &[]);
 }
 
-fn range(
+// The table of the leaves of documents, where these went before they came.
+pub(crate) fn table(
     rt: &impl Abort,
     alloc: Global,
-    index: &FacetIndex,
-    path: u16,
-    (low, high): (i128, i128),
-    universe: &DocSet,
-) -> DocSet {
-    let docs = index.range(alloc, PathId(path), low, high, universe);
-    docs.expect(rt, "memory")
+    gone: &[DocLeaves],
+    come: &[DocLeaves],
+) -> LeafTable {
+    let mut table = LeafTable::new(alloc);
+    commit_leaves(rt, alloc, &mut table, &[], gone);
+    commit_leaves(rt, alloc, &mut table, gone, come);
+    table
+}
+
+fn commit_leaves(
+    rt: &impl Abort,
+    alloc: Global,
+    table: &mut LeafTable,
+    gone: &[DocLeaves],
+    come: &[DocLeaves],
+) {
+    let mut change = LeafChange::new(alloc);
+    for document in gone {
+        change.take_out(document.id).expect(rt, "memory");
+    }
+    for document in come {
+        let put = change.put_in(alloc, document.id, document.leaves.as_slice());
+        put.expect(rt, "memory");
+    }
+    let prepared = table.prepare(change).expect(rt, "memory");
+    table.commit(prepared);
 }
 
 // The ends, and which of the documents 1, 5 and 700 have a number there.
@@ -244,32 +265,61 @@ fn count_of_some(ids: &[u32]) -> u64 {
     u64::from(ids.contains(&5)) + u64::from(ids.contains(&700))
 }
 
-fn check_range(
+// The documents of a range whose lists are short beside the universe.
+fn check_short(
     rt: &impl Abort,
     alloc: Global,
     index: &FacetIndex,
-    ends: (i128, i128),
+    (low, high): (i128, i128),
+    ids: &[u32],
+) {
+    let wide = wide_set(rt, alloc, &[1, 5, 700]);
+    for (path, ids) in [(0, ids), (1, &[])] {
+        let docs = index.short_range(alloc, PathId(path), low, high, &wide);
+        match docs.expect(rt, "memory") {
+            Some(docs) => check_ids(rt, &docs, ids, "short"),
+            None => check(rt, false, "short lists"),
+        }
+    }
+    let some = set(rt, alloc, &[5, 700]);
+    let docs = index.short_range(alloc, PathId(0), low, high, &some);
+    let docs = docs.expect(rt, "memory");
+    check(
+        rt,
+        docs.is_none() != ids.is_empty(),
+        "lists that are not short",
+    );
+}
+
+// The documents of a range by the leaves of each.
+fn check_between(
+    rt: &impl Abort,
+    alloc: Global,
+    table: &LeafTable,
+    (low, high): (i128, i128),
     ids: &[u32],
 ) {
     let all = set(rt, alloc, &[1, 5, 700]);
-    check_ids(rt, &range(rt, alloc, index, 0, ends, &all), ids, "all");
+    for (path, ids) in [(0, ids), (1, &[]), (2, &[])] {
+        let docs = table.between(alloc, PathId(path), low, high, &all);
+        check_ids(rt, &docs.expect(rt, "memory"), ids, "all");
+    }
     let some = set(rt, alloc, &[5, 700]);
-    let inside = range(rt, alloc, index, 0, ends, &some);
+    let inside = table.between(alloc, PathId(0), low, high, &some);
+    let inside = inside.expect(rt, "memory");
     check(rt, inside.len() == count_of_some(ids), "some");
-    check(
-        rt,
-        range(rt, alloc, index, 1, ends, &all).is_empty(),
-        "no number",
-    );
 }
 
 #[test]
 fn ranges_of_numbers(rt: HostRuntime) {
     let alloc = rt.alloc();
     let mut index = FacetIndex::new(alloc);
-    commit_again(&rt, alloc, &mut index, &[], &documents(&rt, alloc));
+    let documents = documents(&rt, alloc);
+    commit_again(&rt, alloc, &mut index, &[], &documents);
+    let table = table(&rt, alloc, &documents, &documents);
     for (low, high, ids) in &RANGES {
-        check_range(&rt, alloc, &index, (*low, *high), ids);
+        check_short(&rt, alloc, &index, (*low, *high), ids);
+        check_between(&rt, alloc, &table, (*low, *high), ids);
     }
 }
 
@@ -288,6 +338,19 @@ fn many(rt: &impl Abort, alloc: Global) -> Vec<DocLeaves> {
     Vec::from_array(alloc, [document]).expect(rt, "memory")
 }
 
+// No document has a number of the range under path 3.
+fn check_empty(
+    rt: &impl Abort,
+    alloc: Global,
+    index: &FacetIndex,
+    (low, high): (i128, i128),
+    all: &DocSet,
+) {
+    let docs = index.short_range(alloc, PathId(3), low, high, all);
+    let docs = docs.expect(rt, "memory").expect(rt, "no list is short");
+    check(rt, docs.is_empty(), "no number");
+}
+
 #[test]
 fn a_document_of_many_values(rt: HostRuntime) {
     let alloc = rt.alloc();
@@ -297,11 +360,9 @@ fn a_document_of_many_values(rt: HostRuntime) {
     let all = set(&rt, alloc, &[9, 10]);
     let last = FacetValue::Number(9_999);
     check_equal(&rt, alloc, &index, 3, &last, &all, &[9]);
-    let above = range(&rt, alloc, &index, 3, (10_000, LAST), &all);
-    check(&rt, above.is_empty(), "above");
+    check_empty(&rt, alloc, &index, (10_000, LAST), &all);
     commit(&rt, alloc, &mut index, &many, &[]);
-    let none = range(&rt, alloc, &index, 3, (FIRST, LAST), &all);
-    check(&rt, none.is_empty(), "none");
+    check_empty(&rt, alloc, &index, (FIRST, LAST), &all);
 }
 
 const PATHS: [PathId; 4] = [PathId(0), PathId(127), PathId(128), PathId(u16::MAX)];
@@ -366,7 +427,7 @@ fn keys_in_order(rt: HostRuntime) {
 fn from(postings: &Postings, low: Bound<&Word>) -> usize {
     let mut count = 0_usize;
     for (_word, list) in postings.words_from(low) {
-        count = count.saturating_add(list.len());
+        count = count.saturating_add(list.pages().len());
     }
     count
 }

@@ -1,4 +1,4 @@
-use crate::checks::{check, check_ids, set, word};
+use crate::checks::{check, check_ids, set, wide_set, word};
 use crate::counts::{asked, told};
 use crate::facets::{DocLeaves, commit};
 use facet_index::FacetIndex;
@@ -75,8 +75,10 @@ fn films_by_value_mark_and_range(rt: HostRuntime) {
     check_ids(&rt, &docs.expect(&rt, "memory"), &[0, 3], "drama");
     let docs = index.marked(alloc, GENRES, MarkKind::Exists, &all);
     check_ids(&rt, &docs.expect(&rt, "memory"), &[0, 1, 3], "genres");
-    let docs = index.range(alloc, YEAR, 2000, 2010, &all);
-    check_ids(&rt, &docs.expect(&rt, "memory"), &[0, 3], "years");
+    let wide = wide_set(&rt, alloc, &[0, 1, 2, 3]);
+    let docs = index.short_range(alloc, YEAR, 2000, 2010, &wide);
+    let docs = docs.expect(&rt, "memory").expect(&rt, "short lists");
+    check_ids(&rt, &docs, &[0, 3], "years");
 }
 
 #[test]

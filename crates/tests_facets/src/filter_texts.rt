@@ -1,8 +1,9 @@
-use crate::checks::{check, set, word};
-use crate::facets::{DocLeaves, commit};
+use crate::checks::{check, set, wide_set, word};
+use crate::facets::{DocLeaves, commit, table};
+use doc_sets::DocSet;
 use facet_index::FacetIndex;
 use filter_expr::parse;
-use filter_sets::select;
+use filter_sets::{Facets, select};
 use filter_tree::Filter;
 use search_base::{DocId, FacetValue, Leaf, Mark, MarkKind, PathId, Word};
 use serde_json::Value;
@@ -139,34 +140,54 @@ fn kind_of(kind: &str) -> MarkKind {
     }
 }
 
-fn index(rt: &impl Abort, alloc: Global) -> FacetIndex {
+fn documents(rt: &impl Abort, alloc: Global) -> Vec<DocLeaves> {
     let mut documents = Vec::new(alloc);
     for (id, text) in &DOCUMENTS {
         let document = document(rt, alloc, *id, text);
         documents.push(document).expect(rt, "memory");
     }
-    let mut index = FacetIndex::new(alloc);
-    commit(rt, alloc, &mut index, &[], documents.as_slice());
-    index
+    documents
 }
 
-fn check_filter(rt: &impl Abort, alloc: Global, index: &FacetIndex, text: &str, wanted: &str) {
+// The documents of a universe that pass a filter, of those that there are.
+fn passing(
+    rt: &impl Abort,
+    alloc: Global,
+    facets: &Facets<'_>,
+    filter: &Filter,
+    universe: &DocSet,
+) -> String {
     let paths = paths(rt, alloc);
     assert!(rt; paths.len() <= 1000);
-    let filter = filter_of(rt, alloc, text);
-    let all = set(rt, alloc, &[0, 1, 2, 3, 4, 5]);
-    let docs = select(alloc, index, &filter, paths.as_slice(), &all).expect(rt, "memory");
+    let docs = select(alloc, facets, filter, paths.as_slice(), universe).expect(rt, "memory");
     let mut passing = String::new(alloc);
-    for id in docs.iter() {
+    for id in docs.iter().filter(|id| id.0 < 6) {
         write!(passing, "{} ", id.0).expect(rt, "memory");
     }
-    check(rt, passing.as_str() == wanted, text);
+    passing
+}
+
+// A range is asked of lists in the one universe, and of leaves in the other.
+fn check_filter(rt: &impl Abort, alloc: Global, facets: &Facets<'_>, text: &str, wanted: &str) {
+    let filter = filter_of(rt, alloc, text);
+    let ids = [0, 1, 2, 3, 4, 5];
+    for universe in [set(rt, alloc, &ids), wide_set(rt, alloc, &ids)] {
+        let found = passing(rt, alloc, facets, &filter, &universe);
+        check(rt, found.as_str() == wanted, text);
+    }
 }
 
 #[test]
 fn documents_pass_where_the_filter_holds(rt: HostRuntime) {
-    let index = index(&rt, rt.alloc());
+    let alloc = rt.alloc();
+    let documents = documents(&rt, alloc);
+    let mut index = FacetIndex::new(alloc);
+    commit(&rt, alloc, &mut index, &[], &documents);
+    let facets = Facets {
+        index: &index,
+        leaves: &table(&rt, alloc, &documents, &documents),
+    };
     for (text, wanted) in &FILTERS {
-        check_filter(&rt, rt.alloc(), &index, text, wanted);
+        check_filter(&rt, alloc, &facets, text, wanted);
     }
 }

@@ -1,8 +1,10 @@
 use crate::checks::{check, set, word};
-use crate::sorts::{index, is};
+use crate::facets::table;
+use crate::sorts::{gone, index, is, standing};
 use doc_sets::DocSet;
-use filter_sets::select;
+use filter_sets::{Facets, select};
 use filter_tree::{Filter, Test};
+use leaf_table::LeafTable;
 use std::alloc::Global;
 use std::process::Abort;
 
@@ -22,6 +24,11 @@ fn equal(rt: &impl Abort, alloc: Global, text: &str) -> Test {
     Test::Equal(word(rt, alloc, text))
 }
 
+// The leaves of the four documents, after the fifth.
+fn leaves(rt: &impl Abort, alloc: Global) -> LeafTable {
+    table(rt, alloc, &gone(rt, alloc), &standing(rt, alloc))
+}
+
 // Of the documents of a set the others are those that were not found.
 fn check_others(rt: &impl Abort, all: &DocSet, found: &DocSet, others: &DocSet) {
     let left = all.len().checked_sub(found.len());
@@ -33,7 +40,11 @@ fn check_others(rt: &impl Abort, all: &DocSet, found: &DocSet, others: &DocSet) 
 #[test]
 fn filters_select_documents(rt: HostRuntime) {
     let alloc = rt.alloc();
-    let index = index(&rt, alloc);
+    let (index, leaves) = (index(&rt, alloc), leaves(&rt, alloc));
+    let facets = Facets {
+        index: &index,
+        leaves: &leaves,
+    };
     let paths = [word(&rt, alloc, "year"), word(&rt, alloc, "genres")];
     let all = set(&rt, alloc, &[0, 1, 2, 3]);
     let some = set(&rt, alloc, &[1, 2]);
@@ -78,6 +89,16 @@ fn filters_select_documents(rt: HostRuntime) {
             [1].as_slice(),
         ),
         (
+            test(&rt, alloc, "year", Test::AtMost(-3)),
+            [].as_slice(),
+            [].as_slice(),
+        ),
+        (
+            test(&rt, alloc, "year", Test::Between(i128::MIN, i128::MAX)),
+            [0, 1, 3].as_slice(),
+            [1].as_slice(),
+        ),
+        (
             test(&rt, alloc, "year", Test::OneOf(texts)),
             [0, 1].as_slice(),
             [1].as_slice(),
@@ -108,13 +129,13 @@ fn filters_select_documents(rt: HostRuntime) {
             [2].as_slice(),
         ),
     ] {
-        let docs = select(alloc, &index, &filter, paths.as_slice(), &all).expect(&rt, "memory");
+        let docs = select(alloc, &facets, &filter, paths.as_slice(), &all).expect(&rt, "memory");
         assert!(rt; is(&docs, ids));
-        let few = select(alloc, &index, &filter, paths.as_slice(), &some).expect(&rt, "memory");
+        let few = select(alloc, &facets, &filter, paths.as_slice(), &some).expect(&rt, "memory");
         assert!(rt; is(&few, inside));
         let filter = not(&rt, alloc, filter);
         for (universe, found) in [(&all, &docs), (&some, &few)] {
-            let others = select(alloc, &index, &filter, paths.as_slice(), universe);
+            let others = select(alloc, &facets, &filter, paths.as_slice(), universe);
             check_others(&rt, universe, found, &others.expect(&rt, "memory"));
         }
     }
@@ -123,7 +144,11 @@ fn filters_select_documents(rt: HostRuntime) {
 #[test]
 fn filters_of_filters(rt: HostRuntime) {
     let alloc = rt.alloc();
-    let index = index(&rt, alloc);
+    let (index, leaves) = (index(&rt, alloc), leaves(&rt, alloc));
+    let facets = Facets {
+        index: &index,
+        leaves: &leaves,
+    };
     let paths = [word(&rt, alloc, "year"), word(&rt, alloc, "genres")];
     let all = set(&rt, alloc, &[0, 1, 2, 3]);
     for (each, ids) in [(true, [3].as_slice()), (false, [0, 2, 3].as_slice())] {
@@ -140,13 +165,13 @@ fn filters_of_filters(rt: HostRuntime) {
         } else {
             Filter::Or(members)
         };
-        let docs = select(alloc, &index, &filter, paths.as_slice(), &all).expect(&rt, "memory");
+        let docs = select(alloc, &facets, &filter, paths.as_slice(), &all).expect(&rt, "memory");
         assert!(rt; is(&docs, ids));
     }
     let mut deep = test(&rt, alloc, "year", Test::Exists);
     for _ in 0..200_u32 {
         deep = not(&rt, alloc, deep);
     }
-    let docs = select(alloc, &index, &deep, paths.as_slice(), &all).expect(&rt, "memory");
+    let docs = select(alloc, &facets, &deep, paths.as_slice(), &all).expect(&rt, "memory");
     assert!(rt; is(&docs, &[0, 1, 3]));
 }

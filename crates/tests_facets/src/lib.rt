@@ -1,5 +1,5 @@
-//! Tests of the keys of facets, the words of posting lists from a bound on, the facet index, the sets that filters
-//! select, and counts.
+//! Tests of the keys of facets, the words of posting lists from a bound on, the facet index, the table of leaves, the
+//! sets that filters select, and counts.
 //!
 //! They stand in a crate of their own, so that the crates they try are proved once and not twice. The crate has nothing
 //! but tests, and promises nothing.
@@ -7,6 +7,8 @@
 
 #[cfg(test)]
 mod checks;
+#[cfg(test)]
+mod columns;
 #[cfg(test)]
 mod counts;
 #[cfg(test)]

@@ -53,10 +53,9 @@ fn document(rt: &impl Abort, alloc: Global, id: u32, years: &[i128], genres: &[&
     }
 }
 
-// The index of four documents, and of a fifth that went.
-pub(crate) fn index(rt: &impl Abort, alloc: Global) -> FacetIndex {
-    let mut index = FacetIndex::new(alloc);
-    let documents = Vec::from_array(
+// Four documents.
+pub(crate) fn standing(rt: &impl Abort, alloc: Global) -> Vec<DocLeaves> {
+    Vec::from_array(
         alloc,
         [
             document(rt, alloc, 0, &[1999, 2012], &["drama", "action"]),
@@ -65,10 +64,20 @@ pub(crate) fn index(rt: &impl Abort, alloc: Global) -> FacetIndex {
             document(rt, alloc, 3, &[2002], &["drama"]),
         ],
     )
-    .expect(rt, "memory");
-    let gone = Vec::from_array(alloc, [document(rt, alloc, 9, &[-3], &["a"])]).expect(rt, "memory");
+    .expect(rt, "memory")
+}
+
+// A fifth document, which went.
+pub(crate) fn gone(rt: &impl Abort, alloc: Global) -> Vec<DocLeaves> {
+    Vec::from_array(alloc, [document(rt, alloc, 9, &[-3], &["a"])]).expect(rt, "memory")
+}
+
+// The index of the four documents, after the fifth.
+pub(crate) fn index(rt: &impl Abort, alloc: Global) -> FacetIndex {
+    let mut index = FacetIndex::new(alloc);
+    let gone = gone(rt, alloc);
     commit(rt, alloc, &mut index, &[], &gone);
-    commit(rt, alloc, &mut index, &gone, &documents);
+    commit(rt, alloc, &mut index, &gone, &standing(rt, alloc));
     index
 }
 

@@ -10,6 +10,8 @@ mod checks;
 #[cfg(test)]
 mod conditions;
 #[cfg(test)]
+mod many_words;
+#[cfg(test)]
 mod near;
 #[cfg(test)]
 mod places;

@@ -1,5 +1,6 @@
 use crate::checks::check;
-use postings::{Change, Postings};
+use doc_sets::DocSet;
+use postings::{Change, PostingList, Postings};
 use search_base::{DocId, PathId, Place, Word};
 use std::alloc::Global;
 use std::process::Abort;
@@ -97,7 +98,58 @@ fn check_lists(rt: &impl Abort, alloc: Global, postings: &Postings, documents: &
         let found = listed(rt, alloc, postings, at);
         let wanted = standing(rt, alloc, documents, at);
         check(rt, found.as_slice() == wanted.as_slice(), "lists");
+        let _kept = keeps_documents(rt, alloc, postings, at);
     }
+}
+
+// These are the documents of the entries, which are in order.
+fn check_documents(rt: &impl Abort, alloc: Global, set: &DocSet, entries: &[u64]) {
+    let mut ids = Vec::new(alloc);
+    for entry in entries {
+        ids.push((*entry >> 32) as u32).expect(rt, "memory");
+    }
+    ids.dedup();
+    let mut kept = Vec::new(alloc);
+    for id in set.iter() {
+        kept.push(id.0).expect(rt, "memory");
+    }
+    check(rt, ids.as_slice() == kept.as_slice(), "documents");
+}
+
+// The documents of a path are those of its entries, where they are kept as a set.
+fn check_path(rt: &impl Abort, alloc: Global, list: &PostingList, path: u16) {
+    let Some(set) = list.in_path(PathId(path)) else {
+        return;
+    };
+    let mut entries = Vec::new(alloc);
+    for entry in list.pages().iter() {
+        if (entry >> 16) & 0xffff == u64::from(path) {
+            entries.push(entry).expect(rt, "memory");
+        }
+    }
+    check_documents(rt, alloc, set, entries.as_slice());
+}
+
+// Whether the documents of a word are kept as a set. They are those of its list then, and those of each path are its.
+fn keeps_documents(rt: &impl Abort, alloc: Global, postings: &Postings, at: usize) -> bool {
+    let word = word(rt, alloc, at);
+    let Some(list) = postings.row(&word) else {
+        return false;
+    };
+    for path in 0..10 {
+        check_path(rt, alloc, list, path);
+    }
+    let Some(set) = list.documents() else {
+        return false;
+    };
+    let entries = listed(rt, alloc, postings, at);
+    check_documents(rt, alloc, set, entries.as_slice());
+    true
+}
+
+// What the paths of a word are below, where their documents are kept as sets.
+fn path_limit(rt: &impl Abort, alloc: Global, postings: &Postings, at: usize) -> Option<u16> {
+    postings.row(&word(rt, alloc, at))?.path_limit()
 }
 
 // Numbers that look random.
@@ -292,6 +344,99 @@ fn one_word_over_and_over(rt: HostRuntime) {
     check(&rt, none, "none");
 }
 
+// A document of each of these numbers with one word at one position.
+fn with_word(rt: &impl Abort, alloc: Global, from: u32, many: u32, position: u16) -> Vec<Document> {
+    let mut documents = Vec::new(alloc);
+    for id in from..from.saturating_add(many) {
+        let spots = Vec::from_array(alloc, [(2, 1, position)]).expect(rt, "memory");
+        documents.push((id, spots)).expect(rt, "memory");
+    }
+    documents
+}
+
+#[test]
+fn few_documents_with_high_numbers(rt: HostRuntime) {
+    let alloc = rt.alloc();
+    let mut postings = Postings::new(alloc);
+    let high = with_word(&rt, alloc, 3_000, 63, 0);
+    let low = with_word(&rt, alloc, 0, 1, 0);
+    let other = with_word(&rt, alloc, 0, 1, 5);
+    commit(&rt, alloc, &mut postings, &[], &high);
+    check(&rt, !keeps_documents(&rt, alloc, &postings, 2), "short");
+    commit(&rt, alloc, &mut postings, &[], &low);
+    check(&rt, keeps_documents(&rt, alloc, &postings, 2), "long");
+    commit(&rt, alloc, &mut postings, &low, &other);
+    check(&rt, keeps_documents(&rt, alloc, &postings, 2), "replaced");
+    let higher = with_word(&rt, alloc, 9_000, 1, 0);
+    commit(&rt, alloc, &mut postings, &[], &higher);
+    check(&rt, keeps_documents(&rt, alloc, &postings, 2), "higher");
+    commit(&rt, alloc, &mut postings, &high, &[]);
+    check(&rt, !keeps_documents(&rt, alloc, &postings, 2), "few");
+    commit(&rt, alloc, &mut postings, &other, &[]);
+    check(&rt, listed(&rt, alloc, &postings, 2).len() == 1, "one");
+}
+
+// Documents that come, and whether those of the word are kept as a set then.
+const FAR: [(u32, u32, bool); 4] = [
+    (0, 400, true),
+    (70_000, 5, true),
+    (70_100, 1, true),
+    (4_000_000, 2, false),
+];
+
+#[test]
+fn few_documents_far_behind(rt: HostRuntime) {
+    let alloc = rt.alloc();
+    let mut postings = Postings::new(alloc);
+    let mut first = with_word(&rt, alloc, 0, 1, 0);
+    for (from, many, kept) in &FAR {
+        let come = with_word(&rt, alloc, *from, *many, 0);
+        commit(&rt, alloc, &mut postings, &[], &come);
+        let keeps = keeps_documents(&rt, alloc, &postings, 2);
+        check(&rt, keeps == *kept, "far");
+        let other = with_word(&rt, alloc, 0, 1, *many as u16);
+        commit(&rt, alloc, &mut postings, &first, &other);
+        first = other;
+        let keeps = keeps_documents(&rt, alloc, &postings, 2);
+        check(&rt, keeps == *kept, "replaced");
+    }
+    for (from, many, _kept) in &FAR {
+        let gone = with_word(&rt, alloc, *from, *many, 0);
+        commit(&rt, alloc, &mut postings, &gone, &[]);
+        let _kept = keeps_documents(&rt, alloc, &postings, 2);
+    }
+    check(&rt, listed(&rt, alloc, &postings, 2).len() == 1, "one");
+}
+
+// A path in which the word comes too, and what its paths are below then.
+const PATHS: [(u16, Option<u16>); 5] = [
+    (0, Some(8)),
+    (2, Some(8)),
+    (7, Some(8)),
+    (8, None),
+    (u16::MAX, None),
+];
+
+#[test]
+fn one_word_in_several_paths(rt: HostRuntime) {
+    let alloc = rt.alloc();
+    let mut postings = Postings::new(alloc);
+    let many = with_word(&rt, alloc, 0, 100, 3);
+    commit(&rt, alloc, &mut postings, &[], &many);
+    for (path, limit) in &PATHS {
+        let spots = [(2, 1, 0), (2, *path, 1), (2, *path, 9)];
+        let come = one_document(&rt, alloc, 100, &spots);
+        commit(&rt, alloc, &mut postings, &[], &come);
+        check(&rt, keeps_documents(&rt, alloc, &postings, 2), "kept");
+        let below = path_limit(&rt, alloc, &postings, 2);
+        check(&rt, below == *limit, "limit");
+        commit(&rt, alloc, &mut postings, &come, &[]);
+        check(&rt, keeps_documents(&rt, alloc, &postings, 2), "gone");
+        let below = path_limit(&rt, alloc, &postings, 2);
+        check(&rt, below == Some(8), "limit without");
+    }
+}
+
 // So many words begin so, those of the table from a place on, and they have so many places.
 fn check_prefix(
     rt: &impl Abort,
@@ -308,7 +453,7 @@ fn check_prefix(
     for (word, list) in postings.with_prefix(&sought) {
         check(rt, WORDS.get(at).copied() == Some(word.as_str()), prefix);
         at = at.saturating_add(1);
-        count = count.saturating_add(list.len());
+        count = count.saturating_add(list.pages().len());
     }
     check(rt, at.saturating_sub(from) == many, prefix);
     check(rt, count == places, prefix);

@@ -4,7 +4,7 @@ use crate::checks::{check, word};
 use crate::costs::{CASES, KNIGHT, RULES, graph, rows};
 use crate::shelves::{Shelf, make_shelf};
 use bucket_sort::{BucketLog, RecordLog};
-use doc_search::{Snapshot, documents_passing};
+use doc_search::{IndexedRows, Snapshot, documents_passing};
 use filter_tree::{Filter, Test};
 use rule_buckets::{HitWindow, Rules, page};
 use search_base::{DocId, PathId, Rule, Steps};
@@ -50,7 +50,8 @@ fn found(
     let mut log: Box<dyn BucketLog> = log;
     let mut openings: Steps<Counted> = Steps::new();
     let snapshot = Snapshot::new(shelf);
-    let passing = documents_passing(alloc, shelf, filter, &paths).expect(rt, "memory");
+    let all = shelf.index().ids();
+    let passing = documents_passing(alloc, shelf, filter, &paths, all).expect(rt, "memory");
     let rules = Rules::new(alloc, &snapshot, &graph, rules, &passing).expect(rt, "memory");
     let hits = page(alloc, &rules, window, &mut log, &mut openings).expect(rt, "memory");
     HitsFound {

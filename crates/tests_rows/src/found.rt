@@ -20,9 +20,9 @@ const DOCUMENTS: &str = r#"1|{"kind":["A",7],"text":"dark knight","title":"One"}
 2|{"kind":7,"title":"Knight"}
 3|{"note":"dark"}"#;
 
-// What a search asks for, and the least number that a kind is to have, or none; from which hit on and for how many; its
-// hits, the best first; how many documents match; and of each value of a kind its text, how it is spelled and how many
-// of these documents have it.
+// What a search asks for; the least number that a kind is to have, or after `!` that it is not to have, or a value after
+// `=`, or none; from which hit on and for how many; its hits, the best first; how many documents match; and of each value
+// of a kind its text, how it is spelled and how many of these documents have it.
 const SEARCHES: &str = "dark||0 9|0 1|2|7 7 1;a a 2;
 dark||1 9|1|2|7 7 1;a a 2;
 knight||0 9|2 1|2|7 7 2;a A 1;
@@ -39,6 +39,19 @@ const YEARS: &str = r#"1|{"kind":2008,"title":"the dark knight"}
 const SEARCHES_OF_YEARS: &str = "knight dark||0 1|1|3|1999 1999 1;2008 2008 1;2012 2012 1;
 knight dark|2000|0 1|1|2|2008 2008 1;2012 2012 1;
 |2002|1 1|2|3|2002 2002 1;2008 2008 1;2012 2012 1;";
+
+// Documents whose kind is a number far out, or several values, and searches with ranges and others beside words.
+const NUMBERS: &str = r#"1|{"kind":[-9223372036854775808,5],"title":"dark knight"}
+2|{"kind":18446744073709551615,"title":"knight"}
+3|{"kind":[-1,"b"],"title":"dark"}"#;
+
+const SEARCHES_OF_NUMBERS: &str = "dark|0|0 9|1|1|-9223372036854775808 -9223372036854775808 1;5 5 1;
+dark|-1|0 9|1 3|2|-1 -1 1;-9223372036854775808 -9223372036854775808 1;5 5 1;b b 1;
+dark|!0|0 9|0 3|2|-1 -1 1;a a 1;b b 1;
+dark|=b|0 9|3|1|-1 -1 1;b b 1;
+knight|6|0 9|2|1|18446744073709551615 18446744073709551615 1;
+knight|=a|0 9||0|
+|6|0 9|2|1|18446744073709551615 18446744073709551615 1;";
 
 fn uses() -> [PathUse; 4]
     ensures is { result ≡ USES }
@@ -58,14 +71,27 @@ fn add(rt: &impl Abort, alloc: Global, store: &mut DocStore, line: &str) {
     let _ids = store.commit(plan);
 }
 
-// The documents of a kind that is not below a number, or all.
-fn filter(rt: &impl Abort, alloc: Global, least: &str) -> Filter {
-    match least.parse::<i128>() {
-        Ok(number) => Filter::Test {
-            attribute: word(rt, alloc, "kind"),
-            test: Test::AtLeast(number),
-        },
-        Err(_) => Filter::All,
+// The documents of a kind that passes a test.
+fn of_kind(rt: &impl Abort, alloc: Global, test: Test) -> Filter {
+    Filter::Test {
+        attribute: word(rt, alloc, "kind"),
+        test,
+    }
+}
+
+// The documents of a kind that is not below a number, or is a value, or is below a number, or all.
+fn filter(rt: &impl Abort, alloc: Global, asked: &str) -> Filter {
+    if let Some(text) = asked.strip_prefix("=") {
+        return of_kind(rt, alloc, Test::Equal(word(rt, alloc, text)));
+    }
+    let Ok(number) = asked.strip_prefix("!").unwrap_or(asked).parse::<i128>() else {
+        return Filter::All;
+    };
+    let filter = of_kind(rt, alloc, Test::AtLeast(number));
+    if asked.starts_with("!") {
+        Filter::Not(Box::new(alloc, filter).expect(rt, "memory"))
+    } else {
+        filter
     }
 }
 
@@ -156,4 +182,9 @@ fn stored_documents_are_found_through_their_index(rt: HostRuntime) {
 #[test]
 fn values_are_counted_in_all_matches(rt: HostRuntime) {
     check_all(&rt, rt.alloc(), YEARS, SEARCHES_OF_YEARS);
+}
+
+#[test]
+fn numbers_are_asked_of_what_matches(rt: HostRuntime) {
+    check_all(&rt, rt.alloc(), NUMBERS, SEARCHES_OF_NUMBERS);
 }

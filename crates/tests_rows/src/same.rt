@@ -24,7 +24,7 @@ fn are_same<'a>(one: &'a Postings, other: &'a Postings) -> bool {
         let Some((same, entries)) = others.next() else {
             return false;
         };
-        if word.as_str() != same.as_str() || !is_same_list(list, entries) {
+        if word.as_str() != same.as_str() || !is_same_list(list.pages(), entries.pages()) {
             return false;
         }
     }
@@ -42,7 +42,7 @@ fn are_same_back<'a>(one: &'a Postings, other: &'a Postings) -> bool {
         let Some((same, entries)) = others.next_back() else {
             return false;
         };
-        if word.as_str() != same.as_str() || !is_same_list(list, entries) {
+        if word.as_str() != same.as_str() || !is_same_list(list.pages(), entries.pages()) {
             return false;
         }
     }

@@ -178,7 +178,7 @@ fn remove(
 pub(crate) fn words(rt: &impl Abort, alloc: Global, index: &RowIndex) -> String {
     let mut text = String::new(alloc);
     for (word, list) in index.places().words_from(Bound::Unbounded) {
-        write!(text, "{} {};", word.as_str(), list.len()).expect(rt, "memory");
+        write!(text, "{} {};", word.as_str(), list.pages().len()).expect(rt, "memory");
     }
     text
 }
@@ -194,7 +194,7 @@ fn tell_ids(rt: &impl Abort, ids: &DocSet, text: &mut String) {
 fn tell_places(rt: &impl Abort, index: &RowIndex, text: &mut String) {
     for (word, list) in index.places().words_from(Bound::Unbounded) {
         text.push_str(word.as_str()).expect(rt, "memory");
-        for entry in list.iter() {
+        for entry in list.pages().iter() {
             write!(text, " {entry}").expect(rt, "memory");
         }
     }

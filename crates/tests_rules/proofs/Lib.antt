@@ -1,1 +1,2 @@
 pub mod OneKeyLemmas
+pub mod PricedLemmas

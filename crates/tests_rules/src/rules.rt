@@ -78,6 +78,15 @@ impl RuleSource for Bare {
         Err(NoMemory)
     }
 
+    fn numbers(
+        &self,
+        alloc: Global,
+        path: PathId,
+        universe: &DocSet,
+    ) -> Result<Option<Vec<(i64, DocId)>>, NoMemory> {
+        Ok(None)
+    }
+
     fn ordered(
         &self,
         alloc: Global,

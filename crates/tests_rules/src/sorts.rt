@@ -8,7 +8,7 @@ ghost use Rattle.doc_sets.specs.Sets.{has};
 use bucket_sort::{Bucket, BucketStream};
 use doc_sets::DocSet;
 use search_base::{CostKey, DocId, NoMemory, SortKey, Steps};
-use sort_rule::{OrderedRows, SortBuckets};
+use sort_rule::{Numbered, OrderedRows, SortBuckets};
 use std::alloc::Global;
 use std::process::Abort;
 
@@ -67,6 +67,10 @@ impl OrderedRows for OneKey {
             return Ok(DocSet::new(alloc));
         }
         universe.and(alloc, &self.docs)
+    }
+
+    fn numbers(&self, alloc: Global, universe: &DocSet) -> Result<Option<Numbered>, NoMemory> {
+        Ok(None)
     }
 
     // It puts no more than two documents in order itself.

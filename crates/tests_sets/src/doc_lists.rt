@@ -16,6 +16,11 @@ fn three_ids_and_three_others(rt: HostRuntime) {
     check_ids(&rt, &either, &[1, 3, 5, 8], "either");
     let alone = left.minus(alloc, &right).expect(&rt, "memory");
     check_ids(&rt, &alone, &[1], "alone");
+    let mut rest = left.clone().expect(&rt, "memory");
+    rest.subtract(alloc, &right).expect(&rt, "memory");
+    check_ids(&rt, &rest, &[1], "rest");
+    let joined = left.join(alloc, right).expect(&rt, "memory");
+    check_ids(&rt, &joined, &[1, 3, 5, 8], "joined");
 }
 
 // What each change tells.
@@ -157,6 +162,18 @@ fn check_operations(rt: &impl Abort, alloc: Global, l: &DocSet, r: &DocSet, want
     check(rt, is_of(&joined, &wanted.either), "either");
     let alone = l.minus(alloc, r).expect(rt, "memory");
     check(rt, is_of(&alone, &wanted.alone), "alone");
+    check_in_place(rt, alloc, l, r, wanted);
+}
+
+// So are those that change a set.
+fn check_in_place(rt: &impl Abort, alloc: Global, l: &DocSet, r: &DocSet, wanted: &Wanted) {
+    let left = l.clone().expect(rt, "memory");
+    let right = r.clone().expect(rt, "memory");
+    let joined = left.join(alloc, right).expect(rt, "memory");
+    check(rt, is_of(&joined, &wanted.either), "joined");
+    let mut rest = l.clone().expect(rt, "memory");
+    rest.subtract(alloc, r).expect(rt, "memory");
+    check(rt, is_of(&rest, &wanted.alone), "subtracted");
 }
 
 const LIMIT: u32 = 260;

@@ -13,12 +13,12 @@ returns-in-Some c =
     let fits : FitsSigned w128 c.args.n.now = first_of (search rules, grind (arith, common_steps)) in
     let again = to_z-of_z _ c.args.n.now fits in
     let made = subst (FitsSigned w128) (sym c.in-Some.ensures.1) c.in-Some.ensures.0 in
-    wanted_answer c.args.index.now c.args.path.0 c.in-Some.low greatest_of_all _ _ (to_z-of_z _ c.in-Some.low made) refl (λ m. int_lt c.args.n.now m) c.args.all.now.ids
+    wanted_answer c.args.facets.now c.args.path.0 c.in-Some.low greatest_of_all _ _ (to_z-of_z _ c.in-Some.low made) refl (λ m. int_lt c.args.n.now m) c.args.all.now.ids
     (above c.args.n.now c.in-Some.low (c.in-Some.ensures.1 ∙ ap (λ (k : ℤ). k +ℤ pos 1) again)) c.numbers.result c.numbers.ensures
 
 pub returns-in-None : goal.returns-in-None
 returns-in-None c =
     let fits : FitsSigned w128 c.args.n.now = first_of (search rules, grind (arith, common_steps)) in
     let again = to_z-of_z _ c.args.n.now fits in
-    none_wanted c.args.index.now c.args.path.0 (λ m. int_lt c.args.n.now m) c.args.all.now.ids c.new.result.ids c.new.ensures
+    none_wanted c.args.facets.now c.args.path.0 (λ m. int_lt c.args.n.now m) c.args.all.now.ids c.new.result.ids c.new.ensures
     (none_above c.args.n.now fits (λ f. c.in-None.ensures (subst (λ (k : ℤ). FitsSigned w128 (k +ℤ pos 1)) (sym again) f)))

@@ -10,5 +10,5 @@ pub returns : goal.returns
 returns c =
     let fits : FitsSigned w128 c.args.low.now = first_of (search rules, grind (arith, common_steps)) in
     let also : FitsSigned w128 c.args.high.now = first_of (search rules, grind (arith, common_steps)) in
-    wanted_answer c.args.index.now c.args.path.0 c.args.low.now c.args.high.now _ _ (to_z-of_z _ c.args.low.now fits) (to_z-of_z _ c.args.high.now also)
+    wanted_answer c.args.facets.now c.args.path.0 c.args.low.now c.args.high.now _ _ (to_z-of_z _ c.args.low.now fits) (to_z-of_z _ c.args.high.now also)
     (λ m. not (int_lt m c.args.low.now) && not (int_lt c.args.high.now m)) c.args.all.now.ids (λ m inside. refl) c.numbers.result c.numbers.ensures

@@ -13,7 +13,7 @@ loop-word-preserved c =
     let number = c.args.number in
     let list = c.in-Some.list.now.entries in
     let left = rows_left c.next.new.self in
-    let adds = c.in_ok-add_places.ensures.each in
+    let adds = c.in_ok-add_list.ensures.each in
     record {
       each = λ n id.
           let old = has (ids_at n c.loop-word.sets.items) id in
@@ -21,7 +21,7 @@ loop-word-preserved c =
           ap (λ b. b || has_numbered_row number n ids id left) (adds.2 n id ∙ ap (λ b. b || old) one)
           ∙ row_step (has ids id && list_any (is_numbered number n id) list) old (has_numbered_row number n ids id left)
           ∙ ap (λ v. old || has_numbered_row number n ids id v) (sym c.in-Some.ensures.steps) ∙ c.loop-word.invariant.each n id;
-      few = c.in_ok-add_places.ensures.few;
+      few = c.in_ok-add_list.ensures.few;
     }
 
 pub returns-clause-each : goal.returns-clause-each

@@ -4,10 +4,25 @@ use Rattle.sorted_pages.specs.Entries.{has}
 use Rattle.sorted_pages.proofs.SetLemmas.{has-filter, increasing-filter}
 use Rattle.doc_sets.specs.Sets.{intersection}
 use Rattle.postings.specs.Prefixes.{rows_left}
-use Rattle.posting_sets.specs.Found.{has_row}
+use Rattle.posting_sets.specs.Found.{has_document, has_row}
 use Rattle.posting_sets.proofs.OccursLemmas.{ok_of}
 use Rattle.posting_sets.proofs.PrefixLemmas.{prefix_found}
+use Rattle.posting_sets.proofs.KeptLemmas.{word_step, none_yet}
 use Rattle.posting_sets.proofs.found.documents_of_prefix.Goals as goal
+
+pub loop-word-init : goal.loop-word-init
+loop-word-init c = λ id.
+    let ids = c.args.universe.now.ids in
+    none_yet (has ids id) (has c.in_ok-builder.builder id) (has_row ids id (rows_left c.into_iter-word-iterator.result)) (ap (λ v. has v id) c.in_ok-builder.ensures)
+
+pub loop-word-preserved : goal.loop-word-preserved
+loop-word-preserved c = λ id.
+    let ids = c.args.universe.now.ids in
+    let list = c.in-Some.list.now.entries in
+    ap (λ b. b || has_row ids id (rows_left c.next.new.self)) (c.in_ok-add_kept_or_list.ensures id)
+    ∙ word_step (has ids id) (has_document list id) (has c.loop-word.builder id) (has_row ids id (rows_left c.next.new.self))
+    ∙ ap (λ v. (has ids id && has c.loop-word.builder id) || has_row ids id v) (sym c.in-Some.ensures.steps)
+    ∙ c.loop-word.invariant id
 
 pub returns : goal.returns
 returns c = ok_of _ _ c.and.result c.and.ensures (λ set e documents fresh.

@@ -1,5 +1,5 @@
 use Rattle.std.proofs.Common.{◌+◌, ◌<◌, drop, length, subst, ◌∙◌, arith}
-use Rattle.postings.specs.Dictionary.{IsTight}
+use Rattle.postings.specs.Dictionary.{lists_of, IsTight}
 use Rattle.postings.proofs.TightLemmas.{tight_less, drop_one}
 use Rattle.postings.proofs.dictionary.drop_all_spent.Goals as goal
 
@@ -10,7 +10,8 @@ loop-row-preserved c =
     let x = c.row-item.result in
     let inside : i < length rows = omega arith in
     record {
+      numbered = c.drop_spent.ensures.numbered;
       lists = λ w. c.drop_spent.ensures.lists w ∙ c.loop-row.invariant.lists w;
-      tight = λ h. tight_less x (drop (i + 1) rows) c.loop-row.lists.entries c.drop_spent.new.lists.entries c.drop_spent.ensures.tight c.drop_spent.ensures.others
-          (subst (λ v. IsTight v c.loop-row.lists.entries) (drop_one rows i x inside c.row-item.is) (c.loop-row.invariant.tight h));
+      tight = λ h. tight_less x (drop (i + 1) rows) (lists_of c.loop-row.lists) (lists_of c.drop_spent.new.lists) c.drop_spent.ensures.tight c.drop_spent.ensures.others
+          (subst (λ v. IsTight v (lists_of c.loop-row.lists)) (drop_one rows i x inside c.row-item.is) (c.loop-row.invariant.tight h));
     }

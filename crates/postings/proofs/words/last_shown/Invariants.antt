@@ -3,7 +3,7 @@ use Rattle.postings.specs.Words.{shown_rows}
 use Rattle.postings.proofs.words.last_shown.Given as goal
 
 abbrev pub invariant-loop-word : goal.invariant-loop-word
-invariant-loop-word l = shown_rows l.lists ≡ shown_rows l.initial.lists
+invariant-loop-word l = shown_rows l.slots l.lists ≡ shown_rows l.slots l.initial.lists
 
 abbrev pub decreases-loop-word : goal.decreases-loop-word
 decreases-loop-word l = length l.lists

@@ -12,11 +12,11 @@ loop-level-preserved g c =
     let rows = g.S.RuleSource.rows c.args.source.now in
     let lvs = c.args.graph.now.levels in
     let docs = c.in_ok-docs.docs in
-    subst (λ (l : List SetView). AreFirst rows lvs c.args.universe.now.ids (c.loop-level.level + 1) l c.in_ok-others.others.ids) (sym c.in_ok-push-2.ensures.items)
-    (first-more rows lvs c.args.universe.now.ids c.loop-level.level c.loop-level.levels.items docs.ids c.loop-level.rest.ids c.in_ok-others.others.ids docs
+    subst (λ (l : List SetView). AreFirst rows lvs c.args.universe.now.ids (c.loop-level.level + 1) l c.subtract.new.self.ids) (sym c.in_ok-push-2.ensures.items)
+    (first-more rows lvs c.args.universe.now.ids c.loop-level.level c.loop-level.levels.items docs.ids c.loop-level.rest.ids c.subtract.new.self.ids docs
     (subst (λ n. c.loop-level.level < n) c.level_count-count.ensures c.loop-level-test.true) c.loop-level.invariant refl
     (λ view e. told (λ v. (d : ℕ) → has docs.ids d ≡ (has c.loop-level.rest.ids d && level_matches (rows d).places v)) (slice_get lvs c.loop-level.level) view c.in_ok-docs.ensures e)
-    c.in_ok-others.ensures)
+    c.in_ok-subtract.ensures.ids)
 
 pub returns : goal.returns
 returns g c =

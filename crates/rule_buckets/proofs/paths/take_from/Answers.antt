@@ -1,5 +1,6 @@
 use Rattle.std.proofs.Common.{◌≡◌, ◌||◌, Some, sym, ap, ◌∙◌}
-use Rattle.doc_sets.specs.Sets.{has}
+use Rattle.doc_sets.specs.Sets.{has, union}
+use Rattle.doc_sets.specs.SetView.{SetView}
 use Rattle.doc_sets.proofs.SetLemmas.{has-union}
 use Rattle.rule_buckets.specs.Streams.{LevelCostsView, without}
 use Rattle.rule_buckets.proofs.Streaming.{left-none, taken-all}
@@ -8,7 +9,7 @@ use Rattle.rule_buckets.proofs.paths.take_from.Goals as goal
 pub returns-in_ok-all-in-Some-clause-found : goal.returns-in_ok-all-in-Some-clause-found
 returns-in_ok-all-in-Some-clause-found g c = λ d.
     let ahead : c.args.stream.ahead ≡ Some (c.in-Some.here, c.in-Some.docs) = sym (ap (λ (s : LevelCostsView g.row.S.Denot). s.ahead) c.stream.view_is) ∙ c.in-Some.is in
-    ap (λ l. has l d) c.in_ok-all-in-Some.ensures ∙ has-union c.args.found.now.ids c.in-Some.docs.ids d
+    ap (λ l. has l d) (c.in_ok-all-in-Some.ensures ∙ ap (λ (s : SetView). union s.ids c.in-Some.docs.ids) c.replace-others.ensures.value) ∙ has-union c.args.found.now.ids c.in-Some.docs.ids d
     ∙ ap (λ l. has c.args.found.now.ids d || has l d) (sym (taken-all c.args.stream.ahead c.args.cost c.in-Some.here c.in-Some.docs ahead c.if-here-cost.false))
 
 pub returns-in_ok-all-in-Some-clause-left : goal.returns-in_ok-all-in-Some-clause-left

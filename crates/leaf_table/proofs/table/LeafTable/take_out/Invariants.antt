@@ -1,4 +1,6 @@
 use Rattle.std.proofs.Common.{◌≡◌, ℕ, reverse, take, length}
+use Rattle.leaf_table.specs.Tables.{table_rows}
+use Rattle.leaf_table.specs.Columns.{AreColumns}
 use Rattle.leaf_table.specs.Changes.{numbers, left_at}
 use Rattle.leaf_table.proofs.ChangeLemmas.{kept_in}
 use Rattle.leaf_table.proofs.table.LeafTable.take_out.Given as goal
@@ -8,4 +10,5 @@ invariant-loop-id l =
     record {
       each : (id : ℕ) → kept_in id l.self-inside.rows.items ≡ left_at id (reverse (numbers (take l.id-index l.gone))) (kept_in id l.initial.self-inside.rows.items);
       rows : length l.self-inside.rows.items ≡ length l.initial.self-inside.rows.items;
+      columns : AreColumns l.self-inside.columns.items (table_rows l.self-inside.rows.items);
     }

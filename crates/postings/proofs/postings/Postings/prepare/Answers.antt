@@ -1,6 +1,6 @@
 use Rattle.std.proofs.Common.{not, ◌&&◌, ap₂, subst, sym, ◌∙◌}
 use Rattle.postings.specs.Changes.{IsChangeOf}
-use Rattle.postings.specs.Dictionary.{IsTight, none}
+use Rattle.postings.specs.Dictionary.{lists_of, IsTight, none}
 use Rattle.postings.proofs.TightLemmas.{tight_but}
 use Rattle.postings.proofs.postings.Postings.prepare.Goals as goal
 
@@ -17,12 +17,10 @@ returns-in-Ok-clause-made c = λ gone come change.
 pub returns-in-Ok-clause-tight : goal.returns-in-Ok-clause-tight
 returns-in-Ok-clause-tight c = λ tight.
     let lists = subst (λ v. IsTight none v.lists) (sym c.self.view_is) tight in
-    subst (λ v. IsTight v c.reserve_words.new.lists.entries) c.as_slice.ensures.value
-    (tight_but c.as_slice.result.now c.self.inside.lists.entries c.reserve_words.new.lists.entries c.in-Ok.ensures.others lists)
+    subst (λ v. IsTight v (lists_of c.reserve_words.new.lists)) c.as_slice-rows.ensures.value
+    (tight_but c.as_slice-rows.result.now (lists_of c.self.inside.lists) (lists_of c.reserve_words.new.lists) c.in-Ok.ensures.others lists)
 
 pub returns-in-Err-clause-tight : goal.returns-in-Err-clause-tight
 returns-in-Err-clause-tight c = λ tight.
     let lists = subst (λ v. IsTight none v.lists) (sym c.self.view_is) tight in
-    let same = c.as_slice.ensures.value ∙ sym c.as_slice-in-Err.ensures.value in
-    c.drop_all_spent.ensures.tight (subst (λ v. IsTight v c.reserve_words.new.lists.entries) same
-    (tight_but c.as_slice.result.now c.self.inside.lists.entries c.reserve_words.new.lists.entries c.in-Err.ensures.others lists))
+    c.drop_all_spent.ensures.tight (tight_but c.as_slice-rows.result.now (lists_of c.self.inside.lists) (lists_of c.reserve_words.new.lists) c.in-Err.ensures.others lists)

@@ -1,0 +1,38 @@
+-- The documents of words that are kept as sets.
+use Rattle.std.proofs.Common.{◌≡◌, ℕ, ◌<◌, Bool, true, false, ◌&&◌, ◌||◌, cond, List, [], ◌∷◌, length, inl, inr, None, refl, sym, ap, subst, ◌∙◌}
+use Rattle.std.specs.Prelude.{nat_eq}
+use Rattle.std.specs.List.{filter, starts_with, AllByRecursion}
+use Rattle.std.specs.List.Sorted.{IsStrictlySortedBy}
+use Rattle.std.specs.Map.{keys_of}
+use Rattle.search_base.proofs.Members.{Among}
+use Rattle.sorted_pages.specs.Entries.{has, IsIncreasing}
+use Rattle.doc_sets.specs.Sets.{intersection}
+use Rattle.postings.specs.Dictionary.{PostingsView, word_cmp, value_at, list_at, some_list}
+use Rattle.posting_sets.specs.Found.{AreOccurring, IsKeptOf, has_document, term_of}
+use Rattle.posting_sets.proofs.OccursLemmas.{words_found}
+use Rattle.posting_sets.proofs.PrefixLemmas.{are_in_list, value_of_row, shown}
+
+same_filter : (p q : ℕ → Bool) → ((x : ℕ) → p x ≡ q x) → (xs : List ℕ) → filter p xs ≡ filter q xs
+same_filter p q same [] = refl
+same_filter p q same (x ∷ xs) = ap (λ b. cond b (x ∷ filter p xs) (filter p xs)) (same x) ∙ ap (λ v. cond (q x) (x ∷ v) v) (same_filter p q same xs)
+
+-- what is kept for words tells where they stand
+pub kept_found : (view : PostingsView) (words : List (List ℕ)) → 0 < length words → (kept ids set : List ℕ) → IsKeptOf view words kept
+    → IsIncreasing ids → set ≡ intersection ids kept → AreOccurring view (term_of false words) ids set
+kept_found view [] some kept ids set of up e = absurd of
+kept_found view (word ∷ []) some kept ids set of up e =
+    let list = list_at word view in
+    words_found view (word ∷ []) some ids set (list ∷ []) up refl
+    (are_in_list ids set list (list ∷ []) up (e ∙ same_filter (has kept) (has_document list) of ids) refl)
+kept_found view (word ∷ (other ∷ words)) some kept ids set of up e = absurd of
+
+-- a step from word to word
+pub word_step : (u d old rows : Bool) → ((u && (d || old)) || rows) ≡ ((u && old) || ((u && d) || rows))
+word_step true true true rows = refl
+word_step true true false rows = refl
+word_step true false old rows = refl
+word_step false d old rows = refl
+
+pub none_yet : (u old rows : Bool) → old ≡ false → ((u && old) || rows) ≡ rows
+none_yet true old rows e = ap (λ b. b || rows) e
+none_yet false old rows e = refl
