@@ -1,5 +1,5 @@
 -- The entries of documents, while the documents are gone over.
-use Rattle.std.proofs.Common.{◌≡◌, ℕ, Bool, true, false, ◌||◌, ◌==◌, List, [], ◌∷◌, ◌++◌, Option, None, Some, refl, sym, ap, subst, ◌∙◌}
+use Rattle.std.proofs.Common.{◌≡◌, ℕ, Bool, true, false, ◌||◌, ◌==◌, List, [], ◌∷◌, ◌++◌, Option, None, Some, map, refl, sym, ap, subst, ◌∙◌}
 use Rattle.std.specs.List.{list_any, AllByRecursion}
 use Rattle.std.specs.Option.{option_map}
 use Rattle.std.proofs.lemmas.Bool.{eqb-true, eq-eqb}
@@ -12,10 +12,12 @@ use Rattle.search_base.specs.declared.value.FacetValue.TheVariants as facet
 use Rattle.search_base.specs.contracts.value.FacetValueClone.TheImpl as cloned
 use Rattle.sort_rule.specs.declared.entries.Entry.{Entry}
 use Rattle.sort_rule.specs.Entries.{AreEntriesOf}
-use Rattle.facet_index.specs.Ends.{first_value}
+use Rattle.search_base.specs.SortKeys.{leaves_under, first_by}
+use Rattle.facet_index.specs.Ends.{value_before, first_value}
 use Rattle.facet_index.specs.Sorts.{sort_entry}
 use Rattle.facet_index.specs.Starts.{entry_of}
 use Rattle.facet_index.proofs.SortLemmas.{entry_is}
+use Rattle.leaf_table.proofs.TableLemmas.{under_twice}
 
 -- the entries of the documents that were gone over, where some of the universe are left
 pub record AreEntriesYet (key : ℕ → Option CostKey) (universe left : List ℕ) (entries : List Entry) : Type 0 where
@@ -32,7 +34,11 @@ entry_found : (up : Bool) (path : ℕ) (leaves : List Leaf) (first : Option Face
     → sort_entry up path leaves ≡ option_map (entry_of up) first
 entry_found up path leaves first is = entry_is up path leaves ∙ ap (option_map (entry_of up)) (sym is)
 
-clone_is : (v copy : FacetValue) → cloned.ghosts.is_clone v copy → copy ≡ v
+-- the first of the values under a path is that of the leaves there
+pub first_under : (up : Bool) (path : ℕ) (leaves : List Leaf) → first_value up path (leaves_under path leaves) ≡ first_value up path leaves
+first_under up path leaves = ap (λ list. first_by (value_before up) (map (λ (leaf : Leaf). leaf.value) list)) (under_twice path leaves)
+
+pub clone_is : (v copy : FacetValue) → cloned.ghosts.is_clone v copy → copy ≡ v
 clone_is (facet.Number m) (facet.Number n) h = ap facet.Number h
 clone_is (facet.Number m) (facet.Text w) h = absurd h
 clone_is (facet.Text v) (facet.Number n) h = absurd h

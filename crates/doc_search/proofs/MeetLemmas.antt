@@ -1,5 +1,5 @@
 -- The documents that meet a condition, by what posting lists say of them.
-use Rattle.std.proofs.Common.{◌≡◌, ℕ, zero, suc, ◌+◌, ◌<◌, ◌==◌, Bool, true, false, List, [], ◌∷◌, map, length, take, slice_get, cond, Option, Some, refl, sym, ap, ◌∙◌, arith}
+use Rattle.std.proofs.Common.{◌≡◌, ℕ, zero, suc, ◌+◌, ◌<◌, ◌==◌, Bool, true, false, List, [], ◌∷◌, map, length, take, slice_get, cond, Option, None, Some, IfSome, refl, sym, ap, ◌∙◌, arith}
 use Rattle.std.specs.List.{filter, range_with_len, enumerate_from}
 use Rattle.std.proofs.lemmas.List.{take_all}
 use Rattle.search_base.specs.Bucket.{bucket_of}
@@ -10,7 +10,7 @@ use Rattle.postings.specs.Dictionary.{PostingsView}
 use Rattle.postings.specs.Documents.{Document, places_of}
 use Rattle.postings.specs.Fresh.{StandsFor}
 use Rattle.posting_sets.specs.Blocks.{AreOfBlocks}
-use Rattle.posting_sets.specs.Numbers.{rank_at, set_at, AreNumbered}
+use Rattle.posting_sets.specs.Numbers.{rank_at, set_at, numbered, AreNumbered}
 use Rattle.near_words.specs.ByCost.{ids_at, ids_by_cost}
 use Rattle.condition_graph.specs.declared.condition.Condition.TheVariants.{Free, Pair, AtRank, AtBucket}
 use Rattle.doc_search.specs.Meeting.{AreMeeting, AreMeetingByNumber}
@@ -65,6 +65,17 @@ pub bucket_is : AreOfBlocks → (view : PostingsView) (ranks : List (Option ℕ)
     → AreNumbered view term (λ place. Some (bucket_of place.position)) universe rows → ids ≡ set_at at rows → AreMeeting view ranks (AtBucket term at) universe ids
 bucket_is law view ranks term at universe ids rows are is documents fresh have =
     is ∙ are.each documents fresh at ∙ law.bucket documents term universe at
+
+-- the documents of the first bucket, whatever the ranks
+pub first_is : AreOfBlocks → (view : PostingsView) (term : TermView) (universe ids : List ℕ)
+    → ((documents : List Document) → StandsFor view documents → ids ≡ numbered documents term (λ place. Some (bucket_of place.position)) universe 0)
+    → (ranks : List (Option ℕ)) → AreMeeting view ranks (AtBucket term 0) universe ids
+first_is law view term universe ids is ranks documents fresh have = is documents fresh ∙ law.bucket documents term universe 0
+
+-- what follows from what is said of a set, where there is one
+pub some_of : {X : Type 0} (P Q : X → Type 0) (found : Option X) → IfSome found P → ((x : X) → P x → Q x) → IfSome found Q
+some_of P Q None h f = tt
+some_of P Q (Some x) h f = f x h
 
 -- ---- the sets of all numbers
 slice_get-some : (sets : List SetView) (k : ℕ) → k < length sets → (set : SetView) × (slice_get sets k ≡ Some set)

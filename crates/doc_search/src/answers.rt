@@ -15,7 +15,7 @@ ghost use Rattle.doc_search.specs.Rows.{rows_at};
 
 use crate::by_number::meeting_by_number;
 use crate::indexed::IndexedRows;
-use crate::met::meeting;
+use crate::met::{meeting, meeting_at_hand};
 use crate::ordered::ordered;
 use bucket_sort::Bucket;
 use condition_graph::Condition;
@@ -57,6 +57,24 @@ pub(crate) fn documents_meeting<I: IndexedRows>(
     let ranks = rows.ranks();
     let docs = meeting(alloc, places, ranks, condition, universe)?;
     Ok(docs)
+}
+
+/// The same, where it is known without a walk over a long list, and else none.
+pub(crate) fn documents_at_hand<I: IndexedRows>(
+    alloc: Global,
+    rows: &I,
+    condition: &Condition,
+    universe: &DocSet,
+) -> Result<Option<DocSet>, NoMemory>
+    requires { IsCondition condition.now }
+    ensures { IfOk result (λ found. IfSome found (λ docs. docs.ids
+        ≡ filter (λ d. meets (rows_at (I.documents rows.now) d).places condition.now) universe.now.ids)) }
+{
+    let index = rows.index();
+    let places = index.places();
+    let _ranks = rows.ranks();
+    let found = meeting_at_hand(alloc, places, condition, universe)?;
+    Ok(found)
 }
 
 /// The documents of the universe that meet a condition on a number, by the number.

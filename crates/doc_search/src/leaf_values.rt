@@ -1,5 +1,6 @@
 ghost use Rattle.std.specs.Prelude.{◌≡◌, [], map, IfOk};
 ghost use Rattle.search_base.specs.SortKeys.{leaves_under};
+ghost use Rattle.std.specs.Rc.{rc_value};
 ghost use Rattle.doc_search.specs.Valued.{values_under};
 
 use crate::documents::IndexedDocuments;
@@ -7,6 +8,7 @@ use distinct_hits::Values;
 use search_base::{DocId, FacetValue, Leaf, NoMemory, PathId};
 use std::alloc::Global;
 use std::marker::Model;
+use std::rc::Rc;
 
 /// The values of documents under a path whose leaves the index keeps, and whose values were asked for. No document is
 /// read for them.
@@ -77,11 +79,17 @@ fn values_of(
 }
 
 // The values of those of the leaves that stand under a path.
-fn values_among(alloc: Global, leaves: &[Leaf], path: PathId) -> Result<Vec<FacetValue>, NoMemory>
-    ensures { IfOk result (λ values. values.items ≡ map (λ leaf. leaf.value) (leaves_under path.0 leaves.now)) }
+fn values_among(
+    alloc: Global,
+    leaves: &[Rc<Leaf>],
+    path: PathId,
+) -> Result<Vec<FacetValue>, NoMemory>
+    ensures { IfOk result (λ values.
+        values.items ≡ map (λ leaf. leaf.value) (leaves_under path.0 (map rc_value leaves.now))) }
 {
     let mut values = Vec::new(alloc);
     for leaf in leaves {
+        let leaf = leaf.as_ref();
         if leaf.path == path {
             values.push(leaf.value.clone()?)?;
         }

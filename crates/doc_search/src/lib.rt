@@ -14,7 +14,8 @@
 //! `RowIndex` and knows of which documents it is the index. It is a `RuleSource`: each question of the ranking rules is
 //! one of posting lists, lengths, the facet index or the documents' own leaves, and the rows of an id are those of its
 //! document, or none. Each condition of a condition graph is one question of `posting_sets` or `near_words`
-//! (`meeting`); one on ranks, buckets or pair costs is answered for all numbers in one pass (`meeting_by_number`). Few
+//! (`meeting`); one on ranks, buckets or pair costs is answered for all numbers in one pass (`meeting_by_number`), and the
+//! one on the first bucket alone where it is at hand. Few
 //! documents are sorted by their own numbers or leaves, and many by the keys of the facet index. The crate stands on `doc_store`,
 //! `doc_index`, `row_index`, `whole_words`, `near_words`, `filter_sets`, `sort_rule`, `rule_buckets`, `distinct_hits`,
 //! and on `list_facets`, which counts.

@@ -1,4 +1,4 @@
-ghost use Rattle.std.specs.Prelude.{IfOk};
+ghost use Rattle.std.specs.Prelude.{ℕ, List, Option, IfOk, IfSome};
 ghost use Rattle.condition_graph.specs.Promise.{IsCondition};
 ghost use Rattle.doc_search.specs.Meeting.{AreMeeting};
 
@@ -7,7 +7,8 @@ use condition_graph::Condition;
 use doc_sets::DocSet;
 use near_words::documents_by_pair_cost;
 use posting_sets::{
-    documents, documents_by_bucket, documents_by_rank, numbers_are_those_of_blocks,
+    documents, documents_at_first, documents_by_bucket, documents_by_rank,
+    numbers_are_those_of_blocks,
 };
 use postings::Postings;
 use search_base::NoMemory;
@@ -55,4 +56,27 @@ pub fn meeting(
             set_at(alloc, rows.as_slice(), u16::from(*bucket))
         }
     }
+}
+
+/// The same, where it is known without a walk over a long list, and else none. It is known of a condition on the first
+/// bucket alone.
+pub(crate) fn meeting_at_hand(
+    alloc: Global,
+    postings: &Postings,
+    condition: &Condition,
+    universe: &DocSet,
+) -> Result<Option<DocSet>, NoMemory>
+    requires { IsCondition condition.now }
+    ensures { IfOk result (λ found. IfSome found (λ set. (ranks : List (Option ℕ))
+        → AreMeeting postings.now ranks condition.now universe.now.ids set.ids)) }
+{
+    numbers_are_those_of_blocks();
+    let Condition::AtBucket { term, bucket } = condition else {
+        return Ok(None);
+    };
+    if *bucket != 0 {
+        return Ok(None);
+    }
+    let found = documents_at_first(alloc, postings, term, universe)?;
+    Ok(found)
 }

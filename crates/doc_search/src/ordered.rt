@@ -43,8 +43,10 @@ fn entries_of(
     ensures increasing { IsIncreasing universe.now.ids }
 {
     let mut entries = Vec::new(alloc);
+    let mut own = Vec::new(alloc);
     for id in universe.iter() {
-        if let Some(value) = first_value(leaves.leaves(id), path, up) {
+        leaves.copy_under(id, path, &mut own)?;
+        if let Some(value) = first_value(own.as_slice(), path, up) {
             let key = entry_of(up, value.clone()?);
             entries.push(Entry { key, id })?;
         }

@@ -1,8 +1,8 @@
 ghost use Rattle.std.specs.Prelude.{◌≡◌};
 
 use crate::answers::{
-    above_ranks, documents_at_cost, documents_by_number, documents_meeting, documents_under,
-    next_entry, numbers_under, ordered_under,
+    above_ranks, documents_at_cost, documents_at_hand, documents_by_number, documents_meeting,
+    documents_under, next_entry, numbers_under, ordered_under,
 };
 use crate::indexed::IndexedRows;
 use bucket_sort::Bucket;
@@ -63,6 +63,15 @@ impl<'a, I: IndexedRows> RuleSource for Snapshot<'a, I> {
         universe: &DocSet,
     ) -> Result<DocSet, NoMemory> {
         documents_meeting(alloc, self.rows, condition, universe)
+    }
+
+    fn at_hand(
+        &self,
+        alloc: Global,
+        condition: &Condition,
+        universe: &DocSet,
+    ) -> Result<Option<DocSet>, NoMemory> {
+        documents_at_hand(alloc, self.rows, condition, universe)
     }
 
     fn meeting_by_number(

@@ -1,5 +1,6 @@
 pub mod NameLemmas
 pub mod ShelfLemmas
+pub mod ShortLemmas
 pub mod RowLemmas
 pub mod SlotLemmas
 pub mod SpentLemmas

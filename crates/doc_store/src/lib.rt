@@ -22,6 +22,7 @@ mod registry;
 mod restore;
 mod rows;
 mod shelf;
+mod short_names;
 mod slots;
 mod store;
 mod walked;

@@ -4,30 +4,32 @@ ghost use Rattle.doc_values.specs.Stored.{document_at};
 ghost use Rattle.doc_values.specs.Whole.{IsDocument};
 
 use crate::document::Document;
-use search_base::{Fault, NoMemory, Word};
+use search_base::{Fault, NoMemory};
 use serde_json::Value;
 use std::alloc::{AllocError, Global};
 use std::marker::Model;
+use std::rc::RcStr;
 
 /// A document as an index keeps it: its canonical text, with no room to spare where the allocator gives that back.
 /// Its clones share one text. Seen as the document's data, as a `Document` is.
 #[derive(Drop)]
 pub struct DocumentText {
-    text: Word,
+    text: RcStr,
 }
 
 impl Model for DocumentText {
     ghost use Rattle.serde_json.specs.Data.{Data};
     ghost use Rattle.doc_values.specs.DataCode.{data_code};
+    ghost use Rattle.std.specs.Rc.{rc_str_bytes};
     ghost use Rattle.doc_values.specs.Texts.{text_data, IsDocumentText};
 
     ghost Value = { Data };
 
     ghost coded = { data_code };
 
-    ghost view = { λ kept. text_data kept.text };
+    ghost view = { λ kept. text_data (rc_str_bytes kept.text) };
 
-    ghost invariant = { λ kept. IsDocumentText kept.text };
+    ghost invariant = { λ kept. IsDocumentText (rc_str_bytes kept.text) };
 }
 
 impl DocumentText {
@@ -38,7 +40,7 @@ impl DocumentText {
         let mut text = document.as_json().to_string(alloc)?;
         text.shrink_to_fit();
         Ok(DocumentText {
-            text: Word::from_string(text)?,
+            text: RcStr::from_string(text)?,
         })
     }
 

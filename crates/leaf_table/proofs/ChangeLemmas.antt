@@ -1,44 +1,35 @@
 -- The rows of a table of leaves, and how they change.
-use Rattle.std.proofs.Common.{◌≡◌, ℕ, zero, suc, ◌+◌, ◌-◌, ◌<◌, ◌≤◌, Bool, true, false, not, ◌==◌, ◌||◌, cond, List, [], ◌∷◌, ◌++◌, Option, None, Some, Vec, map, reverse, length, take, get_or, set, refl, sym, ap, subst, ◌∙◌, arith}
+use Rattle.std.proofs.Common.{◌≡◌, ℕ, zero, suc, ◌+◌, ◌-◌, ◌<◌, ◌≤◌, Bool, true, false, not, ◌==◌, ◌||◌, cond, List, [], ◌∷◌, ◌++◌, Option, None, Some, unwrap_or, map, reverse, length, take, get_or, set, refl, sym, ap, subst, ◌∙◌, arith}
 use borrow.Author.Count.{below_more}
-use Rattle.std.specs.Global.{Global}
 use Rattle.std.specs.Option.{option_map}
 use Rattle.std.proofs.lemmas.Bool.{eqb-true}
 use Rattle.std.proofs.lemmas.Bool.Decides.{nat_tests}
-use Rattle.std.proofs.lemmas.List.{get_or-set_same, get_or-set_other, get_or_past, get_or_default, map-set, map-append, reverse-append, length-reverse, get_or-reverse, length-set, take_more, length-map}
+use Rattle.std.proofs.lemmas.List.{get_or-set_same, get_or-set_other, get_or_past, get_or_default, map-append, reverse-append, length-reverse, get_or-reverse, length-set, take_more}
 use Rattle.search_base.specs.declared.document.DocId.{DocId}
 use Rattle.search_base.specs.declared.document.Leaf.{Leaf}
 use Rattle.doc_sets.specs.Sets.{has}
 use Rattle.facet_index.specs.LeavesView.{LeavesView}
 use Rattle.facet_index.specs.Batches.{has_id, document_at, without, after}
-use Rattle.leaf_table.specs.Tables.{row_leaves, table_rows}
 use Rattle.leaf_table.specs.Changes.{RowView, numbers, row_of, come_at, left_at}
 
 -- what stands in the rows under an id
-abbrev pub kept_in : ℕ → List (Option (Vec Leaf Global)) → Option (List Leaf)
-kept_in id rows = get_or (table_rows rows) id None
-
-set_in : (rows : List (Option (List Leaf))) (at id : ℕ) (row : Option (List Leaf)) → at < length rows
-    → get_or (set rows at row) id None ≡ cond (at == id) row (get_or rows id None)
-set_in rows at id row within = grind (arith, nat_tests, get_or-set_same, get_or-set_other)
+abbrev pub kept_in : ℕ → List (Option (List Leaf)) → Option (List Leaf)
+kept_in id rows = get_or rows id None
 
 -- one row is set
-pub kept_set : (id : ℕ) (rows : List (Option (Vec Leaf Global))) (at : ℕ) (row : Option (Vec Leaf Global)) → at < length rows
-    → kept_in id (set rows at row) ≡ cond (at == id) (row_leaves row) (kept_in id rows)
-kept_set id rows at row within =
-    ap (λ list. get_or list id None) (map-set row_leaves rows at row)
-    ∙ set_in (table_rows rows) at id (row_leaves row) (let n = length-map rows row_leaves in omega arith)
+pub kept_set : (id : ℕ) (rows : List (Option (List Leaf))) (at : ℕ) (row : Option (List Leaf)) → at < length rows
+    → kept_in id (set rows at row) ≡ cond (at == id) row (kept_in id rows)
+kept_set id rows at row within = grind (arith, nat_tests, get_or-set_same, get_or-set_other)
 
-none_behind : (rows : List (Option (List Leaf))) (id : ℕ) → get_or (rows ++ None ∷ []) id None ≡ get_or rows id None
-none_behind [] zero = refl
-none_behind [] (suc n) = refl
-none_behind (row ∷ rows) zero = refl
-none_behind (row ∷ rows) (suc n) = none_behind rows n
+none_past : (id : ℕ) → kept_in id (None ∷ []) ≡ kept_in id []
+none_past zero = refl
+none_past (suc n) = refl
 
 -- an empty row comes behind
-pub kept_pushed : (id : ℕ) (rows : List (Option (Vec Leaf Global))) → kept_in id (rows ++ None ∷ []) ≡ kept_in id rows
-kept_pushed id rows =
-    ap (λ list. get_or list id None) (map-append row_leaves rows (None ∷ [])) ∙ none_behind (table_rows rows) id
+pub kept_pushed : (id : ℕ) (rows : List (Option (List Leaf))) → kept_in id (rows ++ None ∷ []) ≡ kept_in id rows
+kept_pushed id [] = none_past id
+kept_pushed zero (row ∷ rows) = refl
+kept_pushed (suc n) (row ∷ rows) = kept_pushed n rows
 
 -- ---- rows that come
 
@@ -48,14 +39,12 @@ come_behind id [] row kept = refl
 come_behind id (x ∷ xs) row kept = ap (cond (x.id == id) (Some x.leaves)) (come_behind id xs row kept)
 
 -- one row more is set
-pub one_comes : (id : ℕ) (row : RowView) (left : List RowView) (rows : List (Option (Vec Leaf Global))) (leaves : Vec Leaf Global)
-    → row.leaves ≡ leaves.items → row.id < length rows
-    → come_at id (reverse (row ∷ left)) (kept_in id rows) ≡ come_at id (reverse left) (kept_in id (set rows row.id (Some leaves)))
-one_comes id row left rows leaves same within =
+pub one_comes : (id : ℕ) (row : RowView) (left : List RowView) (rows : List (Option (List Leaf))) → row.id < length rows
+    → come_at id (reverse (row ∷ left)) (kept_in id rows) ≡ come_at id (reverse left) (kept_in id (set rows row.id (Some row.leaves)))
+one_comes id row left rows within =
     ap (λ all. come_at id all (kept_in id rows)) (reverse-append (row ∷ []) left)
     ∙ come_behind id (reverse left) row (kept_in id rows)
-    ∙ ap (λ value. come_at id (reverse left) (cond (row.id == id) (Some value) (kept_in id rows))) same
-    ∙ ap (come_at id (reverse left)) (sym (kept_set id rows row.id (Some leaves) within))
+    ∙ ap (come_at id (reverse left)) (sym (kept_set id rows row.id (Some row.leaves) within))
 
 -- ---- rows that go
 
@@ -75,7 +64,7 @@ left_more id at gone kept = by (at == id)
     by false = refl
 
 -- the row of one more is emptied
-pub one_goes : (ids : List DocId) (i : ℕ) (d : DocId) (start rows : List (Option (Vec Leaf Global))) → i < length ids
+pub one_goes : (ids : List DocId) (i : ℕ) (d : DocId) (start rows : List (Option (List Leaf))) → i < length ids
     → ((id : ℕ) → kept_in id rows ≡ left_at id (reverse (numbers (take i ids))) (kept_in id start)) → (get_or ids i d).0 < length rows
     → (id : ℕ) → kept_in id (set rows (get_or ids i d).0 None) ≡ left_at id (reverse (numbers (take (i + 1) ids))) (kept_in id start)
 one_goes ids i d start rows more told within id =
@@ -86,12 +75,12 @@ one_goes ids i d start rows more told within id =
     ∙ ap (λ gone. left_at id gone (kept_in id start)) (sym (numbers_more ids i d more))
 
 -- one more has no row
-pub none_goes : (ids : List DocId) (i : ℕ) (d : DocId) (start rows : List (Option (Vec Leaf Global))) → i < length ids
+pub none_goes : (ids : List DocId) (i : ℕ) (d : DocId) (start rows : List (Option (List Leaf))) → i < length ids
     → ((id : ℕ) → kept_in id rows ≡ left_at id (reverse (numbers (take i ids))) (kept_in id start)) → length rows ≤ (get_or ids i d).0
     → (id : ℕ) → kept_in id rows ≡ left_at id (reverse (numbers (take (i + 1) ids))) (kept_in id start)
 none_goes ids i d start rows more told past id =
     let at = (get_or ids i d).0 in
-    unset (at == id) (λ same. get_or_past (table_rows rows) id None (let n = length-map rows row_leaves in let e = eqb-true at id same in omega arith))
+    unset (at == id) (λ same. get_or_past rows id None (let e = eqb-true at id same in omega arith))
     ∙ ap (cond (at == id) None) (told id)
     ∙ left_more id at (reverse (numbers (take i ids))) (kept_in id start)
     ∙ ap (λ gone. left_at id gone (kept_in id start)) (sym (numbers_more ids i d more))
@@ -187,27 +176,27 @@ all_of_reversed rows n below k d less =
 -- ---- one turn of the loop over rows that come
 
 -- what was set so far and what is left are what comes, and each that is left has a row
-pub record IsSetting (start rows : List (Option (Vec Leaf Global))) (come left : List RowView) : Type 0 where
+pub record IsSetting (start rows : List (Option (List Leaf))) (come left : List RowView) : Type 0 where
   pub each : (id : ℕ) → come_at id (reverse come) (kept_in id start) ≡ come_at id (reverse left) (kept_in id rows)
   pub within : (k : ℕ) (d : RowView) → k < length left → (get_or left k d).id < length rows
 
-one_set : (start rows : List (Option (Vec Leaf Global))) (come left : List RowView) (row : RowView) (leaves : Vec Leaf Global)
-    → row.leaves ≡ leaves.items → IsSetting start rows come (row ∷ left) → IsSetting start (set rows row.id (Some leaves)) come left
-one_set start rows come left row leaves same setting = record {
-  each = λ id. setting.each id ∙ one_comes id row left rows leaves same (setting.within 0 row (omega arith));
-  within = λ k d less. subst (λ n. (get_or left k d).id < n) (sym (length-set rows row.id (Some leaves))) (setting.within (suc k) d (omega arith));
+one_set : (start rows : List (Option (List Leaf))) (come left : List RowView) (row : RowView)
+    → IsSetting start rows come (row ∷ left) → IsSetting start (set rows row.id (Some row.leaves)) come left
+one_set start rows come left row setting = record {
+  each = λ id. setting.each id ∙ one_comes id row left rows (setting.within 0 row (omega arith));
+  within = λ k d less. subst (λ n. (get_or left k d).id < n) (sym (length-set rows row.id (Some row.leaves))) (setting.within (suc k) d (omega arith));
 }
 
--- one row is set
-pub sets_one : (start rows : List (Option (Vec Leaf Global))) (come left rest : List RowView) (row : RowView) (id : ℕ) (leaves : Vec Leaf Global)
-    → left ≡ row ∷ rest → record { id = id; leaves = leaves.items } ≡ row → IsSetting start rows come left
-    → IsSetting start (set rows id (Some leaves)) come rest
-sets_one start rows come left rest row id leaves first is setting =
-    subst (λ at. IsSetting start (set rows at (Some leaves)) come rest) (sym (ap (λ (r : RowView). r.id) is))
-    (one_set start rows come rest row leaves (sym (ap (λ (r : RowView). r.leaves) is)) (subst (IsSetting start rows come) first setting))
+module _ (start rows : List (Option (List Leaf))) (come left rest : List RowView) (row : RowView) (id : ℕ) (kept : Option (List Leaf))
+    (first : left ≡ row ∷ rest) (is : record { id = id; leaves = unwrap_or kept [] } ≡ row) (setting : IsSetting start rows come left) where
+  -- one row is set
+  pub sets_one : kept ≡ Some (unwrap_or kept []) → IsSetting start (set rows id kept) come rest
+  sets_one some =
+      subst (λ row. IsSetting start (set rows id row) come rest) (sym (some ∙ ap (λ (r : RowView). Some r.leaves) is))
+      (subst (λ at. IsSetting start (set rows at (Some row.leaves)) come rest) (sym (ap (λ (r : RowView). r.id) is))
+      (one_set start rows come rest row (subst (IsSetting start rows come) first setting)))
 
--- the row that comes next has its place
-pub next_within : (start rows : List (Option (Vec Leaf Global))) (come left rest : List RowView) (row : RowView) (id : ℕ) (leaves : Vec Leaf Global)
-    → left ≡ row ∷ rest → record { id = id; leaves = leaves.items } ≡ row → IsSetting start rows come left → id < length rows
-next_within start rows come left rest row id leaves first is setting =
-    subst (λ n. n < length rows) (sym (ap (λ (r : RowView). r.id) is)) ((subst (IsSetting start rows come) first setting).within 0 row (omega arith))
+  -- the row that comes next has its place
+  pub next_within : id < length rows
+  next_within =
+      subst (λ n. n < length rows) (sym (ap (λ (r : RowView). r.id) is)) ((subst (IsSetting start rows come) first setting).within 0 row (omega arith))

@@ -1,5 +1,5 @@
 -- Cells, and columns of them.
-use Rattle.std.proofs.Common.{◌≡◌, ℕ, ◌+◌, ◌<◌, ◌≤◌, Bool, true, false, ◌==◌, cond, ℤ, List, [], ◌∷◌, ◌++◌, Option, None, Vec, length, take, get_or, set, unwrap_or, ltb, refl, sym, ap, subst, ◌∙◌, arith}
+use Rattle.std.proofs.Common.{◌≡◌, ℕ, ◌+◌, ◌<◌, ◌≤◌, Bool, true, false, ◌==◌, cond, ℤ, List, [], ◌∷◌, ◌++◌, Option, None, Vec, map, length, take, get_or, set, unwrap_or, ltb, refl, sym, ap, subst, ◌∙◌, arith}
 use borrow.Author.Count.{below_more}
 use Rattle.std.specs.Global.{Global}
 use Rattle.std.specs.Vec.{with_items}
@@ -13,7 +13,6 @@ use Rattle.search_base.specs.declared.document.Leaf.{Leaf}
 use Rattle.search_base.specs.declared.value.FacetValue.{FacetValue}
 use Rattle.search_base.specs.SortKeys.{leaves_under}
 use Rattle.leaf_table.specs.declared.columns.TheConstants.{OTHER}
-use Rattle.leaf_table.specs.Tables.{row_leaves, table_rows}
 use Rattle.leaf_table.specs.Columns.{leaves_in, Tells, cell_in, columns_of, cell_at, IsColumn, AreColumns}
 use Rattle.leaf_table.proofs.ChangeLemmas.{kept_in, kept_set}
 
@@ -64,20 +63,38 @@ under_more path leaves i leaf within is =
     ∙ filter-append (λ (x : Leaf). x.path.0 == path) (take i leaves) (get_or leaves i leaf ∷ [])
     ∙ ap (λ x. leaves_under path (take i leaves) ++ leaves_under path (x ∷ [])) (sym is)
 
--- a leaf under the path
-pub told_more : (path : ℕ) (leaves : List Leaf) (i : ℕ) (leaf : Leaf) (cell next : ℤ) → i < length leaves → leaf ≡ get_or leaves i leaf
-    → (leaf.path.0 == path) ≡ true → AddsTo cell next leaf.value → Tells cell (leaves_under path (take i leaves))
-    → Tells next (leaves_under path (take (i + 1) leaves))
-told_more path leaves i leaf cell next within is under adds told =
-    subst (Tells next) (sym (under_more path leaves i leaf within is ∙ ap (λ b. leaves_under path (take i leaves) ++ cond b (leaf ∷ []) []) under))
-    (adds (leaves_under path (take i leaves)) leaf refl told)
+module _ (path : ℕ) (leaves : List Leaf) (i : ℕ) (leaf : Leaf) (within : i < length leaves) (is : leaf ≡ get_or leaves i leaf) where
+  -- a leaf under the path is one more there
+  pub under_one : (leaf.path.0 == path) ≡ true → leaves_under path (take (i + 1) leaves) ≡ leaves_under path (take i leaves) ++ leaf ∷ []
+  under_one under = under_more path leaves i leaf within is ∙ ap (λ b. leaves_under path (take i leaves) ++ cond b (leaf ∷ []) []) under
 
--- a leaf elsewhere
-pub told_still : (path : ℕ) (leaves : List Leaf) (i : ℕ) (leaf : Leaf) (cell : ℤ) → i < length leaves → leaf ≡ get_or leaves i leaf
-    → (leaf.path.0 == path) ≡ false → Tells cell (leaves_under path (take i leaves)) → Tells cell (leaves_under path (take (i + 1) leaves))
-told_still path leaves i leaf cell within is off told =
-    subst (Tells cell) (sym (under_more path leaves i leaf within is ∙ ap (λ b. leaves_under path (take i leaves) ++ cond b (leaf ∷ []) []) off
-    ∙ append-nil (leaves_under path (take i leaves)))) told
+  -- a leaf elsewhere is not
+  pub under_none : (leaf.path.0 == path) ≡ false → leaves_under path (take (i + 1) leaves) ≡ leaves_under path (take i leaves)
+  under_none off =
+      under_more path leaves i leaf within is ∙ ap (λ b. leaves_under path (take i leaves) ++ cond b (leaf ∷ []) []) off
+      ∙ append-nil (leaves_under path (take i leaves))
+
+  -- what a cell tells then
+  pub told_more : (cell next : ℤ) → (leaf.path.0 == path) ≡ true → AddsTo cell next leaf.value → Tells cell (leaves_under path (take i leaves))
+      → Tells next (leaves_under path (take (i + 1) leaves))
+  told_more cell next under adds told = subst (Tells next) (sym (under_one under)) (adds (leaves_under path (take i leaves)) leaf refl told)
+
+  pub told_still : (cell : ℤ) → (leaf.path.0 == path) ≡ false → Tells cell (leaves_under path (take i leaves))
+      → Tells cell (leaves_under path (take (i + 1) leaves))
+  told_still cell off told = subst (Tells cell) (sym (under_none off)) told
+
+-- a leaf that an item of a list stands for
+module _ {X : Type 0} (value : X → Leaf) (items : List X) (i : ℕ) (item : X) (leaf : Leaf) (within : i < length items)
+    (is : item ≡ get_or items i item) (same : leaf ≡ value item) where
+  pub item_within : i < length (map value items)
+  item_within = let n = length-map items value in omega (arith, within)
+
+  pub item_is : leaf ≡ get_or (map value items) i leaf
+  item_is = same ∙ ap value is ∙ sym (get_or-map value items i item leaf within)
+
+  -- the items up to one more
+  pub item_more : take (i + 1) (map value items) ≡ take i (map value items) ++ leaf ∷ []
+  item_more = take_more (map value items) i leaf item_within ∙ ap (λ x. take i (map value items) ++ x ∷ []) (sym item_is)
 
 -- ---- all columns
 
@@ -195,26 +212,26 @@ same_rows columns rows new same are path id =
     subst (λ kept. Tells (cell_at path id columns) (leaves_under path (unwrap_or kept []))) (sym (same id)) (are path id)
 
 -- a row is set once the columns tell of it
-pub row_set : (columns new : List (Vec ℤ Global)) (rows : List (Option (Vec Leaf Global))) (at : ℕ) (row : Option (Vec Leaf Global)) → at < length rows
-    → AreColumns columns (table_rows rows)
-    → ((path : ℕ) → Tells (cell_at path at new) (leaves_under path (unwrap_or (row_leaves row) [])))
+pub row_set : (columns new : List (Vec ℤ Global)) (rows : List (Option (List Leaf))) (at : ℕ) (row : Option (List Leaf)) → at < length rows
+    → AreColumns columns rows
+    → ((path : ℕ) → Tells (cell_at path at new) (leaves_under path (unwrap_or row [])))
     → ((path d : ℕ) → (at == d) ≡ false → cell_at path d new ≡ cell_at path d columns)
-    → AreColumns new (table_rows (set rows at row))
+    → AreColumns new (set rows at row)
 row_set columns new rows at row within are told others path d =
     subst (λ kept. Tells (cell_at path d new) (leaves_under path (unwrap_or kept []))) (sym (kept_set d rows at row within)) (by (at == d) refl)
   where
-    by : (b : Bool) → (at == d) ≡ b → Tells (cell_at path d new) (leaves_under path (unwrap_or (cond b (row_leaves row) (kept_in d rows)) []))
-    by true h = subst (λ n. Tells (cell_at path n new) (leaves_under path (unwrap_or (row_leaves row) []))) (eqb-true at d h) (told path)
+    by : (b : Bool) → (at == d) ≡ b → Tells (cell_at path d new) (leaves_under path (unwrap_or (cond b row (kept_in d rows)) []))
+    by true h = subst (λ n. Tells (cell_at path n new) (leaves_under path (unwrap_or row []))) (eqb-true at d h) (told path)
     by false h = subst (λ cell. Tells cell (leaves_under path (unwrap_or (kept_in d rows) []))) (sym (others path d h)) (are path d)
 
 -- the same, where the columns were lent and written
-pub row_put : (columns : Vec (Vec ℤ Global) Global) (was new : List (Vec ℤ Global)) (rows : List (Option (Vec Leaf Global))) (at : ℕ)
-    (row : Option (Vec Leaf Global)) → length new ≡ columns.len → was ≡ columns.items → at < length rows → AreColumns columns.items (table_rows rows)
-    → ((path : ℕ) → Tells (cell_at path at new) (leaves_under path (unwrap_or (row_leaves row) [])))
+pub row_put : (columns : Vec (Vec ℤ Global) Global) (was new : List (Vec ℤ Global)) (rows : List (Option (List Leaf))) (at : ℕ)
+    (row : Option (List Leaf)) → length new ≡ columns.len → was ≡ columns.items → at < length rows → AreColumns columns.items rows
+    → ((path : ℕ) → Tells (cell_at path at new) (leaves_under path (unwrap_or row [])))
     → ((path d : ℕ) → (at == d) ≡ false → cell_at path d new ≡ cell_at path d was)
-    → AreColumns (with_items columns new).items (table_rows (set rows at row))
+    → AreColumns (with_items columns new).items (set rows at row)
 row_put columns was new rows at row same is within are told others =
-    subst (λ list. AreColumns list (table_rows (set rows at row))) (sym (with_items_is columns new same))
+    subst (λ list. AreColumns list (set rows at row)) (sym (with_items_is columns new same))
     (row_set columns.items new rows at row within are told (λ path d off. others path d off ∙ ap (cell_at path d) is))
 
 -- columns that tell the same

@@ -18,6 +18,12 @@ use Rattle.leaf_table.specs.Numbers.{has_between, AreNumbersOf}
 
 -- ---- whether a number is inside
 
+-- whether some item stands for a leaf that passes
+pub any_of_items : {X : Type 0} (value : X → Leaf) (passes : Leaf → Bool) (items : List X)
+    → list_any (λ item. passes (value item)) items ≡ list_any passes (map value items)
+any_of_items value passes [] = refl
+any_of_items value passes (x ∷ xs) = ap (λ b. passes (value x) || b) (any_of_items value passes xs)
+
 any_under : (p : FacetValue → Bool) (path : ℕ) (leaves : List Leaf)
     → list_any (λ (x : Leaf). (x.path.0 == path) && p x.value) leaves ≡ list_any p (values_under path leaves)
 any_under p path [] = refl

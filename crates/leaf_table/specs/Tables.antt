@@ -1,6 +1,5 @@
 -- What contracts see of a table of leaves.
-use Rattle.std.specs.Prelude.{◌≡◌, ℕ, Vec, List, [], map, Option, None, unwrap_or, slice_index_or}
-use Rattle.std.specs.Global.{Global}
+use Rattle.std.specs.Prelude.{◌≡◌, ℕ, List, [], Option, None, unwrap_or, slice_index_or}
 use Rattle.std.specs.Option.{option_map}
 use Rattle.search_base.specs.declared.document.Leaf.{Leaf}
 use Rattle.facet_index.specs.LeavesView.{LeavesView}
@@ -9,12 +8,6 @@ use Rattle.facet_index.specs.Batches.{document_at}
 -- by their internal ids, what documents have, and none under an id of no document
 pub record TableView : Type 0 where
   pub rows : List (Option (List Leaf))
-
-abbrev pub row_leaves : Option (Vec Leaf Global) → Option (List Leaf)
-row_leaves row = option_map (λ leaves. leaves.items) row
-
-abbrev pub table_rows : List (Option (Vec Leaf Global)) → List (Option (List Leaf))
-table_rows rows = map row_leaves rows
 
 -- the row of an id, where it has one
 abbrev pub row_at : ℕ → TableView → Option (List Leaf)

@@ -3,6 +3,8 @@ ghost use Rattle.std.specs.List.{All};
 ghost use Rattle.facet_index.specs.LeavesView.{LeavesView, leaves_at};
 ghost use Rattle.leaf_table.specs.Changes.{IsLeafChangeOf};
 
+use crate::leaf_row::LeafRow;
+use crate::shared::SharedLeaves;
 use search_base::{DocId, Leaf, NoMemory};
 use std::alloc::Global;
 use std::marker::Model;
@@ -20,6 +22,24 @@ impl Model for Row {
     ghost Value = { RowView };
 
     ghost view = { λ row. record { id = row.id.0; leaves = row.leaves.items } };
+}
+
+/// A document that comes, with the row that it will have.
+#[derive(Drop)]
+pub(crate) struct PreparedRow {
+    pub(crate) id: DocId,
+    pub(crate) kept: LeafRow,
+}
+
+impl Model for PreparedRow {
+    ghost use Rattle.std.specs.Prelude.{◌≡◌, [], Some, unwrap_or};
+    ghost use Rattle.leaf_table.specs.Changes.{RowView};
+
+    ghost Value = { RowView };
+
+    ghost view = { λ row. record { id = row.id.0; leaves = unwrap_or row.kept [] } };
+
+    ghost invariant = { λ row. row.kept ≡ Some (unwrap_or row.kept []) };
 }
 
 /// Whole documents that go from a table of leaves, and others that come. One that is replaced goes and comes.
@@ -45,7 +65,7 @@ impl Model for LeafChange {
 #[derive(Drop)]
 pub struct PreparedLeaves {
     pub(crate) gone: Vec<DocId>,
-    pub(crate) come: Vec<Row>,
+    pub(crate) come: Vec<PreparedRow>,
 }
 
 impl Model for PreparedLeaves {
@@ -102,6 +122,30 @@ fn copy_of(alloc: Global, leaves: &[Leaf]) -> Result<Vec<Leaf>, NoMemory>
         copy.push(leaf.clone()?)?;
     }
     Ok(copy)
+}
+
+// The rows of those that come, whose leaves are shared with those that are known.
+pub(crate) fn prepared_rows(
+    alloc: Global,
+    known: &mut SharedLeaves,
+    come: Vec<Row>,
+) -> Result<Vec<PreparedRow>, NoMemory>
+    ensures { IfOk result (λ rows. rows.items ≡ come.items) }
+{
+    let mut rows = Vec::with_capacity(alloc, come.len())?;
+    for row in come {
+        rows.push(prepared_row(alloc, known, row)?)?;
+    }
+    Ok(rows)
+}
+
+// The row of one that comes.
+fn prepared_row(alloc: Global, known: &mut SharedLeaves, come: Row) -> Result<PreparedRow, NoMemory>
+    ensures { IfOk result (λ row. row ≡ come) }
+{
+    let leaves = known.share_all(alloc, come.leaves)?;
+    let kept = LeafRow::of(alloc, leaves)?;
+    Ok(PreparedRow { id: come.id, kept })
 }
 
 // How many rows a table needs for those that come.

@@ -1,13 +1,15 @@
 ghost use Rattle.std.specs.Prelude.{◌≡◌, ◌==◌, ◌≤◌, ℕ, true, false, int_lt, OnOk};
-ghost use Rattle.std.specs.Prelude.{List, [], ◌∷◌, ◌++◌, length, slice_index_or};
+ghost use Rattle.std.specs.Prelude.{List, [], ◌∷◌, ◌++◌, map, length, slice_index_or};
 ghost use Rattle.search_base.specs.declared.document.Leaf.{Leaf};
 ghost use Rattle.search_base.specs.SortKeys.{leaves_under};
-ghost use Rattle.leaf_table.specs.Tables.{table_rows};
+ghost use Rattle.std.specs.Rc.{rc_value};
 ghost use Rattle.leaf_table.specs.Columns.{leaves_in, Tells, IsColumn, AreColumns, cell_in, cell_at, columns_of};
 
 use crate::change::Row;
+use crate::leaf_row::LeafRow;
 use search_base::{DocId, FacetValue, Leaf, NoMemory, PathId};
 use std::alloc::Global;
+use std::rc::Rc;
 
 /// What a cell says where the document may have several leaves under the path, or one that is no number of 64 bits
 /// above it. A number above it is the only leaf, and below it there is none.
@@ -17,12 +19,12 @@ pub(crate) const OTHER: i64 = i64::MIN + 1;
 const NOTHING: i64 = i64::MIN;
 
 // The leaves of the document at this place, and none where it has no row.
-pub(crate) fn leaves_of(rows: &[Option<Vec<Leaf>>], at: usize) -> &[Leaf]
-    ensures { result.now ≡ leaves_in at (table_rows rows.now) }
+pub(crate) fn leaves_of(rows: &[LeafRow], at: usize) -> &[Rc<Leaf>]
+    ensures { map rc_value result.now ≡ leaves_in at rows.now }
 {
     match rows.get(at) {
-        Some(Some(leaves)) => leaves.as_slice(),
-        _ => &[],
+        Some(row) => row.leaves(),
+        None => &[],
     }
 }
 
@@ -45,8 +47,8 @@ pub(crate) fn cell_of(column: &[i64], id: DocId) -> i64
 }
 
 // Makes each column tell what the leaves of one document are.
-pub(crate) fn set_leaves(columns: &mut [Vec<i64>], id: DocId, leaves: &[Leaf])
-    ensures told { (path : ℕ) → Tells (cell_at path id.0 columns.new) (leaves_under path leaves.now) }
+pub(crate) fn set_leaves(columns: &mut [Vec<i64>], id: DocId, leaves: &[Rc<Leaf>])
+    ensures told { (path : ℕ) → Tells (cell_at path id.0 columns.new) (leaves_under path (map rc_value leaves.now)) }
     ensures others { (path d : ℕ) → (id.0 == d) ≡ false → cell_at path d columns.new ≡ cell_at path d columns.old }
 {
     unset_leaves(columns, id);
@@ -137,11 +139,11 @@ pub(crate) fn widen(
     alloc: Global,
     columns: &mut Vec<Vec<i64>>,
     counts: &mut Vec<usize>,
-    rows: &[Option<Vec<Leaf>>],
+    rows: &[LeafRow],
     come: &[Row],
 ) -> Result<(), NoMemory>
-    requires { AreColumns columns.old.items (table_rows rows.now) }
-    ensures { AreColumns columns.new.items (table_rows rows.now) }
+    requires { AreColumns columns.old.items rows.now }
+    ensures { AreColumns columns.new.items rows.now }
 {
     for row in come {
         for leaf in &row.leaves {
@@ -169,11 +171,11 @@ fn counted(counts: &mut Vec<usize>, path: PathId) -> Result<usize, NoMemory> {
 fn widen_at(
     alloc: Global,
     columns: &mut Vec<Vec<i64>>,
-    rows: &[Option<Vec<Leaf>>],
+    rows: &[LeafRow],
     path: PathId,
 ) -> Result<(), NoMemory>
-    requires { AreColumns columns.old.items (table_rows rows.now) }
-    ensures { AreColumns columns.new.items (table_rows rows.now) }
+    requires { AreColumns columns.old.items rows.now }
+    ensures { AreColumns columns.new.items rows.now }
 {
     let at = usize::from(path.0);
     add_columns(alloc, columns, at + 1)?;
@@ -193,9 +195,9 @@ fn add_columns(alloc: Global, columns: &mut Vec<Vec<i64>>, len: usize) -> Result
 }
 
 // Makes a column as long as the rows.
-fn fill(column: &mut Vec<i64>, path: PathId, rows: &[Option<Vec<Leaf>>]) -> Result<(), NoMemory>
-    requires { IsColumn path.0 column.old.items (table_rows rows.now) }
-    ensures { IsColumn path.0 column.new.items (table_rows rows.now) }
+fn fill(column: &mut Vec<i64>, path: PathId, rows: &[LeafRow]) -> Result<(), NoMemory>
+    requires { IsColumn path.0 column.old.items rows.now }
+    ensures { IsColumn path.0 column.new.items rows.now }
 {
     make_room(column, rows.len())?;
     while column.len() < rows.len() {
@@ -216,11 +218,12 @@ pub(crate) fn make_room<T>(items: &mut Vec<T>, len: usize) -> Result<(), NoMemor
 }
 
 // What the leaves are under a path.
-fn told(leaves: &[Leaf], path: PathId) -> i64
-    ensures { Tells result (leaves_under path.0 leaves.now) }
+fn told(leaves: &[Rc<Leaf>], path: PathId) -> i64
+    ensures { Tells result (leaves_under path.0 (map rc_value leaves.now)) }
 {
     let mut cell = NOTHING;
     for leaf in leaves {
+        let leaf = leaf.as_ref();
         if leaf.path == path {
             cell = with_value(cell, &leaf.value);
         }

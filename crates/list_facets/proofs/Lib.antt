@@ -3,3 +3,4 @@ pub mod NumberLemmas
 pub mod EndLemmas
 pub mod HitLemmas
 pub mod KeyLemmas
+pub mod OwnLemmas

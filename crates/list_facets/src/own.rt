@@ -8,7 +8,7 @@ use crate::query::FacetQuery;
 use doc_sets::DocSet;
 use facet_counts::{CountRow, FacetCounts, FacetPath, FacetReply};
 use leaf_table::LeafTable;
-use search_base::{NoMemory, Word};
+use search_base::{NoMemory, PathId, Word};
 use std::alloc::Global;
 
 // A set of at most so many documents is counted by what each of them has.
@@ -20,7 +20,8 @@ pub(crate) fn are_few(matching: &DocSet) -> bool {
 }
 
 /// The first `most` values of an attribute that documents of the set have, and the least and the greatest number there,
-/// by the leaves that the table keeps for these documents. Looks at each leaf of each of them.
+/// by the leaves that the table keeps for these documents. Looks at each leaf of each of them, and copies those of the
+/// attribute.
 pub(crate) fn own_counts(
     alloc: Global,
     leaves: &LeafTable,
@@ -31,10 +32,13 @@ pub(crate) fn own_counts(
     ensures { IfOk result (λ reply. (rows : ℕ → RowsView) → AreKeptRows rows leaves.now
         → reply ≡ counted most (map rows matching.now.ids) asked) }
 {
+    let path = asked.path.unwrap_or(PathId(0));
     let all_asked = Vec::from_array(alloc, [asked])?;
     let mut counts = FacetCounts::new(alloc, all_asked)?;
+    let mut own = Vec::new(alloc);
     for id in matching.iter() {
-        counts.add_leaves(alloc, leaves.leaves(id))?;
+        leaves.copy_under(id, path, &mut own)?;
+        counts.add_leaves(alloc, own.as_slice())?;
     }
     let mut replies = counts.finish(alloc, most)?;
     Ok(replies.swap_remove(0))

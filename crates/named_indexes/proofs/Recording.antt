@@ -1,24 +1,12 @@
 -- Changes, and the payloads that record them.
-use Rattle.std.proofs.Common.{◌≡◌, ◌<◌, ◌^◌, ℕ, List, length, true, false, Ok, Err, refl, sym, ap, subst, ◌∙◌}
+use Rattle.std.proofs.Common.{◌≡◌, ℕ, List, true, false, Ok, Err, refl, sym, ap, subst, ◌∙◌}
 use Rattle.std.specs.List.{slice_get}
 use Rattle.doc_values.specs.Changes.{ChangeData, change_view}
 use Rattle.change_payloads.specs.declared.fault.ImageFault.{ImageFault}
 use Rattle.change_payloads.specs.declared.fault.ImageFault.TheVariants.{Damaged, NoMemory}
 use Rattle.change_payloads.specs.Answers.{Decodes}
 use Rattle.change_payloads.specs.Change.{change_at}
-use Rattle.named_indexes.specs.Payloads.{Records, change_in, first_byte, is_good, recorded_in}
-
-pub held : (bytes : List ℕ) (c : ChangeData) → change_at bytes ≡ Ok c → change_in bytes ≡ c
-held bytes c at = rw at refl
-
--- bytes that spell a good change record it
-pub holds : (bytes : List ℕ) (c : ChangeData) → change_at bytes ≡ Ok c → is_good c ≡ true → length bytes < 2 ^ 32
-    → Records (change_in bytes) bytes × (is_good (change_in bytes) ≡ true)
-holds bytes c at good short =
-    let same = held bytes c at in
-    (record { spells = at ∙ ap Ok (sym same); short = short }, ap is_good same ∙ good)
-
--- ---- what bytes record
+use Rattle.named_indexes.specs.Payloads.{first_byte, is_good, recorded_in}
 
 pub good_recorded : (bytes : List ℕ) (c : ChangeData) → change_at bytes ≡ Ok c → is_good c ≡ true → recorded_in bytes ≡ Ok c
 unfolding recorded_in

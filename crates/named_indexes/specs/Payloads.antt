@@ -1,6 +1,5 @@
 -- The payloads that record changes, and which changes they may be.
-use Rattle.std.specs.Prelude.{◌≡◌, ◌<◌, ◌^◌, ◌&&◌, ℕ, List, [], length, nat_lt, slice_get, Bool, true, Option, Some, None, is_none, Result, Ok, Err, if◌then◌else◌}
-use Rattle.std.specs.Result.{result_unwrap_or}
+use Rattle.std.specs.Prelude.{◌≡◌, ◌<◌, ◌^◌, ◌&&◌, ℕ, List, length, nat_lt, slice_get, Bool, true, Option, Some, None, is_none, Result, Ok, Err, if◌then◌else◌}
 use Rattle.doc_values.specs.Changes.{KindData, create, drop_index, replace, update, remove, clear, patch, reset, ChangeData}
 use Rattle.doc_values.specs.Ids.{is_uid}
 use Rattle.index_settings.specs.Table.{patch_fault}
@@ -35,10 +34,6 @@ pub record IsRecordable (c : ChangeData) : Type 0 where
 pub record Records (c : ChangeData) (payload : List ℕ) : Type 0 where
   pub spells : change_at payload ≡ Ok c
   pub short : length payload < 2 ^ 32
-
--- the change that a payload spells, and some change where it spells none
-abbrev pub change_in : List ℕ → ChangeData
-change_in payload = result_unwrap_or (change_at payload) (record { uid = []; kind = clear })
 
 -- where a payload begins: there a change is damaged that is not good
 abbrev pub first_byte : List ℕ → Spot

@@ -35,7 +35,7 @@ pub(crate) fn changes_of(
 {
     let mut changes = Vec::with_capacity(alloc, tasks.len())?;
     for task in tasks {
-        changes.push(task.change.change(alloc)?.kind)?;
+        changes.push(task.change.change()?.kind)?;
     }
     Ok(changes)
 }

@@ -11,6 +11,7 @@
 #![tactic(auto)]
 
 mod changes;
+mod copies;
 mod images;
 mod indexes;
 mod payload;

@@ -9,6 +9,7 @@ ghost use Rattle.change_payloads.specs.declared.fault.ImageFault.TheVariants.{Da
 ghost use Rattle.doc_values.specs.Changes.{change_view, kind_view, patch};
 ghost use Rattle.named_indexes.specs.Payloads.{Accepts, IsRecordable, Records, first_byte as first_spot, is_good as is_good_change, is_good_kind as is_good_of, is_key as is_key_of, recorded_in};
 
+use crate::copies::copy_of;
 use change_payloads::{ImageFault, damage, decode_change, encode_change};
 use doc_values::{Change, ChangeKind, is_uid};
 use index_settings::check_patch;
@@ -17,33 +18,33 @@ use serde_json::Value;
 use std::alloc::Global;
 use std::marker::Model;
 
-/// The payload that records a change, seen as this change. Its uid is one, its key is not empty, and its patch has no
-/// fault.
+/// The payload that records a change, beside this change, as which it is seen. Its uid is one, its key is not empty, and
+/// its patch has no fault.
 #[derive(Drop)]
 pub struct Payload {
     bytes: Vec<u8>,
+    change: Change,
 }
 
 impl Model for Payload {
     ghost use Rattle.std.specs.Prelude.{◌≡◌, true};
     ghost use Rattle.std.specs.Coded.{codes};
-    ghost use Rattle.doc_values.specs.Changes.{ChangeData};
+    ghost use Rattle.doc_values.specs.Changes.{ChangeData, change_view};
     ghost use Rattle.doc_values.specs.DataCode.{data_code};
-    ghost use Rattle.named_indexes.specs.Payloads.{Records, change_in, is_good};
+    ghost use Rattle.named_indexes.specs.Payloads.{Records, is_good};
 
     ghost Value = { ChangeData };
 
     ghost coded = { Prim.hlevel (codes, data_code) };
 
-    ghost view = { λ p. change_in p.bytes.items };
+    ghost view = { λ p. change_view p.change };
 
-    ghost invariant = { λ p. Records (change_in p.bytes.items) p.bytes.items × (is_good (change_in p.bytes.items) ≡ true) };
+    ghost invariant = { λ p. Records (change_view p.change) p.bytes.items × (is_good (change_view p.change) ≡ true) };
 }
 
 impl Payload {
     /// The payload that records a change. One of 2^32 bytes or more counts as one for which there is no memory, as does
-    /// a text or a list of so many.
-    #[tactic(auto, using(crate::proofs::Recording::held, crate::proofs::Recording::holds))]
+    /// a text or a list of so many. The payload shares the texts of the change's documents.
     pub fn new(alloc: Global, change: &Change) -> Result<Payload, NoMemory>
         requires { IsRecordable (change_view change.now) }
         ensures { IfOk result (λ payload. payload ≡ change_view change.now) }
@@ -52,7 +53,8 @@ impl Payload {
         if bytes.len() > u32::MAX as usize {
             return Err(NoMemory);
         }
-        Ok(Payload { bytes })
+        let change = copy_of(change)?;
+        Ok(Payload { bytes, change })
     }
 
     /// The bytes. Takes no memory.
@@ -62,14 +64,23 @@ impl Payload {
         &self.bytes
     }
 
-    /// The change. Its error is want of memory.
-    pub fn change(&self, alloc: Global) -> Result<Change, NoMemory>
+    /// The change, which shares the texts of its documents with the payload. Its error is want of memory.
+    pub fn change(&self) -> Result<Change, NoMemory>
         ensures { IfOk result (λ change. change_view change ≡ self.now) }
     {
-        match decode_change(alloc, &self.bytes) {
-            Ok(change) => Ok(change),
-            Err(_) => Err(NoMemory),
-        }
+        copy_of(&self.change)
+    }
+
+    // What a task keeps: the payload, with the uid and the byte of the kind of its change.
+    fn recorded(self) -> Result<Recorded, NoMemory>
+        ensures payload { IfOk result (λ recorded. recorded.payload ≡ self) }
+        ensures accepted { IfOk result (λ recorded. Accepts recorded.uid recorded.kind recorded.payload) }
+    {
+        Ok(Recorded {
+            uid: self.change.uid.clone()?,
+            kind: kind_byte(&self.change.kind),
+            payload: self,
+        })
     }
 }
 
@@ -88,11 +99,7 @@ impl Recorded {
         ensures payload { IfOk result (λ recorded. recorded.payload ≡ change_view change.now) }
         ensures accepted { IfOk result (λ recorded. Accepts recorded.uid recorded.kind recorded.payload) }
     {
-        Ok(Recorded {
-            uid: change.uid.clone()?,
-            kind: kind_byte(&change.kind),
-            payload: Payload::new(alloc, change)?,
-        })
+        Payload::new(alloc, change)?.recorded()
     }
 }
 
@@ -111,12 +118,8 @@ pub fn recorded_change(alloc: Global, bytes: Vec<u8>) -> Result<Recorded, ImageF
     if bytes.len() > u32::MAX as usize {
         return Err(ImageFault::NoMemory);
     }
-    let Change { uid, kind } = change;
-    Ok(Recorded {
-        uid,
-        kind: kind_byte(&kind),
-        payload: Payload { bytes },
-    })
+    let payload = Payload { bytes, change };
+    Ok(payload.recorded()?)
 }
 
 // Damage at the first byte.

@@ -165,7 +165,8 @@ fn step<R: Resolve>(
 
 impl<R: Resolve + Drop> PathCosts<R> {
     /// The costs of the universe's documents. The conditions on a number are asked for at once, those of the same words
-    /// or term in one go where their edges stand in a row; the others when a cost needs them.
+    /// or term in one go where their edges stand in a row; the others when a cost needs them. Of at most 64 edges between
+    /// two nodes all are asked for when a cost needs them.
     pub fn new(
         alloc: Global,
         graph: ConditionGraph,

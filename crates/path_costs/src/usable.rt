@@ -1,8 +1,9 @@
 //! The edges of a graph that a document of the universe may take, so far as one question tells.
-ghost use Rattle.std.specs.Prelude.{◌≡◌, ◌++◌, ◌∷◌, [], ℕ, true, length, filter};
+ghost use Rattle.std.specs.Prelude.{◌≡◌, ◌≢◌, ◌++◌, ◌∷◌, [], ℕ, true, length, filter, slice_get};
 ghost use Rattle.std.specs.Prelude.{IfOk, OnOk, IfSome, Some, is_some, is_none};
 ghost use Rattle.std.specs.List.{AllByRecursion};
 ghost use Rattle.doc_sets.specs.Sets.{has};
+ghost use Rattle.doc_sets.specs.SetView.{SetView};
 ghost use Rattle.condition_graph.specs.Numbers.{number_of, at_number};
 ghost use Rattle.condition_graph.specs.Promise.{IsCondition, IsConditionGraph};
 ghost use Rattle.path_costs.specs.Costs.{cost_of};
@@ -15,6 +16,9 @@ use condition_graph::{Condition, ConditionEdge, ConditionGraph};
 use doc_sets::DocSet;
 use search_base::NoMemory;
 use std::alloc::Global;
+
+// Up to how many edges between two nodes are asked for cost by cost. Of more than that each cost would go over all.
+const FEW_EDGES: usize = 64;
 
 /// Some edges, and of each the documents of a universe that meet its condition, where they are known. The sets of the
 /// last condition on a number are kept for the next.
@@ -156,8 +160,26 @@ fn usable_edges<R: Resolve>(
     Ok(usable)
 }
 
+// Whether a cost asks for the edges that it needs: they are few, and each is a whole path.
+fn are_asked_for_by_cost(nodes: u64, edges: &[ConditionEdge]) -> bool {
+    nodes <= 2 && edges.len() <= FEW_EDGES
+}
+
+// Nothing is known of any edge.
+fn nothing_met(alloc: Global, edges: usize) -> Result<Vec<Option<DocSet>>, NoMemory>
+    ensures len { IfOk result (λ met. length met.items ≡ edges) }
+    ensures none { IfOk result (λ met. (i : ℕ) (set : SetView) → slice_get met.items i ≢ Some (Some set)) }
+{
+    let mut met = Vec::new(alloc);
+    for _edge in 0..edges {
+        met.push(None)?;
+    }
+    Ok(met)
+}
+
 /// The graph without edges that no document of the universe may take, where one question tells of many edges, and what
-/// was found of those that are left. Each document of the universe costs the same.
+/// was found of those that are left. Few edges between two nodes stay as they are, and nothing is known of them. Each
+/// document of the universe costs the same.
 pub(crate) fn usable_graph<R: Resolve>(
     alloc: Global,
     source: &R,
@@ -173,6 +195,10 @@ pub(crate) fn usable_graph<R: Resolve>(
     ensures count { IfOk result (λ (made, met). length met.items ≡ length made.edges) }
 {
     let ConditionGraph { nodes, edges } = graph;
+    if are_asked_for_by_cost(nodes, edges.as_slice()) {
+        let met = nothing_met(alloc, edges.len())?;
+        return Ok((ConditionGraph { nodes, edges }, met));
+    }
     let usable = usable_edges(alloc, source, universe, edges)?;
     let Usable {
         edges,

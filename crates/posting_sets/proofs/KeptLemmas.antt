@@ -1,16 +1,12 @@
 -- The documents of words that are kept as sets.
-use Rattle.std.proofs.Common.{◌≡◌, ℕ, ◌<◌, Bool, true, false, ◌&&◌, ◌||◌, cond, List, [], ◌∷◌, length, inl, inr, None, refl, sym, ap, subst, ◌∙◌}
-use Rattle.std.specs.Prelude.{nat_eq}
-use Rattle.std.specs.List.{filter, starts_with, AllByRecursion}
-use Rattle.std.specs.List.Sorted.{IsStrictlySortedBy}
-use Rattle.std.specs.Map.{keys_of}
-use Rattle.search_base.proofs.Members.{Among}
+use Rattle.std.proofs.Common.{◌≡◌, ℕ, ◌<◌, Bool, true, false, ◌&&◌, ◌||◌, cond, List, [], ◌∷◌, length, refl, ap, ◌∙◌}
+use Rattle.std.specs.List.{filter}
 use Rattle.sorted_pages.specs.Entries.{has, IsIncreasing}
 use Rattle.doc_sets.specs.Sets.{intersection}
-use Rattle.postings.specs.Dictionary.{PostingsView, word_cmp, value_at, list_at, some_list}
+use Rattle.postings.specs.Dictionary.{PostingsView, list_at}
 use Rattle.posting_sets.specs.Found.{AreOccurring, IsKeptOf, has_document, term_of}
 use Rattle.posting_sets.proofs.OccursLemmas.{words_found}
-use Rattle.posting_sets.proofs.PrefixLemmas.{are_in_list, value_of_row, shown}
+use Rattle.posting_sets.proofs.PrefixLemmas.{are_in_list}
 
 same_filter : (p q : ℕ → Bool) → ((x : ℕ) → p x ≡ q x) → (xs : List ℕ) → filter p xs ≡ filter q xs
 same_filter p q same [] = refl

@@ -13,3 +13,5 @@ pub mod BlockLemmas
 pub mod BeginningLemmas
 pub mod KeptLemmas
 pub mod RankLemmas
+pub mod FirstLemmas
+pub mod NarrowLemmas

@@ -1,6 +1,6 @@
 -- The documents in which a term occurs.
 use Rattle.std.specs.Prelude.{◌≡◌, ℕ, Bool, true, ◌==◌, ◌&&◌, List, [], ◌∷◌, length}
-use Rattle.std.specs.List.{filter, list_any}
+use Rattle.std.specs.List.{AllPass, filter, list_any}
 use Rattle.doc_sets.specs.Sets.{has, IsIncreasing}
 use Rattle.search_base.specs.Occurrence.{occurs}
 use Rattle.search_base.specs.TermView.{TermView}
@@ -41,6 +41,12 @@ term_of prefix words = record { words = words; prefix = prefix }
 abbrev pub IsKeptOf : PostingsView → List (List ℕ) → List ℕ → Type 0
 IsKeptOf view (word ∷ []) ids = (id : ℕ) → has ids id ≡ has_document (list_at word view) id
 IsKeptOf view words ids = ⊥
+
+-- a part of a universe, with each of its documents that has an entry in the lists of all words
+pub record IsNarrowed (view : PostingsView) (words : List (List ℕ)) (universe ids : List ℕ) : Type 0 where
+  pub within : (id : ℕ) → has ids id ≡ true → has universe id ≡ true
+  pub each : (id : ℕ) → has universe id ≡ true → AllPass (λ word. has_document (list_at word view) id) words
+      → has ids id ≡ true
 
 -- one of the words has no list
 abbrev pub lacks_list : PostingsView → List (List ℕ) → Bool

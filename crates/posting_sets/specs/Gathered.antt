@@ -13,7 +13,7 @@ use Rattle.postings.specs.Documents.{Document, places_of}
 use Rattle.postings.specs.Dictionary.{PostingsView}
 use Rattle.postings.specs.Fresh.{StandsFor}
 use Rattle.posting_sets.specs.declared.number.Number.{Number}
-use Rattle.posting_sets.specs.declared.number.Number.TheVariants.{Rank, Bucket, Beginning}
+use Rattle.posting_sets.specs.declared.number.Number.TheVariants.{Rank, Bucket, Beginning, First}
 use Rattle.posting_sets.specs.Entries.{document_of, path_of, position_of}
 use Rattle.posting_sets.specs.Starts.{AreStarts}
 use Rattle.posting_sets.specs.Numbers.{rank_at, set_at, NumbersIncrease, NoneEmpty}
@@ -23,6 +23,7 @@ abbrev pub number_at : Number → ℕ → ℕ → Option ℕ
 number_at (Rank ranks) path position = rank_at ranks.now path
 number_at Bucket path position = Some (bucket_of position)
 number_at Beginning path position = if position == 0 then Some path else None
+number_at First path position = if position == 0 then Some 0 else None
 
 -- the number of a place
 abbrev pub place_number : Number → Place → Option ℕ
@@ -36,6 +37,11 @@ is_numbered number n id entry =
 -- the same of the rank of its path
 abbrev pub is_ranked : List (Option ℕ) → ℕ → ℕ → ℕ → Bool
 is_ranked ranks n id entry = (document_of entry == id) && option_eq nat_eq (rank_at ranks (path_of entry)) (Some n)
+
+-- the same of its path, where it is at the beginning of that
+abbrev pub is_beginning : ℕ → ℕ → ℕ → Bool
+is_beginning n id entry = (document_of entry == id)
+    && option_eq nat_eq (if position_of entry == 0 then Some (path_of entry) else None) (Some n)
 
 -- the documents that have a number, by the numbers
 abbrev pub ids_at : ℕ → List (List ℕ) → List ℕ

@@ -1,15 +1,15 @@
-ghost use Rattle.std.specs.Prelude.{◌≡◌, ◌<◌, ◌≤◌, ◌^◌, true, false, [], ◌∷◌, map, length, Some, Option, IfOk};
+ghost use Rattle.std.specs.Prelude.{◌≡◌, ◌<◌, ◌≤◌, ◌^◌, true, false, [], ◌∷◌, map, length, Some, Option, IfOk, IfSome};
 ghost use Rattle.doc_sets.specs.Sets.{IsIncreasing};
 ghost use Rattle.search_base.specs.Bucket.{bucket_of};
 ghost use Rattle.search_base.specs.Graphs.{IsTerm};
 ghost use Rattle.posting_sets.specs.Found.{term_of};
 ghost use Rattle.posting_sets.specs.Numbers.{rank_at, AreNumbered};
 ghost use Rattle.posting_sets.specs.Gathered.{place_number, AreOfNumbers};
-ghost use Rattle.posting_sets.specs.Beginnings.{AreBeginning};
+ghost use Rattle.posting_sets.specs.Beginnings.{AreBeginning, AreAtFirst};
 
 use crate::lists::lists_of;
 use crate::number::Number;
-use crate::numbered::{add_list, add_places, finished, least_sets};
+use crate::numbered::{add_list, add_places, finished, first_set, least_sets};
 use doc_sets::{DocSet, DocSetBuilder};
 use postings::Postings;
 use search_base::{NoMemory, Term, Word};
@@ -167,4 +167,41 @@ pub fn documents_by_beginning(
     let _documents = universe.len();
     let sets = numbers_of_words(alloc, postings, words, Number::Beginning, universe)?;
     finished(alloc, sets)
+}
+
+// Whether the documents in which a term occurs at the beginning of a path are known without a walk over a long list.
+fn is_first_known(postings: &Postings, term: &Term) -> bool {
+    if term.prefix {
+        return true;
+    }
+    if term.words.len() != 1 {
+        return false;
+    }
+    match postings.row(&term.words[0]) {
+        Some(list) => list.starting_any().is_some(),
+        None => true,
+    }
+}
+
+/// The documents of the universe in which the term occurs at the beginning of a path, which are those of bucket 0
+/// (`documents_by_bucket`), where they are known without a walk over a long list; otherwise none. They are known of a
+/// word whose list is so long that sets are kept beside it, and of one without a list; of a prefix, where the other
+/// lists are walked; and never of several words. A term has a word at least, and a prefix term has just one. Where there
+/// is no memory, nothing has changed.
+pub fn documents_at_first(
+    alloc: Global,
+    postings: &Postings,
+    term: &Term,
+    universe: &DocSet,
+) -> Result<Option<DocSet>, NoMemory>
+    requires { IsTerm term.now }
+    ensures { IfOk result (λ found. IfSome found (λ set.
+        AreAtFirst postings.now term.now universe.now.ids set.ids)) }
+{
+    let _documents = universe.len();
+    if !is_first_known(postings, term) {
+        return Ok(None);
+    }
+    let sets = numbers_of(alloc, postings, term, Number::First, universe)?;
+    Ok(Some(first_set(alloc, sets)?))
 }

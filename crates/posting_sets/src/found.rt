@@ -3,7 +3,9 @@ ghost use Rattle.std.specs.Prelude.{IfOk, IfSome, OnOk};
 ghost use Rattle.std.specs.List.{filter};
 ghost use Rattle.doc_sets.specs.Sets.{has, IsIncreasing};
 ghost use Rattle.search_base.specs.Graphs.{IsTerm};
-ghost use Rattle.posting_sets.specs.Found.{has_document, AreInLists, AreOccurring, IsKeptOf, term_of};
+ghost use Rattle.postings.specs.Dictionary.{list_at};
+ghost use Rattle.postings.specs.Sets.{IsSetOf};
+ghost use Rattle.posting_sets.specs.Found.{has_document, AreInLists, AreOccurring, IsKeptOf, IsNarrowed, term_of};
 
 use crate::entry::document_of;
 use crate::lists::{is_walked, lists_of};
@@ -16,6 +18,9 @@ use std::alloc::Global;
 
 // A list with an entry for so many documents of the universe has its documents as bits.
 const FEW: u64 = 128;
+
+// A list with an entry for fewer of so many documents of the universe is looked up, and the universe is not narrowed.
+const FEW_TO_LOOK_UP: u64 = 2048;
 
 // The documents of the places.
 fn documents_of(alloc: Global, occurrences: Occurrences<'_>) -> Result<Vec<DocId>, NoMemory>
@@ -131,15 +136,74 @@ fn documents_of_lists(
     DocSet::from_sorted(alloc, ids.as_slice())
 }
 
+// The documents of a word, where they are kept as a set.
+fn kept_of<'a>(postings: &'a Postings, word: &Word) -> Option<&'a DocSet>
+    ensures { IfSome result (λ set. IsSetOf set.now.ids (list_at word.now postings.now)) }
+{
+    postings.row(word)?.documents()
+}
+
 // The documents of a single word, where they are kept as a set.
 fn kept_documents<'a>(postings: &'a Postings, words: &[Word]) -> Option<&'a DocSet>
     ensures { IfSome result (λ set. IsKeptOf postings.now words.now set.now.ids) }
 {
     if words.len() == 1 {
-        postings.row(&words[0])?.documents()
+        kept_of(postings, &words[0])
     } else {
         None
     }
+}
+
+// Whether no list is so short that to look up its entries costs less than to narrow a universe of so many documents.
+fn are_long(lists: &[&SortedPages], documents: u64) -> bool {
+    for list in lists {
+        if (list.len() as u64) < documents / FEW_TO_LOOK_UP {
+            return false;
+        }
+    }
+    true
+}
+
+// The documents of the universe that are among those of each word whose documents are kept as a set, or none where
+// those of no word are kept.
+fn narrowed(
+    alloc: Global,
+    postings: &Postings,
+    words: &[Word],
+    universe: &DocSet,
+) -> Result<Option<DocSet>, NoMemory>
+    ensures { IfOk result (λ narrow. IfSome narrow (λ set.
+        IsNarrowed postings.now words.now universe.now.ids set.ids)) }
+{
+    let mut narrow = None;
+    for word in words {
+        if let Some(kept) = kept_of(postings, word) {
+            let set = kept.and(alloc, narrow.as_ref().unwrap_or(universe))?;
+            narrow = Some(set);
+        }
+    }
+    Ok(narrow)
+}
+
+// The documents in which the words of these lists stand in a row. Most of the documents of long lists have not all
+// words, and are passed over by the sets that are kept.
+fn documents_of_row(
+    alloc: Global,
+    postings: &Postings,
+    words: &[Word],
+    lists: &[&SortedPages],
+    universe: &DocSet,
+) -> Result<DocSet, NoMemory>
+    requires some { 0 < length lists.now }
+    requires lists { map (λ list. list.now.entries) lists.now ≡ map (λ word. list_at word postings.now) words.now }
+    ensures { IfOk result (λ set. AreInLists universe.now.ids (map (λ list. list.now.entries) lists.now) set.ids) }
+{
+    if are_long(lists, universe.len()) {
+        if let Some(narrow) = narrowed(alloc, postings, words, universe)? {
+            return documents_of_lists(alloc, lists, &narrow);
+        }
+    }
+    documents_of_lists(alloc, lists, universe)
 }
 
 // The documents in which the words stand in a row.
@@ -157,7 +221,7 @@ fn documents_of_words(
         return universe.and(alloc, kept);
     }
     match lists_of(alloc, postings, words)? {
-        Some(lists) => documents_of_lists(alloc, lists.as_slice(), universe),
+        Some(lists) => documents_of_row(alloc, postings, words, lists.as_slice(), universe),
         None => Ok(DocSet::new(alloc)),
     }
 }

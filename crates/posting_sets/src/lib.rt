@@ -17,6 +17,8 @@ mod number;
 mod numbered;
 mod occurrences;
 
-pub use by_number::{documents_by_beginning, documents_by_bucket, documents_by_rank};
+pub use by_number::{
+    documents_at_first, documents_by_beginning, documents_by_bucket, documents_by_rank,
+};
 pub use found::documents;
 pub use law::numbers_are_those_of_blocks;

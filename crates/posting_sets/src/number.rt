@@ -1,4 +1,4 @@
-ghost use Rattle.std.specs.Prelude.{◌≡◌};
+ghost use Rattle.std.specs.Prelude.{◌≡◌, ◌==◌, if◌then◌else◌, None, Some};
 ghost use Rattle.posting_sets.specs.Entries.{path_of, position_of};
 ghost use Rattle.posting_sets.specs.Numbers.{rank_at};
 ghost use Rattle.posting_sets.specs.Gathered.{number_at};
@@ -15,6 +15,8 @@ pub(crate) enum Number<'a> {
     Bucket,
     // Its path, where it is the beginning of that.
     Beginning,
+    // Nothing: the beginnings of paths have number 0, and other places none.
+    First,
 }
 
 // The rank of a path, if it has one.
@@ -22,6 +24,17 @@ pub(crate) fn rank_of(ranks: &[Option<u16>], path: u16) -> Option<u16>
     ensures { result ≡ rank_at ranks.now path }
 {
     ranks.get(usize::from(path)).copied().flatten()
+}
+
+// The number, if the entry is at the beginning of its path.
+fn at_beginning(number: u16, entry: u64) -> Option<u16>
+    ensures { result ≡ (if position_of entry == 0 then Some number else None) }
+{
+    if position_of(entry) == 0 {
+        Some(number)
+    } else {
+        None
+    }
 }
 
 // The number of an entry. A path without a rank has none, nor has a place behind the beginning of its path where these
@@ -32,12 +45,7 @@ pub(crate) fn number_of(number: Number<'_>, entry: u64) -> Option<u16>
     match number {
         Number::Rank(ranks) => rank_of(ranks, path_of(entry)),
         Number::Bucket => Some(u16::from(bucket(position_of(entry)))),
-        Number::Beginning => {
-            if position_of(entry) == 0 {
-                Some(path_of(entry))
-            } else {
-                None
-            }
-        }
+        Number::Beginning => at_beginning(path_of(entry), entry),
+        Number::First => at_beginning(0, entry),
     }
 }

@@ -5,7 +5,7 @@ ghost use Rattle.std.specs.List.{filter, list_any, AllByRecursion};
 ghost use Rattle.doc_sets.specs.Sets.{has, IsIncreasing, difference};
 ghost use Rattle.posting_sets.specs.Starts.{is_inside};
 ghost use Rattle.posting_sets.specs.Entries.{path_of};
-ghost use Rattle.posting_sets.specs.Gathered.{is_numbered, is_ranked, ids_at, AreLeast, AddsRow, AddsStarts};
+ghost use Rattle.posting_sets.specs.Gathered.{is_numbered, is_ranked, is_beginning, ids_at, AreLeast, AddsRow, AddsStarts};
 
 use crate::entry::document_of;
 use crate::lists::is_walked;
@@ -207,7 +207,33 @@ fn add_pages(
     add_places(alloc, sets, &lists, number, universe)
 }
 
-// The same, with the ranks of places from the sets of paths beside the list, where it has them.
+// The same as `add_listed` for the beginnings of paths below a limit, where no entry is in another path. The documents
+// of each path are taken from the set beside the list.
+fn add_beginnings(
+    alloc: Global,
+    sets: &mut Vec<DocSetBuilder>,
+    list: &PostingList,
+    universe: &DocSet,
+    limit: u16,
+) -> Result<(), NoMemory>
+    requires few { length sets.old.items ≤ 2 ^ 16 }
+    requires limit { (entry : ℕ) → has list.now.entries entry ≡ true → path_of entry < limit }
+    ensures each { OnOk result ((n q : ℕ) → has (ids_at n sets.new.items) q
+        ≡ (list_any (is_beginning n q) (filter (is_inside universe.now.ids) list.now.entries)
+        || has (ids_at n sets.old.items) q)) }
+    ensures few { length sets.new.items ≤ 2 ^ 16 }
+{
+    for path in 0..limit {
+        let Some(set) = list.starting(PathId(path)) else {
+            return add_listed(alloc, sets, list.pages(), Number::Beginning, universe);
+        };
+        add_set(alloc, sets, path, set, universe)?;
+    }
+    Ok(())
+}
+
+// The same, from the sets beside the list, where it has them: the ranks of places from those of paths, and the
+// beginnings of paths from those of these.
 pub(crate) fn add_list(
     alloc: Global,
     sets: &mut Vec<DocSetBuilder>,
@@ -226,7 +252,15 @@ pub(crate) fn add_list(
             Some(limit) => add_paths(alloc, sets, list, ranks, universe, limit),
             None => add_pages(alloc, sets, list, number, universe),
         },
-        _ => add_pages(alloc, sets, list, number, universe),
+        Number::Beginning => match list.path_limit() {
+            Some(limit) => add_beginnings(alloc, sets, list, universe, limit),
+            None => add_pages(alloc, sets, list, number, universe),
+        },
+        Number::First => match list.starting_any() {
+            Some(set) => add_set(alloc, sets, 0, set, universe),
+            None => add_pages(alloc, sets, list, number, universe),
+        },
+        Number::Bucket => add_pages(alloc, sets, list, number, universe),
     }
 }
 
@@ -268,6 +302,20 @@ pub(crate) fn least_sets(
         number += 1;
     }
     Ok(rows)
+}
+
+// The set of number 0, which is empty where there is none.
+pub(crate) fn first_set(alloc: Global, sets: Vec<DocSetBuilder>) -> Result<DocSet, NoMemory>
+    ensures { IfOk result (λ set. (set.ids ≡ ids_at 0 sets.items) × IsIncreasing set.ids) }
+{
+    match sets.into_iter().next() {
+        Some(builder) => {
+            let set = builder.finish(alloc)?;
+            let _documents = set.len();
+            Ok(set)
+        }
+        None => Ok(DocSet::new(alloc)),
+    }
 }
 
 // The same sets, as sets of documents.

@@ -9,3 +9,4 @@ pub mod BackLemmas
 pub mod SetLemmas
 pub mod KeptLemmas
 pub mod NumberLemmas
+pub mod MovedLemmas

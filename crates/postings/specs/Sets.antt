@@ -1,12 +1,13 @@
 -- The documents of words with long lists, as sets.
-use Rattle.std.specs.Prelude.{◌≡◌, ℕ, ◌/◌, ◌%◌, ◌^◌, ◌==◌, nat_le, not, ◌&&◌, ◌||◌, Bool, true, List}
+use Rattle.std.specs.Prelude.{◌≡◌, ℕ, ◌/◌, ◌%◌, ◌^◌, ◌==◌, ◌≤◌, nat_le, not, ◌&&◌, ◌||◌, Bool, true, List}
 use Rattle.std.specs.Prelude.{Option, None, Some, Box, Vec, ⊤}
 use Rattle.std.specs.declared.alloc.Global.{Global}
+use Rattle.std.specs.Bool.{OnTrue}
 use Rattle.std.specs.List.{list_any, AllByRecursion}
 use Rattle.doc_sets.specs.Sets.{has}
 use Rattle.sorted_pages.specs.Entries.{has as has_entry}
 use Rattle.postings.specs.declared.part.Part.{Part}
-use Rattle.postings.specs.declared.part.Part.TheVariants.{All, Path, Later}
+use Rattle.postings.specs.declared.part.Part.TheVariants.{All, First, Path, Start, Later}
 use Rattle.postings.specs.declared.documents.KeptSet.{KeptSet}
 
 -- whether one of the entries is of the document
@@ -21,6 +22,18 @@ IsSetOf ids entries = (id : ℕ) → has ids id ≡ has_document entries id
 abbrev pub path_of : ℕ → ℕ
 path_of entry = entry / 2 ^ 16 % 2 ^ 16
 
+-- its position in the path
+abbrev pub position_of : ℕ → ℕ
+position_of entry = entry % 2 ^ 16
+
+-- the entry is at the beginning of its path
+abbrev pub is_first : ℕ → Bool
+is_first entry = position_of entry == 0
+
+-- the entry is at the beginning of this path
+abbrev pub is_start : ℕ → ℕ → Bool
+is_start path entry = (path_of entry == path) && is_first entry
+
 -- whether one of the entries that pass a test is of the document
 abbrev pub has_passing : (ℕ → Bool) → List ℕ → ℕ → Bool
 has_passing passes entries id = list_any (λ entry. (entry / 2 ^ 32 == id) && passes entry) entries
@@ -32,8 +45,15 @@ IsSetOfPassing passes ids entries = (id : ℕ) → has ids id ≡ has_passing pa
 -- the entries of a part of a list
 abbrev pub is_part : Part → ℕ → Bool
 is_part All entry = true
+is_part First entry = is_first entry
 is_part (Path path) entry = path_of entry == path
+is_part (Start path) entry = is_start path entry
 is_part Later entry = nat_le 8 (path_of entry)
+
+-- the path of an entry is between two, and it is at the beginning of its path at most where that is said
+abbrev pub IsWithin : ℕ → ℕ → Bool → ℕ → Type 0
+IsWithin least greatest first entry =
+    (least ≤ path_of entry) × (path_of entry ≤ greatest) × OnTrue (is_first entry) (first ≡ true)
 
 -- each of some sets has exactly the documents of its part
 abbrev pub AreSetsOf : List KeptSet → List ℕ → Type 0

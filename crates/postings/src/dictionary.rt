@@ -10,6 +10,7 @@ ghost use Rattle.postings.specs.Changes.{named, AreSettled};
 ghost use Rattle.postings.specs.declared.change.Side.TheVariants.{Goes, Comes};
 
 use crate::change::{WordChange, copy_word};
+use crate::hints::Hints;
 use crate::posting_list::PostingList;
 use crate::slots::{
     Slot, change_at, clear_at, free_number, is_empty_at, is_word_at, put_at, reserve_at, slot_at,
@@ -26,6 +27,8 @@ pub(crate) struct Dictionary {
     pub(crate) numbers: BTreeMap<Word, u32>,
     // Numbers of no word, with room for all.
     pub(crate) free: Vec<u32>,
+    // Where the number of a word is likely found.
+    pub(crate) hints: Hints,
 }
 
 // A dictionary of no word. Takes no memory.
@@ -37,14 +40,16 @@ pub(crate) fn no_words(alloc: Global) -> Dictionary
         slots: Vec::new(alloc),
         numbers: BTreeMap::new(alloc),
         free: Vec::new(alloc),
+        hints: Hints::new(alloc),
     }
 }
 
 // The number of a word, if it has one.
 fn number_of(lists: &Dictionary, word: &Word) -> Option<u32>
+    requires { IsNumbered (lists_of lists.now) }
     ensures { result ≡ value_at word.now lists.now.numbers.entries }
 {
-    lists.numbers.get(word).copied()
+    likely_number_of(lists, word, lists.hints.number(word))
 }
 
 // The same, where it is likely this one.
@@ -60,11 +65,12 @@ fn likely_number_of(lists: &Dictionary, word: &Word, likely: Option<u32>) -> Opt
         }
         None => {}
     }
-    number_of(lists, word)
+    lists.numbers.get(word).copied()
 }
 
 // The list of a word, if it has one.
 pub(crate) fn list_of<'a>(lists: &'a Dictionary, word: &Word) -> Option<&'a PostingList>
+    requires { IsNumbered (lists_of lists.now) }
     ensures { option_copied result ≡ pages_at word.now (lists_of lists.now) }
 {
     match number_of(lists, word) {
@@ -90,9 +96,11 @@ fn add_word(alloc: Global, lists: &mut Dictionary, word: &Word) -> Result<u32, N
         list: PostingList::new(alloc),
     };
     let key = copy_word(word)?;
+    lists.hints.grow(alloc, &lists.slots)?;
     let number = free_number(&mut lists.slots, &mut lists.free)?;
     match lists.numbers.insert(key, number) {
         Ok(_) => {
+            lists.hints.keep(word, number);
             put_at(&mut lists.slots, number, slot);
             Ok(number)
         }

@@ -4,6 +4,7 @@ ghost use Rattle.doc_sets.specs.Sets.{has as has_id};
 ghost use Rattle.postings.specs.Sets.{has_passing, IsSetOfPassing, is_part, AreSetsOf, AreSetsIn, AreAfter};
 
 use crate::change::WordChange;
+use crate::moved::Moved;
 use crate::part::{PATHS, Part, is_part};
 use doc_sets::{DocSet, DocSetBuilder};
 use search_base::{DocId, NoMemory, Word};
@@ -124,7 +125,7 @@ fn kept_set(
     Ok(KeptSet { part, documents })
 }
 
-// Adds a set for each path that has one.
+// Adds two sets for each path that has some: of the places in it, and of those at its beginning.
 fn add_paths(
     alloc: Global,
     sets: &mut Vec<KeptSet>,
@@ -136,8 +137,10 @@ fn add_paths(
     ensures { OnOk result (AreSetsOf sets.new.items list.now.entries) }
 {
     for path in 0..PATHS {
-        let kept = kept_set(alloc, list, come, Part::Path(path), last)?;
-        sets.push(kept)?;
+        let inside = kept_set(alloc, list, come, Part::Path(path), last)?;
+        sets.push(inside)?;
+        let starting = kept_set(alloc, list, come, Part::Start(path), last)?;
+        sets.push(starting)?;
     }
     Ok(())
 }
@@ -149,7 +152,8 @@ fn has_paths(list: &SortedPages, come: &[u64], last: DocId) -> bool {
     u64::from(last.0) / PATHS_IN <= entries as u64 && is_spread(list, come)
 }
 
-// The sets of the documents of a list: of all, and where it has such, of each path. They have room for the documents of what comes, of which none is above the last.
+// The sets of the documents of a list: of all, and where it has sets of paths, of those at the beginning of one, and of
+// each path. They have room for the documents of what comes, of which none is above the last.
 fn sets_of(
     alloc: Global,
     list: &SortedPages,
@@ -162,6 +166,8 @@ fn sets_of(
     let all = kept_set(alloc, list, come, Part::All, last)?;
     sets.push(all)?;
     if has_paths(list, come, last) {
+        let first = kept_set(alloc, list, come, Part::First, last)?;
+        sets.push(first)?;
         let later = kept_set(alloc, list, come, Part::Later, last)?;
         sets.push(later)?;
         add_paths(alloc, &mut sets, list, come, last)?;
@@ -173,13 +179,13 @@ fn sets_of(
 fn make_room(
     alloc: Global,
     kept: &mut KeptSet,
-    come: &[u64],
+    come: &Moved<'_>,
     greatest: DocId,
 ) -> Result<(), NoMemory>
     ensures part { kept.new.part ≡ kept.old.part }
     ensures ids { kept.new.documents.ids ≡ kept.old.documents.ids }
 {
-    if has_any(come, kept.part) {
+    if come.may_have(kept.part) && has_any(come.entries(), kept.part) {
         return kept.documents.make_room(alloc, greatest);
     }
     Ok(())
@@ -189,7 +195,7 @@ fn make_room(
 fn make_rooms(
     alloc: Global,
     sets: &mut Vec<KeptSet>,
-    come: &[u64],
+    come: &Moved<'_>,
     greatest: DocId,
 ) -> Result<(), NoMemory>
     ensures { (entries : List ℕ) → AreSetsOf sets.old.items entries → AreSetsOf sets.new.items entries }
@@ -219,7 +225,7 @@ pub(crate) fn reserve_sets(
         return Ok(());
     }
     match sets {
-        Some(kept) => return make_rooms(alloc, kept, come, document_of(*greatest)),
+        Some(kept) => return make_rooms(alloc, kept, &Moved::new(come), document_of(*greatest)),
         None => {}
     }
     if is_long(entries, last) {
@@ -230,7 +236,7 @@ pub(crate) fn reserve_sets(
 }
 
 // Puts the documents of entries of the part into a set, and tells whether there was room for all.
-fn put_in_all(set: &mut DocSet, part: Part, come: &[u64]) -> bool
+fn put_in_each(set: &mut DocSet, part: Part, come: &[u64]) -> bool
     ensures { OnTrue result ((id : ℕ) → has_id set.new.ids id
         ≡ (has_passing (is_part part) come.now id || has_id set.old.ids id)) }
 {
@@ -243,6 +249,17 @@ fn put_in_all(set: &mut DocSet, part: Part, come: &[u64]) -> bool
         }
     }
     true
+}
+
+// The same, where it may be that none is of the part.
+fn put_in_all(set: &mut DocSet, part: Part, come: &Moved<'_>) -> bool
+    ensures { OnTrue result ((id : ℕ) → has_id set.new.ids id
+        ≡ (has_passing (is_part part) come.now id || has_id set.old.ids id)) }
+{
+    if !come.may_have(part) {
+        return true;
+    }
+    put_in_each(set, part, come.entries())
 }
 
 // Whether a document has an entry of the part in the list.
@@ -274,7 +291,7 @@ fn take_out(set: &mut DocSet, part: Part, entry: u64, list: &SortedPages)
 }
 
 // Takes the documents of entries of the part out of a set, but for those that have one in the list.
-fn take_out_all(set: &mut DocSet, part: Part, gone: &[u64], list: &SortedPages)
+fn take_out_each(set: &mut DocSet, part: Part, gone: &[u64], list: &SortedPages)
     ensures { (id : ℕ) → has_id set.new.ids id
         ≡ (has_id set.old.ids id && (not (has_passing (is_part part) gone.now id)
         || has_passing (is_part part) list.now.entries id)) }
@@ -284,9 +301,20 @@ fn take_out_all(set: &mut DocSet, part: Part, gone: &[u64], list: &SortedPages)
     }
 }
 
+// The same, where it may be that none is of the part.
+fn take_out_all(set: &mut DocSet, part: Part, gone: &Moved<'_>, list: &SortedPages)
+    ensures { (id : ℕ) → has_id set.new.ids id
+        ≡ (has_id set.old.ids id && (not (has_passing (is_part part) gone.now id)
+        || has_passing (is_part part) list.now.entries id)) }
+{
+    if gone.may_have(part) {
+        take_out_each(set, part, gone.entries(), list);
+    }
+}
+
 // Makes the change, which the list has gone through, of the set of a part of it. Tells whether there was room for all
 // that came; where there was not, the set is of no use.
-fn change_set(kept: &mut KeptSet, list: &SortedPages, gone: &[u64], come: &[u64]) -> bool
+fn change_set(kept: &mut KeptSet, list: &SortedPages, gone: &Moved<'_>, come: &Moved<'_>) -> bool
     ensures part { kept.new.part ≡ kept.old.part }
     ensures set { OnTrue result ((entries : List ℕ) → AreAfter gone.now come.now entries list.now.entries
         → IsSetOfPassing (is_part kept.old.part) kept.old.documents.ids entries
@@ -300,7 +328,12 @@ fn change_set(kept: &mut KeptSet, list: &SortedPages, gone: &[u64], come: &[u64]
 }
 
 // The same for each of some sets.
-fn change_all(sets: &mut Vec<KeptSet>, list: &SortedPages, gone: &[u64], come: &[u64]) -> bool
+fn change_all(
+    sets: &mut Vec<KeptSet>,
+    list: &SortedPages,
+    gone: &Moved<'_>,
+    come: &Moved<'_>,
+) -> bool
     ensures { OnTrue result ((entries : List ℕ) → AreAfter gone.now come.now entries list.now.entries
         → AreSetsOf sets.old.items entries → AreSetsOf sets.new.items list.now.entries) }
 {
@@ -325,7 +358,8 @@ pub(crate) fn change_sets(
 {
     match sets {
         Some(kept) => {
-            if change_all(kept, list, gone, come) && is_still_long(list.len(), last) {
+            let (goes, comes) = (Moved::new(gone), Moved::new(come));
+            if change_all(kept, list, &goes, &comes) && is_still_long(list.len(), last) {
                 return;
             }
         }

@@ -6,9 +6,9 @@
 //! `Change` gathers them, `prepare` takes all memory and leaves every answer, and `commit` and
 //! `release` take none and cannot be refused. A place that goes and comes stays: where a document
 //! is replaced, only the words whose places differ are part of what is prepared. Beside a long list
-//! stands the set of its documents, as bits, and maybe those of the documents of each path, which
-//! change with the list. Contracts see postings as
-//! lists by word, a change as what each word loses and gains. The crate stands on `search_base`,
+//! stands the set of its documents, as bits, and maybe those of the documents of each path and of
+//! those that begin it with the word, which change with the list. Contracts see postings as lists
+//! by word, a change as what each word loses and gains. The crate stands on `search_base`,
 //! `doc_sets` and `sorted_pages`.
 #![tactic(auto)]
 
@@ -16,6 +16,8 @@ mod change;
 mod dictionary;
 mod documents;
 mod entry;
+mod hints;
+mod moved;
 mod part;
 mod posting_list;
 mod postings;

@@ -1,7 +1,7 @@
 ghost use Rattle.std.specs.Prelude.{◌≡◌, ℕ, List, true, [], length, ◌==◌, ◌<◌, IfSome, OnOk};
 ghost use Rattle.sorted_pages.specs.Entries.{has, IsIncreasing};
 ghost use Rattle.sorted_pages.specs.Rooms.{HasRoom};
-ghost use Rattle.postings.specs.Sets.{IsSetOf, IsSetOfPassing, AreSetsOf, AreAfter, is_part, path_of};
+ghost use Rattle.postings.specs.Sets.{IsSetOf, IsSetOfPassing, AreSetsOf, AreAfter, is_part, path_of, is_first, is_start};
 
 use crate::documents::{KeptSet, ListSets, change_sets, reserve_sets};
 use crate::part::{PATHS, Part, is_same};
@@ -11,8 +11,8 @@ use sorted_pages::{SortedPages, changes_are_on_members};
 use std::alloc::Global;
 use std::marker::Model;
 
-/// The places of a word, in increasing order. Beside a long list stands the set of its documents, and that of the
-/// documents of each of the first paths.
+/// The places of a word, in increasing order. Beside a long list stand the set of its documents, that of the documents
+/// in which the word begins a path, and both sets for each of the first paths.
 #[derive(Drop)]
 pub struct PostingList {
     pages: SortedPages,
@@ -62,6 +62,22 @@ impl PostingList {
             IsSetOfPassing (λ entry. path_of entry == path.0) set.now.ids self.now.entries) }
     {
         set_of(self.kept(), Part::Path(path.0))
+    }
+
+    /// The documents of the places at the beginning of any path, where the list is so long that they are kept as a set.
+    /// Takes no memory.
+    pub fn starting_any(&self) -> Option<&DocSet>
+        ensures { IfSome result (λ set. IsSetOfPassing is_first set.now.ids self.now.entries) }
+    {
+        set_of(self.kept(), Part::First)
+    }
+
+    /// The documents of the places at the beginning of a path, where the list is so long that they are kept as a set, and
+    /// the path is one of the first. Takes no memory.
+    pub fn starting(&self, path: PathId) -> Option<&DocSet>
+        ensures { IfSome result (λ set. IsSetOfPassing (is_start path.0) set.now.ids self.now.entries) }
+    {
+        set_of(self.kept(), Part::Start(path.0))
     }
 
     /// What the path of each place is below, where the documents of each path below it are kept as a set. Takes no memory.

@@ -4,7 +4,7 @@ ghost use Rattle.postings.specs.Changes.{IsRowOf, AreSettled, AreSettledOf};
 
 use crate::change::{WordChange, WordChanges};
 use search_base::{NoMemory, Word};
-use sorted_pages::changes_are_on_members;
+use sorted_pages::{changes_are_on_members, is_increasing};
 use std::alloc::Global;
 
 // The changes of the words, with the entries of each in order, without those that go and come. A word of which
@@ -15,8 +15,7 @@ pub(crate) fn settle(alloc: Global, words: WordChanges) -> Result<Vec<(Word, Wor
 {
     let mut rows = Vec::new(alloc);
     let _words = words.len();
-    let mut left = words;
-    while let Some((word, change)) = left.pop_first() {
+    for (word, change) in words {
         let settled = settle_word(change)?;
         if is_empty(&settled) {
             continue;
@@ -40,6 +39,9 @@ fn settle_word(change: WordChange) -> Result<WordChange, NoMemory>
     changes_are_on_members();
     let gone = in_order(change.gone);
     let come = in_order(change.come);
+    if gone.is_empty() || come.is_empty() {
+        return Ok(WordChange { gone, come });
+    }
     Ok(WordChange {
         gone: without(gone.clone()?, come.as_slice()),
         come: without(come, gone.as_slice()),
@@ -51,6 +53,9 @@ fn in_order(entries: Vec<u64>) -> Vec<u64>
     ensures increasing { IsIncreasing result.items }
     ensures same { (entry : ℕ) → has result.items entry ≡ has entries.items entry }
 {
+    if is_increasing(&entries) {
+        return entries;
+    }
     let mut entries = entries;
     entries.sort_unstable();
     entries.dedup();

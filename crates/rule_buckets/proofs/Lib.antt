@@ -7,3 +7,4 @@ mod OneLevel
 pub mod Keys
 pub mod Slices
 pub mod OpenLemmas
+pub mod Tables

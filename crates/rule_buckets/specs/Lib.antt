@@ -5,3 +5,4 @@ pub mod Keyed
 pub mod Streams
 pub mod Rules
 pub mod Matches
+pub mod Tables

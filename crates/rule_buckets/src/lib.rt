@@ -4,7 +4,7 @@
 //! is a `RuleSet` over them: of each level it gives the documents by the entry that the rule at that place costs them,
 //! the least entry first. A level of the query is a stream of its own, and what has one entry in several levels is one
 //! bucket. Nothing is asked of the source but for the bucket that is given, and when a level is opened: the conditions
-//! on numbers of a rule on words, and the documents in order of a rule on values, where the source sooner puts them in
+//! on numbers of a rule on several words, and the documents in order of a rule on values, where the source sooner puts them in
 //! order than goes through their entries. The crate stands on `search_base`, `doc_sets`, `condition_graph`,
 //! `path_costs`, `sort_rule` and `bucket_sort`.
 //!
@@ -13,6 +13,7 @@
 //! and take the slice of the list.
 #![tactic(auto)]
 
+mod asked;
 mod buckets;
 mod hits;
 mod keyed;

@@ -6,7 +6,8 @@ ghost use Rattle.doc_sets.specs.Sets.{has, intersection, IsIncreasing};
 ghost use Rattle.rule_buckets.specs.Entries.{is_match};
 ghost use Rattle.rule_buckets.specs.Rules.{AreLevels};
 
-use crate::source::{Asked, RuleSource};
+use crate::asked::Asked;
+use crate::source::RuleSource;
 use condition_graph::conditions;
 use doc_sets::DocSet;
 use path_costs::PathCosts;
@@ -28,7 +29,7 @@ fn matching_level<S: RuleSource>(
 {
     let made = conditions(alloc, graph, Rule::Words, level, source.ranks())?;
     let all = universe.clone()?;
-    let mut costs = PathCosts::new(alloc, made, Asked { source }, all)?;
+    let mut costs = PathCosts::new(alloc, made, Asked::new(alloc, source), all)?;
     match costs.next_cost(alloc)? {
         Some((_, docs)) => Ok(docs),
         None => Ok(DocSet::new(alloc)),

@@ -12,8 +12,9 @@ ghost use Rattle.rule_buckets.specs.Listed.{left_from};
 ghost use Rattle.rule_buckets.specs.Rules.{AreTheirs, is_path};
 ghost use Rattle.rule_buckets.specs.Streams.{IsStream, IsReady, ComesFrom, is_member, is_in_any, remaining_in, next_cost, taken_at, without};
 
+use crate::asked::Asked;
 use crate::query::RuleQuery;
-use crate::source::{Asked, RuleSource};
+use crate::source::RuleSource;
 use bucket_sort::{Bucket, BucketStream};
 use condition_graph::conditions;
 use doc_sets::DocSet;
@@ -36,7 +37,7 @@ impl<'a, S: RuleSource> Model for LevelCosts<'a, S> {
     ghost Value = { LevelCostsView S };
 
     ghost view = { λ s. record {
-      source = s.costs.source.source.now;
+      source = s.costs.source;
       graph = s.costs.graph;
       ahead = s.next;
       rest = s.costs.remaining;
@@ -79,7 +80,7 @@ fn level_costs<'a, S: RuleSource>(
 {
     let source = query.source;
     let made = conditions(alloc, query.graph, query.rule, level, source.ranks())?;
-    let costs = PathCosts::new(alloc, made, Asked { source }, docs)?;
+    let costs = PathCosts::new(alloc, made, Asked::new(alloc, source), docs)?;
     Ok(LevelCosts { costs, next: None })
 }
 

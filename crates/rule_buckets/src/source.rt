@@ -16,7 +16,6 @@ ghost use Rattle.rule_buckets.specs.Entries.{sort_entry, missing_entry};
 use bucket_sort::Bucket;
 use condition_graph::Condition;
 use doc_sets::DocSet;
-use path_costs::Resolve;
 use search_base::{CostKey, DocId, NoMemory, PathId, Word};
 use std::alloc::Global;
 
@@ -42,6 +41,17 @@ pub trait RuleSource {
         requires { IsCondition condition.now }
         ensures { IfOk result (λ set.
             set.ids ≡ filter (λ d. meets (rows self.now d).places condition.now) universe.now.ids) };
+
+    /// The same, where it is at hand without going over a long list, and else none.
+    fn at_hand(
+        &self,
+        alloc: Global,
+        condition: &Condition,
+        universe: &DocSet,
+    ) -> Result<Option<DocSet>, NoMemory>
+        requires { IsCondition condition.now }
+        ensures { IfOk result (λ found. IfSome found (λ set.
+            set.ids ≡ filter (λ d. meets (rows self.now d).places condition.now) universe.now.ids)) };
 
     /// The same of a condition on a number, for all its numbers at once: rows with a number and the documents that meet
     /// the condition on it. Of a number that is in no row there are none, and of two rows with one number the first
@@ -125,37 +135,4 @@ pub trait RuleSource {
     /// Each document has one of the entries of a path, or none.
     ghost sorted: { (source : Self) (up : Bool) (path : ℕ)
         → AreRows (keys source up path) (λ d. sort_entry up path (rows source d).leaves) (missing_entry up) };
-}
-
-/// A source as that of a condition graph.
-#[derive(Drop)]
-pub(crate) struct Asked<'a, S: RuleSource> {
-    pub(crate) source: &'a S,
-}
-
-impl<'a, S: RuleSource> Resolve for Asked<'a, S> {
-    ghost use Rattle.std.specs.Prelude.{refl};
-    ghost use Rattle.condition_graph.specs.Meets.{meets as condition_meets};
-
-    ghost meets = { λ asked condition d. condition_meets (S.rows asked.source.now d).places condition };
-
-    ghost free = { λ asked d. refl };
-
-    fn docs(
-        &mut self,
-        alloc: Global,
-        condition: &Condition,
-        universe: &DocSet,
-    ) -> Result<DocSet, NoMemory> {
-        self.source.meeting(alloc, condition, universe)
-    }
-
-    fn docs_by_number(
-        &self,
-        alloc: Global,
-        condition: &Condition,
-        universe: &DocSet,
-    ) -> Result<Vec<(u16, DocSet)>, NoMemory> {
-        self.source.meeting_by_number(alloc, condition, universe)
-    }
 }

@@ -141,40 +141,24 @@ some_or front xs back (y ∷ ys) s b l = omega (arith, length-or_least back (y �
 some_or [] xs back [] s b l = absurd (omega (arith, s l))
 some_or (x ∷ front) xs back [] s b l = absurd (omega (arith, ltb-true x 0 b.0))
 
-module _ (ps : List (Vec ℕ Global)) (last come : List ℕ) (n : ℕ) (whole : IsWhole ps last) (cut : IsCut ps last come n) (up : IsIncreasing come) where
-  abbrev pub front : List ℕ
-  front = take n come
-
-  abbrev pub back : List ℕ
-  back = drop n come
-
-  parts : front ++ back ≡ come
-  parts = take-append-drop n come
-
-  both : IsIncreasing (front ++ back)
-  both = subst IsIncreasing (sym parts) up
-
-  pub front_up : IsIncreasing front
-  front_up = increasing-left front back both
-
-  pub back_up : IsIncreasing back
-  back_up = increasing-right front back both
-
+module _ (ps : List (Vec ℕ Global)) (last front back : List ℕ) (whole : IsWhole ps last) (cut : IsCut ps last front back) (up : IsIncreasing back) where
   front_last : AllBelow front last
   front_last = before-head (get_or last 0 0) front last (last_up ps last whole) refl cut.taken
 
   pages_back' : (qs : List (Vec ℕ Global)) → AllBelow (flat qs) last → (0 < length (flat qs) → 0 < length last) → (0 < length qs → AreBeyond (Some (get_or last 0 0)) back) → AllBelow (flat qs) back
   pages_back' [] b s o = tt
-  pages_back' (q ∷ qs) b s o = below_over (flat (q ∷ qs)) last back b s back_up (o (omega arith))
+  pages_back' (q ∷ qs) b s o = below_over (flat (q ∷ qs)) last back b s up (o (omega arith))
 
   pages_back : AllBelow (flat ps) back
   pages_back = pages_back' ps (pages_last ps last whole) whole.some cut.over
 
-  pub cut_or : union come (flat ps ++ last) ≡ union front (flat ps) ++ union back last
-  cut_or = ap (λ (v : List ℕ). union v (flat ps ++ last)) (sym parts) ∙ or-split front back (flat ps) last (increasing-below front back both) front_last pages_back
+  pub cut_or : (come : List ℕ) → front ++ back ≡ come → IsIncreasing come → union front (flat ps) ++ union back last ≡ union come (flat ps ++ last)
+  cut_or come e h =
+      sym (or-split front back (flat ps) last (increasing-below front back (subst IsIncreasing (sym e) h)) front_last pages_back)
+      ∙ ap (λ (v : List ℕ). union v (flat ps ++ last)) e
 
-  pub cut_minus : difference (flat ps ++ last) come ≡ difference (flat ps) front ++ difference last back
-  cut_minus = ap (difference (flat ps ++ last)) (sym parts) ∙ minus-split (flat ps) last front back pages_back front_last
+  pub cut_minus : (gone : List ℕ) → front ++ back ≡ gone → difference (flat ps) front ++ difference last back ≡ difference (flat ps ++ last) gone
+  cut_minus gone e = sym (minus-split (flat ps) last front back pages_back front_last) ∙ ap (difference (flat ps ++ last)) e
 
   pub cut_some : 0 < length (union front (flat ps)) → 0 < length (union back last)
   cut_some = some_or front (flat ps) back last whole.some cut.taken
@@ -232,21 +216,15 @@ fits_parted s (t ∷ rooms) r front back a b f =
     (subst (Fits (t ∷ (rooms ++ r ∷ []))) (left_beyond t.first front back a.0) f.1) in
     ((subst (λ (v : List ℕ). length v ≤ s.spare) (kept_before t.first front back a.0) f.0, rest.0), rest.1)
 
-pub fits_split : (ps : List (Vec ℕ Global)) (r : Room) (come : List ℕ) (n : ℕ) → (length ps ≡ 0 → n ≡ 0) → (0 < length ps → AllFrom (drop 1 (rooms_of ps ++ r ∷ [])) (drop n come)) → AreBefore (Some r.first) (take n come)
-    → Fits (rooms_of ps ++ r ∷ []) come → Fits (rooms_of ps) (take n come) × (length (drop n come) ≤ r.spare)
-fits_split [] r come n z a b f =
-    let e : n ≡ 0 = z refl in
-    (subst (λ (k : ℕ). take k come ≡ []) (sym e) refl, subst (λ (k : ℕ). length (drop k come) ≤ r.spare) (sym e) (one_spare r come f))
-fits_split (p ∷ ps) r come n z a b f =
-    fits_parted (room_of p) (rooms_of ps) r (take n come) (drop n come) (a (omega arith)) b (subst (Fits (room_of p ∷ (rooms_of ps ++ r ∷ []))) (sym (take-append-drop n come)) f)
+pub fits_split : (ps : List (Vec ℕ Global)) (r : Room) (front back : List ℕ) → (length ps ≡ 0 → front ≡ []) → (0 < length ps → AllFrom (drop 1 (rooms_of ps ++ r ∷ [])) back) → AreBefore (Some r.first) front
+    → Fits (rooms_of ps ++ r ∷ []) (front ++ back) → Fits (rooms_of ps) front × (length back ≤ r.spare)
+fits_split [] r front back z a b f = (z refl, one_spare r back (subst (λ (v : List ℕ). Fits (r ∷ []) (v ++ back)) (z refl) f))
+fits_split (p ∷ ps) r front back z a b f = fits_parted (room_of p) (rooms_of ps) r front back (a (omega arith)) b f
 
-pub fits_join : (ps : List (Vec ℕ Global)) (r : Room) (come : List ℕ) (n : ℕ) → (length ps ≡ 0 → n ≡ 0) → (0 < length ps → AllFrom (drop 1 (rooms_of ps ++ r ∷ [])) (drop n come)) → AreBefore (Some r.first) (take n come)
-    → Fits (rooms_of ps) (take n come) → length (drop n come) ≤ r.spare → Fits (rooms_of ps ++ r ∷ []) come
-fits_join [] r come n z a b f l =
-    let e : n ≡ 0 = z refl in
-    one_fits r come (subst (λ (k : ℕ). length (drop k come) ≤ r.spare) e l)
-fits_join (p ∷ ps) r come n z a b f l =
-    subst (Fits (room_of p ∷ (rooms_of ps ++ r ∷ []))) (take-append-drop n come) (fits_joined (room_of p) (rooms_of ps) r (take n come) (drop n come) (a (omega arith)) b f l)
+pub fits_join : (ps : List (Vec ℕ Global)) (r : Room) (front back : List ℕ) → (length ps ≡ 0 → front ≡ []) → (0 < length ps → AllFrom (drop 1 (rooms_of ps ++ r ∷ [])) back) → AreBefore (Some r.first) front
+    → Fits (rooms_of ps) front → length back ≤ r.spare → Fits (rooms_of ps ++ r ∷ []) (front ++ back)
+fits_join [] r front back z a b f l = subst (λ (v : List ℕ). Fits (r ∷ []) (v ++ back)) (sym (z refl)) (one_fits r back l)
+fits_join (p ∷ ps) r front back z a b f l = fits_joined (room_of p) (rooms_of ps) r front back (a (omega arith)) b f l
 
 -- a last page alone
 pub alone : (last : List ℕ) → IsIncreasing last → IsWhole [] last
@@ -260,20 +238,16 @@ whole_same ps qs last last' rest e f whole = record {
   up = subst IsIncreasing (sym (ap₂ (λ (u v : List ℕ). u ++ v) e f)) whole.up;
 }
 
-pub cut_same : (ps qs : List (Vec ℕ Global)) (last last' come : List ℕ) (n : ℕ) → length qs ≡ length ps → last' ≡ last → IsCut ps last come n → IsCut qs last' come n
-cut_same ps qs last last' come n e f cut = record {
-  most = cut.most;
+pub cut_same : (ps qs : List (Vec ℕ Global)) (last last' front back : List ℕ) → length qs ≡ length ps → last' ≡ last → IsCut ps last front back → IsCut qs last' front back
+cut_same ps qs last last' front back e f cut = record {
   none = λ z. cut.none (omega (arith, z, e));
-  taken = subst (λ (v : List ℕ). AreBefore (Some (get_or v 0 0)) (take n come)) (sym f) cut.taken;
-  over = λ l. subst (λ (v : List ℕ). AreBeyond (Some (get_or v 0 0)) (drop n come)) (sym f) (cut.over (omega (arith, l, e)));
+  taken = subst (λ (v : List ℕ). AreBefore (Some (get_or v 0 0)) front) (sym f) cut.taken;
+  over = λ l. subst (λ (v : List ℕ). AreBeyond (Some (get_or v 0 0)) back) (sym f) (cut.over (omega (arith, l, e)));
 }
 
-pub cut_front : (ps : List (Vec ℕ Global)) (last come : List ℕ) (n : ℕ) → IsCut ps last come n → 0 < length (take n come) → 0 < length ps
-cut_front [] last come n cut l = absurd (none (cut.none refl) l)
-  where
-    none : n ≡ 0 → 0 < length (take n come) → ⊥
-    none e l = let m : 0 < 0 = subst (λ (k : ℕ). 0 < length (take k come)) e l in omega (arith, m)
-cut_front (p ∷ ps) last come n cut l = omega arith
+pub cut_front : (ps : List (Vec ℕ Global)) (last front back : List ℕ) → IsCut ps last front back → 0 < length front → 0 < length ps
+cut_front [] last front back cut l = absurd (omega (arith, l, ap length (cut.none refl)))
+cut_front (p ∷ ps) last front back cut l = omega arith
 
 -- a page that is taken from the end
 pub popped : (qs : List (Vec ℕ Global)) (p : Vec ℕ Global) → RestFull (qs ++ p ∷ []) → RestFull qs × (0 < length (flat qs) → 0 < length p.items)

@@ -1,7 +1,9 @@
+ghost use Rattle.std.specs.Prelude.{◌≡◌};
+
 use crate::checks::{check, check_text, word};
 use doc_store::{Admission, DocStore, StoreFault, StoreRefusal, StoreRow};
 use doc_values::{Document, DocumentText, documents_of};
-use search_base::{DocId, Fault, Steps};
+use search_base::{DocId, Fault, PathId, Steps};
 use serde_json::Value;
 use std::alloc::Global;
 use std::process::Abort;
@@ -11,7 +13,9 @@ fn documents(rt: &impl Abort, alloc: Global, body: &str) -> Vec<Document> {
     documents_of(alloc, value).expect(rt, "documents")
 }
 
-fn row(rt: &impl Abort, alloc: Global, external: &str, document: &Document) -> StoreRow {
+fn row(rt: &impl Abort, alloc: Global, external: &str, document: &Document) -> StoreRow
+    ensures { result.document ≡ document.now }
+{
     StoreRow {
         external: word(rt, alloc, external),
         document: DocumentText::of(alloc, document).expect(rt, "memory"),
@@ -165,6 +169,57 @@ fn later_documents_replace_earlier_ones(rt: HostRuntime) {
     check_text(&rt, external.as_str(), "b", "external");
 }
 
+// External ids of few bytes and of more, some of which differ in the last byte alone.
+const EXTERNALS: &str = "7 8 é è 0000007 00000007 00000008 日本ab 日本ac 000000078 000000079 日本語 日本話";
+
+// External ids that are like those.
+const ABSENT: [&str; 8] = [
+    "",
+    "0",
+    "ê",
+    "0000000",
+    "00000009",
+    "日本ad",
+    "000000077",
+    "日本",
+];
+
+#[test]
+fn short_and_long_external_ids_are_told_apart(rt: HostRuntime) {
+    let alloc = rt.alloc();
+    let mut store = new_store(&rt, alloc);
+    let body = "[{},{},{},{},{},{},{},{},{},{},{},{},{}]";
+    let stored = store_all(&rt, alloc, &mut store, EXTERNALS, body);
+    check_text(&rt, &stored, "0 1 2 3 4 5 6 7 8 9 10 11 12 +0", "stored");
+    for (number, external) in EXTERNALS.split(' ').enumerate() {
+        let id = DocId(number as u32);
+        check_id(&rt, alloc, &store, external, Some(id));
+    }
+    for external in &ABSENT {
+        check_id(&rt, alloc, &store, external, None);
+    }
+    for (number, external) in EXTERNALS.split(' ').enumerate() {
+        let id = DocId(number as u32);
+        let removed = store.remove(id);
+        check(&rt, removed, external);
+        check_id(&rt, alloc, &store, external, None);
+    }
+    check_counts(&rt, &store, 13, 0, 0);
+}
+
+#[test]
+fn the_empty_name_is_a_name(rt: HostRuntime) {
+    let alloc = rt.alloc();
+    let mut store = new_store(&rt, alloc);
+    let stored = store_all(&rt, alloc, &mut store, "", "[{\"\":1}]");
+    check_text(&rt, &stored, "0 +1", "stored");
+    check_id(&rt, alloc, &store, "", Some(DocId(0)));
+    let path = store.path_id(&word(&rt, alloc, ""));
+    check(&rt, path == Some(PathId(0)), "the empty path");
+    let stored = store_all(&rt, alloc, &mut store, "a", "[{\"\":2}]");
+    check_text(&rt, &stored, "1 +0", "stored again");
+}
+
 // A body of one document with that many members.
 fn wide(rt: &impl Abort, alloc: Global, members: u32) -> String {
     let mut body = String::from_str(alloc, "[{\"p\":0").expect(rt, "memory");
@@ -201,4 +256,64 @@ fn ids_and_paths_end(rt: HostRuntime) {
     check_counts(&rt, &store, 0, 0, 0);
     let stored = store_all(&rt, alloc, &mut store, "w", &wide(&rt, alloc, 1_000));
     check_text(&rt, &stored, "0 +1000", "stored");
+}
+
+// What a store admits of one document, the paths of which are noted first.
+fn noted(
+    rt: &impl Abort,
+    alloc: Global,
+    store: &DocStore,
+    document: &Document,
+) -> Result<Admission, StoreFault> {
+    let mut admitting = store.start_admitting(alloc);
+    let mut new = admitting.new_paths(alloc);
+    store.note(alloc, &admitting, document, &mut new)?;
+    let rows = [row(rt, alloc, "w", document)];
+    store.admit_noted(&mut admitting, &rows, new)?;
+    Ok(admitting.finish())
+}
+
+// The ids and the paths of an admission, or why there is none.
+fn admission_text(
+    rt: &impl Abort,
+    alloc: Global,
+    admitted: &Result<Admission, StoreFault>,
+) -> String {
+    let mut text = String::new(alloc);
+    match admitted {
+        Ok(admission) => {
+            text = ids_text(rt, alloc, admission.ids());
+            for path in admission.added() {
+                write!(text, "{} ", path.as_str()).expect(rt, "memory");
+            }
+        }
+        Err(_) => text.push_str(spent(admitted)).expect(rt, "memory"),
+    }
+    text
+}
+
+fn check_noted(rt: &impl Abort, alloc: Global, store: &DocStore, body: &str, wanted: &str) {
+    for document in &documents(rt, alloc, body) {
+        let admitted = noted(rt, alloc, store, document);
+        check_text(rt, &admission_text(rt, alloc, &admitted), wanted, "noted");
+    }
+}
+
+// Documents behind one that has the path `a`, each with its internal id and the paths that are new.
+const NOTED: [(&str, &str); 3] = [
+    ("[{}]", "1 "),
+    (r#"[{"a":1}]"#, "1 "),
+    (r#"[{"c":1,"a":{"b":2}}]"#, "1 a.b c "),
+];
+
+#[test]
+fn paths_are_noted_before_documents_are_admitted(rt: HostRuntime) {
+    let alloc = rt.alloc();
+    let mut store = new_store(&rt, alloc);
+    let stored = store_all(&rt, alloc, &mut store, "1", "[{\"a\":0}]");
+    check_text(&rt, &stored, "0 +1", "stored");
+    for (document, wanted) in &NOTED {
+        check_noted(&rt, alloc, &store, document, wanted);
+    }
+    check_noted(&rt, alloc, &store, &wide(&rt, alloc, 1_000), "paths");
 }

@@ -20,4 +20,6 @@ mod filter_texts;
 #[cfg(test)]
 mod filters;
 #[cfg(test)]
+mod shared_leaves;
+#[cfg(test)]
 mod sorts;

@@ -23,7 +23,7 @@ pub(crate) const FILMS: &str =
 {"id":3,"title":"Knight of the Dark","year":1999},
 {"id":4,"title":"Darkness","year":2002,"genres":["drama"]}]"#;
 
-fn documents(rt: &impl Abort, alloc: Global, body: &str) -> Vec<DocumentText> {
+pub(crate) fn documents(rt: &impl Abort, alloc: Global, body: &str) -> Vec<DocumentText> {
     let value = Value::from_str(alloc, body).expect(rt, "JSON");
     let mut texts = Vec::new(alloc);
     for document in documents_of(alloc, value).expect(rt, "documents") {

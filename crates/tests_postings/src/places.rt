@@ -116,18 +116,37 @@ fn check_documents(rt: &impl Abort, alloc: Global, set: &DocSet, entries: &[u64]
     check(rt, ids.as_slice() == kept.as_slice(), "documents");
 }
 
-// The documents of a path are those of its entries, where they are kept as a set.
-fn check_path(rt: &impl Abort, alloc: Global, list: &PostingList, path: u16) {
-    let Some(set) = list.in_path(PathId(path)) else {
-        return;
-    };
+// These are the documents of the entries of a list in a path, if one is given, and at the beginning of a path, where
+// only these are asked for.
+fn check_part(
+    rt: &impl Abort,
+    alloc: Global,
+    list: &PostingList,
+    set: &DocSet,
+    path: Option<u16>,
+    only_first: bool,
+) {
     let mut entries = Vec::new(alloc);
     for entry in list.pages().iter() {
-        if (entry >> 16) & 0xffff == u64::from(path) {
+        let inside = path.is_none_or(|path| (entry >> 16) & 0xffff == u64::from(path));
+        if inside && (!only_first || entry & 0xffff == 0) {
             entries.push(entry).expect(rt, "memory");
         }
     }
     check_documents(rt, alloc, set, entries.as_slice());
+}
+
+// The documents of a path, and those that begin it so, are those of its entries, where they are kept as sets.
+fn check_path(rt: &impl Abort, alloc: Global, list: &PostingList, path: u16) {
+    let inside = list.in_path(PathId(path));
+    let starting = list.starting(PathId(path));
+    check(rt, inside.is_some() == starting.is_some(), "both sets");
+    if let Some(set) = inside {
+        check_part(rt, alloc, list, set, Some(path), false);
+    }
+    if let Some(set) = starting {
+        check_part(rt, alloc, list, set, Some(path), true);
+    }
 }
 
 // Whether the documents of a word are kept as a set. They are those of its list then, and those of each path are its.
@@ -139,12 +158,28 @@ fn keeps_documents(rt: &impl Abort, alloc: Global, postings: &Postings, at: usiz
     for path in 0..10 {
         check_path(rt, alloc, list, path);
     }
+    if let Some(set) = list.starting_any() {
+        check_part(rt, alloc, list, set, None, true);
+    }
     let Some(set) = list.documents() else {
         return false;
     };
-    let entries = listed(rt, alloc, postings, at);
-    check_documents(rt, alloc, set, entries.as_slice());
+    check_part(rt, alloc, list, set, None, false);
     true
+}
+
+// Whether a document begins a path with a word, where the documents that do are kept as a set.
+fn begins(
+    rt: &impl Abort,
+    alloc: Global,
+    postings: &Postings,
+    at: usize,
+    id: u32,
+    path: u16,
+) -> Option<bool> {
+    let word = word(rt, alloc, at);
+    let set = postings.row(&word)?.starting(PathId(path))?;
+    Some(set.contains(DocId(id)))
 }
 
 // What the paths of a word are below, where their documents are kept as sets.
@@ -434,6 +469,40 @@ fn one_word_in_several_paths(rt: HostRuntime) {
         check(&rt, keeps_documents(&rt, alloc, &postings, 2), "gone");
         let below = path_limit(&rt, alloc, &postings, 2);
         check(&rt, below == Some(8), "limit without");
+    }
+}
+
+// A place of the word in one document, and whether it begins the path with the word then, where that is kept.
+const BEGINNINGS: [(u32, u16, u16, Option<bool>); 9] = [
+    (100, 0, 0, Some(true)),
+    (100, 0, 1, Some(false)),
+    (100, 1, 0, Some(true)),
+    (100, 1, u16::MAX, Some(false)),
+    (100, 7, 0, Some(true)),
+    (100, 8, 0, None),
+    (1_500, 2, 0, Some(true)),
+    (1_500, 2, 1, Some(false)),
+    (4_000_000, 2, 0, None),
+];
+
+#[test]
+fn one_word_at_the_beginning_of_paths(rt: HostRuntime) {
+    let alloc = rt.alloc();
+    for (id, path, position, wanted) in &BEGINNINGS {
+        let mut postings = Postings::new(alloc);
+        let many = with_word(&rt, alloc, 0, 100, 0);
+        let first = one_document(&rt, alloc, *id, &[(2, *path, 0)]);
+        commit(&rt, alloc, &mut postings, &[], &many);
+        commit(&rt, alloc, &mut postings, &[], &first);
+        let other = one_document(&rt, alloc, *id, &[(2, *path, *position)]);
+        commit(&rt, alloc, &mut postings, &first, &other);
+        let found = begins(&rt, alloc, &postings, 2, *id, *path);
+        check(&rt, found == *wanted, "replaced");
+        let _kept = keeps_documents(&rt, alloc, &postings, 2);
+        commit(&rt, alloc, &mut postings, &other, &[]);
+        let found = begins(&rt, alloc, &postings, 2, *id, *path);
+        check(&rt, found != Some(true), "gone");
+        let _kept = keeps_documents(&rt, alloc, &postings, 2);
     }
 }
 

@@ -5,7 +5,8 @@ use crate::places::{
 };
 use doc_sets::{DocSet, DocSetBuilder};
 use posting_sets::{
-    documents, documents_by_bucket, documents_by_rank, numbers_are_those_of_blocks,
+    documents, documents_at_first, documents_by_beginning, documents_by_bucket, documents_by_rank,
+    numbers_are_those_of_blocks,
 };
 use postings::Postings;
 use search_base::{DocId, Term, bucket};
@@ -131,6 +132,47 @@ fn check_found(rt: &impl Abort, found: &DocSet, all: &[Document], asked: &Asked,
     check(rt, left == 0, "no other is found");
 }
 
+// The documents of the universe where the term occurs in bucket 0 are found, where they are known.
+fn check_first(
+    rt: &impl Abort,
+    found: Option<&DocSet>,
+    all: &[Document],
+    asked: &Asked,
+    universe: &[u32],
+) {
+    check(rt, found.is_some() || !asked.1, "known of a prefix");
+    let Some(found) = found else {
+        return;
+    };
+    let mut left = found.len();
+    for id in universe {
+        let first = least(spots_of(all, *id), asked, false).1 == Some(0);
+        check(rt, found.contains(DocId(*id)) == first, "first");
+        left = left.wrapping_sub(u64::from(first));
+    }
+    check(rt, left == 0, "no other is first");
+}
+
+// The documents of the universe that begin a path with the words are found.
+fn check_beginning(
+    rt: &impl Abort,
+    found: &[DocSet],
+    all: &[Document],
+    asked: &Asked,
+    universe: &[u32],
+) {
+    for path in 0..10_u16 {
+        for id in universe {
+            let begins = stands_at(spots_of(all, *id), asked, path, 0);
+            let holds = match found.get(usize::from(path)) {
+                Some(set) => set.contains(DocId(*id)),
+                None => false,
+            };
+            check(rt, holds == begins, "beginning");
+        }
+    }
+}
+
 // Each question is answered as the documents say.
 fn check_answers(
     rt: &impl Abort,
@@ -153,6 +195,13 @@ fn check_answers(
         are_numbered(all, asked, universe, false, &rows),
         "buckets",
     );
+    let first = documents_at_first(alloc, postings, &term, &set).expect(rt, "memory");
+    check_first(rt, first.as_ref(), all, asked, universe);
+    if !term.prefix {
+        let words = term.words.as_slice();
+        let found = documents_by_beginning(alloc, postings, words, &set).expect(rt, "memory");
+        check_beginning(rt, &found, all, asked, universe);
+    }
 }
 
 fn check_all_answers(
@@ -252,11 +301,11 @@ fn named(rt: &impl Abort, alloc: Global) -> Vec<Document> {
 }
 
 // The documents that have `dark knight`.
-fn phrase_found(rt: &impl Abort, alloc: Global, postings: &Postings) -> DocSet {
+fn phrase_found(rt: &impl Abort, alloc: Global, postings: &Postings, universe: &[u32]) -> DocSet {
     let words = Vec::from_array(alloc, [2, 4]).expect(rt, "memory");
     let phrase = term(rt, alloc, &(words, false));
     assert!(rt; !phrase.words.is_empty() && !phrase.prefix);
-    let universe = set_of(rt, alloc, &[0, 5, 63, 64, 70_000, 999_999]);
+    let universe = set_of(rt, alloc, universe);
     documents(alloc, postings, &phrase, &universe).expect(rt, "memory")
 }
 
@@ -266,7 +315,8 @@ fn questions_about_named_documents(rt: HostRuntime) {
     let mut postings = Postings::new(alloc);
     let all = named(&rt, alloc);
     commit(&rt, alloc, &mut postings, &[], &all);
-    let found = phrase_found(&rt, alloc, &postings);
+    let universe = [0, 5, 63, 64, 70_000, 999_999];
+    let found = phrase_found(&rt, alloc, &postings, &universe);
     check(&rt, found.contains(DocId(0)), "0");
     check(&rt, found.contains(DocId(999_999)), "999999");
     check(&rt, found.len() == 2, "two");
@@ -303,5 +353,37 @@ fn check_alike(rt: &impl Abort, alloc: Global, many: u32) {
 fn questions_at_the_edges_of_pages(rt: HostRuntime) {
     for many in &[255_u32, 257, 511, 513] {
         check_alike(&rt, rt.alloc(), *many);
+    }
+}
+
+// So many documents with `dark`, of which the first and the last have `knight` behind it.
+fn few_knights(
+    rt: &impl Abort,
+    alloc: Global,
+    many: u32,
+    universe: &mut Vec<u32>,
+) -> Vec<Document> {
+    let mut all = Vec::new(alloc);
+    for id in 0..many {
+        universe.push(id).expect(rt, "memory");
+        let mut spots = spots_from(rt, alloc, &[(2, 0, 0)]);
+        if id == 0 || id.wrapping_add(1) == many {
+            spots.push((4, 0, 1)).expect(rt, "memory");
+        }
+        add_document(rt, &mut all, id, spots);
+    }
+    all
+}
+
+#[test]
+fn phrases_of_a_frequent_word(rt: HostRuntime) {
+    let alloc = rt.alloc();
+    for many in &[90_u32, 2_000, 7_000] {
+        let mut postings = Postings::new(alloc);
+        let mut universe = Vec::new(alloc);
+        let all = few_knights(&rt, alloc, *many, &mut universe);
+        commit(&rt, alloc, &mut postings, &[], &all);
+        let found = phrase_found(&rt, alloc, &postings, &universe);
+        check(&rt, found.len() == 2 && found.contains(DocId(0)), "two");
     }
 }

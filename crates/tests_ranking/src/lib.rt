@@ -5,6 +5,8 @@
 #![tactic(auto)]
 
 #[cfg(test)]
+mod at_hand;
+#[cfg(test)]
 mod checks;
 #[cfg(test)]
 mod conditions;

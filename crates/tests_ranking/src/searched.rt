@@ -14,7 +14,7 @@ use std::process::Abort;
 struct Counted;
 
 // The documents of some lines, each of which ends with the costs of its document.
-fn shelf(rt: &impl Abort, alloc: Global, lines: &str) -> Shelf {
+pub(crate) fn shelf(rt: &impl Abort, alloc: Global, lines: &str) -> Shelf {
     let mut all = Vec::new(alloc);
     for line in lines.split('\n') {
         let (document, _costs) = line.split_once(" ~").unwrap_or((line, ""));

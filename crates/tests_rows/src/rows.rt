@@ -1,3 +1,4 @@
+use doc_index::index_of_change;
 use row_index::{RowChange, RowIndex};
 use search_base::{DocId, DocRows, FacetValue, Leaf, Mark, MarkKind, PathId, Place, Word};
 use std::alloc::Global;
@@ -152,5 +153,17 @@ fn an_index_is_that_of_its_documents(rt: HostRuntime) -> Result<(), Fail> {
         &index,
         &[None, None, None, None, None, None, None, None],
     );
+    Ok(())
+}
+
+#[test]
+fn documents_that_come_make_an_index(rt: HostRuntime) -> Result<(), Fail> {
+    let alloc = rt.alloc();
+    for state in STATES {
+        let documents = versions(&rt, alloc, state);
+        let come = change(&rt, alloc, &[], documents.as_slice());
+        let index = index_of_change(alloc, come)?;
+        answers(&rt, alloc, &index, documents.as_slice());
+    }
     Ok(())
 }

@@ -37,6 +37,15 @@ impl RuleSource for Bare {
         Err(NoMemory)
     }
 
+    fn at_hand(
+        &self,
+        alloc: Global,
+        condition: &Condition,
+        universe: &DocSet,
+    ) -> Result<Option<DocSet>, NoMemory> {
+        Ok(None)
+    }
+
     fn meeting_by_number(
         &self,
         alloc: Global,

@@ -213,3 +213,70 @@ fn ends_of_numbers(rt: HostRuntime) {
     let list = step(&rt, alloc, &mut pages, &list, &[0], ENDS, &mut seed);
     check(&rt, list.as_slice() == &ENDS[1..], "ends");
 }
+
+// Numbers that come or go: the first, and how many; those that come have a step between them.
+enum Change {
+    Come(u64, u64, u64),
+    Go(u64, u64),
+}
+
+// Changes in turn, and how many entries there are after each: pages are cut off, get numbers between theirs, are split,
+// go one behind the other, and come again.
+const CHANGES: &[(Change, usize)] = &[
+    (Change::Come(0, 2, 3000), 3000),
+    (Change::Come(1, 2, 1000), 4000),
+    (Change::Come(0, 4, 1000), 4000),
+    (Change::Come(0, 1, 0), 4000),
+    (Change::Go(500, 5000), 750),
+    (Change::Go(0, 0), 750),
+    (Change::Go(5000, 4000), 500),
+    (Change::Come(7000, 1, 2000), 2500),
+    (Change::Go(8000, 1), 2499),
+    (Change::Go(0, 9000), 0),
+    (Change::Come(3, 1, 2), 2),
+];
+
+fn steps(rt: &impl Abort, alloc: Global, first: u64, step: u64, count: u64) -> Vec<u64> {
+    let mut numbers = Vec::new(alloc);
+    for i in 0..count {
+        let number = first.wrapping_add(i.wrapping_mul(step));
+        numbers.push(number).expect(rt, "memory");
+    }
+    numbers
+}
+
+fn make_change(rt: &impl Abort, alloc: Global, pages: &mut SortedPages, change: &Change) {
+    match change {
+        Change::Come(first, step, count) => {
+            let come = steps(rt, alloc, *first, *step, *count);
+            assert!(rt; is_increasing(&come));
+            pages.reserve(alloc, &come).expect(rt, "memory");
+            pages.insert_reserved(&come);
+        }
+        Change::Go(first, count) => {
+            let gone = steps(rt, alloc, *first, 1, *count);
+            assert!(rt; is_increasing(&gone));
+            pages.remove_all(&gone);
+        }
+    }
+}
+
+// How many entries a list has, one after the other.
+fn entries_in(pages: &SortedPages) -> usize {
+    let mut count: usize = 0;
+    for _entry in pages.iter() {
+        count = count.saturating_add(1);
+    }
+    count
+}
+
+#[test]
+fn entries_are_counted(rt: HostRuntime) {
+    let alloc = rt.alloc();
+    let mut pages = SortedPages::new(alloc);
+    for (change, len) in CHANGES {
+        make_change(&rt, alloc, &mut pages, change);
+        check(&rt, pages.len() == *len, "length");
+        check(&rt, entries_in(&pages) == *len, "entries");
+    }
+}

@@ -1,15 +1,17 @@
-ghost use Rattle.std.specs.Prelude.{◌≡◌, ◌≤◌, IfOk};
+ghost use Rattle.std.specs.Prelude.{◌≡◌, ◌≤◌, length, IfOk};
+ghost use Rattle.search_base.specs.Graphs.{IsGraph};
 ghost use Rattle.condition_graph.specs.Promise.{IsCondition, IsConditionGraph};
 
 use crate::checks::{check, check_ids, set_of};
-use condition_graph::{Condition, ConditionEdge, ConditionGraph};
+use condition_graph::{Condition, ConditionEdge, ConditionGraph, conditions};
 use doc_sets::DocSet;
 use path_costs::{PathCosts, Resolve};
-use search_base::{NoMemory, Term, Word};
+use search_base::{Block, Graph, Kind, LevelGraph, NoMemory, PlacedBlock, Rule, Term, Word};
 use std::alloc::Global;
 use std::process::Abort;
 
-// The documents with a word, and those with a word that begins so, which may be refused.
+// The documents with a word, and those with a word that begins so, which may be refused. Each rank is that of the first
+// documents, and is never told by number.
 #[derive(Drop)]
 struct TwoSets {
     first: DocSet,
@@ -27,7 +29,7 @@ impl Resolve for TwoSets {
       | Free ↦ true
       | Occurs term ↦ if term.prefix then has sets.second.ids d else has sets.first.ids d
       | Pair left right prefix number ↦ true
-      | AtRank term rank ↦ true
+      | AtRank term rank ↦ has sets.first.ids d
       | AtBucket term bucket ↦ true
     ] };
 
@@ -49,6 +51,7 @@ impl Resolve for TwoSets {
                     universe.and(alloc, &self.second)
                 }
             }
+            Condition::AtRank { .. } => universe.and(alloc, &self.first),
             _ => Err(NoMemory),
         }
     }
@@ -132,6 +135,56 @@ fn two_edges_between_two_nodes(rt: HostRuntime) {
     check_next(&rt, rt.alloc(), &mut costs, 3, &[1]);
     check_no_next(&rt, rt.alloc(), &mut costs);
     check_no_next(&rt, rt.alloc(), &mut costs);
+}
+
+// A query of one word.
+fn dark(rt: &impl Abort, alloc: Global) -> Graph
+    ensures graph { IsGraph result }
+    ensures level { length result.levels ≡ 1 }
+{
+    let word = Word::new(alloc, "dark").expect(rt, "memory");
+    let words = Vec::from_array(alloc, [word]).expect(rt, "memory");
+    let whole = words.clone().expect(rt, "memory");
+    let prefix = false;
+    let block = Block {
+        span: 1,
+        term: Term { words, prefix },
+        kind: Kind::Plain,
+    };
+    let placed = PlacedBlock {
+        from: 0,
+        to: 1,
+        block,
+    };
+    let blocks = Vec::from_array(alloc, [placed]).expect(rt, "memory");
+    let level = LevelGraph { items: 1, blocks };
+    let levels = Vec::from_array(alloc, [level]).expect(rt, "memory");
+    Graph { levels, whole }
+}
+
+// The costs of a word by the rank of its path, of which there are so many.
+fn rank_costs(rt: &impl Abort, alloc: Global, ranks: u16) -> Result<PathCosts<TwoSets>, NoMemory> {
+    let query = dark(rt, alloc);
+    let graph = conditions(alloc, &query, Rule::Field, 0, ranks)?;
+    let sets = TwoSets {
+        first: set_of(rt, alloc, &[2]),
+        second: set_of(rt, alloc, &[1, 2]),
+        refuses: true,
+    };
+    PathCosts::new(alloc, graph, sets, set_of(rt, alloc, &[1, 2, 9]))
+}
+
+#[test]
+fn few_edges_are_asked_for_when_a_cost_needs_them(rt: HostRuntime) {
+    let mut costs = rank_costs(&rt, rt.alloc(), 64).expect(&rt, "memory");
+    check_next(&rt, rt.alloc(), &mut costs, 0, &[2]);
+    check_no_next(&rt, rt.alloc(), &mut costs);
+}
+
+#[test]
+fn the_numbers_of_many_edges_are_asked_for_at_once(rt: HostRuntime) {
+    let refused = rank_costs(&rt, rt.alloc(), 65).is_err();
+    check(&rt, refused, "refused");
 }
 
 #[test]

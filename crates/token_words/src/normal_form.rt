@@ -1,4 +1,6 @@
 ghost use Rattle.std.specs.Prelude.{◌≡◌, filter, chars, string_bytes, encode_utf8_all, IfOk};
+ghost use Rattle.std.specs.Bool.{OnTrue};
+ghost use Rattle.std.specs.Str.{str_to_ascii_lowercase};
 ghost use Rattle.token_words.specs.Normal.{normal, is_kept};
 
 use caseless::default_case_fold_str;
@@ -15,6 +17,9 @@ pub fn normal(alloc: Global, text: &str) -> Result<Word, NoMemory>
     ensures { IfOk result (λ word. word ≡ normal text.now) }
 {
     if text.is_ascii() {
+        if is_lower(text.as_bytes()) {
+            return Word::new(alloc, text);
+        }
         let lowered = text.to_ascii_lowercase(alloc)?;
         return Word::from_string(lowered);
     }
@@ -22,6 +27,13 @@ pub fn normal(alloc: Global, text: &str) -> Result<Word, NoMemory>
     let kept = without_marks(alloc, decomposed.as_str())?;
     let folded = default_case_fold_str(alloc, kept.as_str())?;
     Word::from_string(folded)
+}
+
+// Whether no byte is a capital letter of ASCII.
+fn is_lower(bytes: &[u8]) -> bool
+    ensures { OnTrue result (str_to_ascii_lowercase bytes.now ≡ bytes.now) }
+{
+    bytes.iter().all(|byte| !byte.is_ascii_uppercase())
 }
 
 // The text without its nonspacing marks.

@@ -7,6 +7,9 @@ use search_base::{NoMemory, Token};
 use std::alloc::Global;
 use unicode_segmentation::UnicodeSegmentation;
 
+// Room for so many words at most is taken before they are known.
+const SOME: usize = 64;
+
 /// The words of a text in order, each in its normal form, with its position and its bytes.
 ///
 /// The segments of the text are those of UAX #29. One that holds a letter or a number (it is
@@ -24,7 +27,7 @@ pub fn tokens(alloc: Global, text: &str) -> Result<Vec<Token>, NoMemory>
 pub fn first_tokens(alloc: Global, text: &str, most: usize) -> Result<Vec<Token>, NoMemory>
     ensures { IfOk result (λ list. list.items ≡ take most (tokens text.now)) }
 {
-    let mut list = Vec::new(alloc);
+    let mut list = Vec::with_capacity(alloc, most.min(text.len() / 8).min(SOME))?;
     let mut last = None;
     let mut hard = false;
     let mut at = 0;

@@ -1,7 +1,6 @@
 use Rattle.std.proofs.Common.{◌≡◌, [], ◌∷◌, ◌++◌, length, rules, sym, ap, subst, ◌∙◌}
 use Rattle.std.proofs.lemmas.Int.{to_z-of_z}
 use Rattle.search_base.specs.SortKeys.{leaves_under}
-use Rattle.leaf_table.specs.Tables.{table_rows}
 use Rattle.leaf_table.specs.Columns.{leaves_in, Tells, IsColumn}
 use Rattle.leaf_table.proofs.ColumnLemmas.{cell_pushed}
 use Rattle.leaf_table.proofs.columns.fill.Goals as goal
@@ -11,7 +10,7 @@ use mir.Val.{SFits}
 pub loop-path-preserved : goal.loop-path-preserved
 loop-path-preserved c =
     let fits : SFits w64 c.told-cell.result = search rules in
-    let rows = table_rows c.args.rows.now in
+    let rows = c.args.rows.now in
     let length_is : c.len-in-loop-path.result ≡ length c.loop-path.column.items = c.len-in-loop-path.ensures ∙ c.loop-path.column.ok.0 in
     subst (λ items. IsColumn c.args.path.0 items rows) (sym c.in_ok-push.ensures.items)
     (subst (λ cell. IsColumn c.args.path.0 (c.loop-path.column.items ++ cell ∷ []) rows) (sym (to_z-of_z w64 c.told-cell.result fits))

@@ -3,7 +3,6 @@ use Rattle.std.proofs.lemmas.Int.{to_z-of_z}
 use Rattle.search_base.specs.SortKeys.{leaves_under}
 use Rattle.facet_index.specs.Documents.{is_between}
 use Rattle.leaf_table.specs.declared.columns.TheConstants.{OTHER}
-use Rattle.leaf_table.specs.Tables.{table_rows}
 use Rattle.leaf_table.specs.Columns.{leaves_in, Tells}
 use Rattle.leaf_table.proofs.NumberLemmas.{number_decides, nothing_decides}
 use Rattle.leaf_table.proofs.numbers.is_inside.Goals as goal
@@ -12,7 +11,7 @@ use mir.Val.{SFits, to_z, of_z}
 
 pub returns-then-cell-gt-OTHER : goal.returns-then-cell-gt-OTHER
 returns-then-cell-gt-OTHER c =
-    let leaves = leaves_in c.args.id.0 (table_rows c.args.rows.now) in
+    let leaves = leaves_in c.args.id.0 c.args.rows.now in
     let range = c.args.range.now in
     let told : Tells c.cell_of-cell.result (leaves_under range.path.0 leaves)
     = subst (λ cell. Tells cell (leaves_under range.path.0 leaves)) (sym c.cell_of-cell.ensures) (c.requires c.args.id.0) in
@@ -26,7 +25,7 @@ returns-then-cell-gt-OTHER c =
 
 pub returns-then-cell-lt-OTHER : goal.returns-then-cell-lt-OTHER
 returns-then-cell-lt-OTHER c =
-    let leaves = leaves_in c.args.id.0 (table_rows c.args.rows.now) in
+    let leaves = leaves_in c.args.id.0 c.args.rows.now in
     let range = c.args.range.now in
     let told : Tells c.cell_of-cell.result (leaves_under range.path.0 leaves)
     = subst (λ cell. Tells cell (leaves_under range.path.0 leaves)) (sym c.cell_of-cell.ensures) (c.requires c.args.id.0) in

@@ -5,7 +5,7 @@ use Rattle.change_payloads.specs.Answers.{Decodes}
 use Rattle.change_payloads.specs.Change.{change_at}
 use Rattle.named_indexes.specs.Payloads.{is_good}
 use Rattle.named_indexes.specs.declared.payload.Recorded.{Recorded}
-use Rattle.named_indexes.proofs.Recording.{held, good_recorded, bad_recorded, none_recorded, bad_decodes}
+use Rattle.named_indexes.proofs.Recording.{good_recorded, bad_recorded, none_recorded, bad_decodes}
 use Rattle.named_indexes.proofs.payload.recorded_change.Goals as goal
 
 pub returns-in_err-change-clause-exact : goal.returns-in_err-change-clause-exact
@@ -29,4 +29,4 @@ returns-clause-exact c =
     let bytes = c.args.bytes.items in
     let change = change_view c.in_ok-change.change in
     let at : change_at bytes ≡ Ok change = subst (λ b. change_at b ≡ Ok change) c.deref.ensures.value c.in_ok-change.ensures.exact in
-    good_recorded bytes change at (sym c.in_ok-good.ensures ∙ c.if-not-good.false) ∙ ap Ok (sym (held bytes change at))
+    good_recorded bytes change at (sym c.in_ok-good.ensures ∙ c.if-not-good.false) ∙ ap Ok (sym c.in_ok-recorded.ensures.payload)

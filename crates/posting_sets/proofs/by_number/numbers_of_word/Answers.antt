@@ -1,4 +1,4 @@
-use Rattle.std.proofs.Common.{◌≡◌, ◌∷◌, [], true, sym, ap, ◌∙◌, arith}
+use Rattle.std.proofs.Common.{◌∷◌, [], true, sym, ap, arith}
 use Rattle.postings.specs.Dictionary.{list_at}
 use Rattle.posting_sets.proofs.PrefixLemmas.{shown}
 use Rattle.posting_sets.proofs.RankLemmas.{lacking}

@@ -1,7 +1,6 @@
-use Rattle.std.proofs.Common.{ℕ, ◌&&◌, ◌||◌, ap, ◌∙◌}
+use Rattle.std.proofs.Common.{◌&&◌, ◌||◌, ap, ◌∙◌}
 use Rattle.doc_sets.specs.Sets.{has}
 use Rattle.doc_sets.proofs.SetLemmas.{has-union}
-use Rattle.posting_sets.specs.Found.{has_document}
 use Rattle.posting_sets.proofs.NumberLemmas.{on_ok}
 use Rattle.posting_sets.proofs.found.add_kept_or_list.Goals as goal
 

@@ -10,7 +10,7 @@ returns-in-Some c = ok_of _ _ c.and.result c.and.ensures (λ set e.
 pub returns-in-Some-2 : goal.returns-in-Some-2
 returns-in-Some-2 c =
     let lists = rw c.in-Some-2.is at c.in_ok-lists.ensures in
-    ok_of _ _ c.documents_of_lists.result c.documents_of_lists.ensures (λ set are.
+    ok_of _ _ c.documents_of_row.result c.documents_of_row.ensures (λ set are.
     words_found c.args.postings.now c.args.words.now c.requires.words c.args.universe.now.ids set.ids (map (λ list. list.now.entries) c.as_slice.result.now)
     c.requires.universe (ap (map (λ list. list.now.entries)) c.as_slice.ensures.value ∙ lists) are)
 

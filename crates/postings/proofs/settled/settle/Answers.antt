@@ -11,11 +11,11 @@ use Rattle.postings.proofs.settled.settle.Goals as goal
 pub loop-word-preserved-then-is_empty : goal.loop-word-preserved-then-is_empty
 loop-word-preserved-then-is_empty c =
     let done = c.loop-word.rows.items in
-    let left = c.pop_first.new.self.entries in
+    let left = c.next.new.self in
     let word = c.in-Some.word in
     let old = c.in-Some.change in
     let new = c.in_ok-settled.settled in
-    let popped : c.loop-word.left.entries ≡ (word, old) ∷ left = search rules in
+    let popped : c.loop-word.word-iterator ≡ (word, old) ∷ left = c.in-Some.ensures.steps in
     let invariant = c.loop-word.invariant in
     let words = subst (λ v. IsStrictlySortedBy word_cmp (keys_of (done ++ v))) popped invariant.words in
     let empty : length new.gone.items + length new.come.items ≡ 0 = search rules in
@@ -30,12 +30,12 @@ loop-word-preserved-then-is_empty c =
 pub loop-word-preserved : goal.loop-word-preserved
 loop-word-preserved c =
     let done = c.loop-word.rows.items in
-    let left = c.pop_first.new.self.entries in
+    let left = c.next.new.self in
     let word = c.in-Some.word in
     let old = c.in-Some.change in
     let new = c.in_ok-settled.settled in
     let row = c.in_ok-settled.ensures in
-    let popped : c.loop-word.left.entries ≡ (word, old) ∷ left = search rules in
+    let popped : c.loop-word.word-iterator ≡ (word, old) ∷ left = search rules in
     let pushed : c.push.new.self.items ≡ done ++ (word, new) ∷ [] = c.in_ok-push.ensures.items in
     let invariant = c.loop-word.invariant in
     let some : 0 < length new.gone.items + length new.come.items = search rules in

@@ -1,4 +1,4 @@
-use Rattle.std.proofs.Common.{◌≡◌, ℕ, List, ◌++◌, length}
+use Rattle.std.proofs.Common.{◌≡◌, ℕ, List, ◌++◌}
 use Rattle.std.specs.List.{All}
 use Rattle.std.specs.List.Sorted.{IsStrictlySortedBy}
 use Rattle.std.specs.Map.{keys_of}
@@ -10,11 +10,8 @@ use Rattle.postings.proofs.settled.settle.Given as goal
 
 abbrev pub invariant-loop-word : goal.invariant-loop-word
 invariant-loop-word l = record {
-  words : IsStrictlySortedBy word_cmp (keys_of (l.rows.items ++ l.left.entries));
+  words : IsStrictlySortedBy word_cmp (keys_of (l.rows.items ++ l.word-iterator));
   each : All IsSettled l.rows.items;
-  named : (s : Side) (w : List ℕ) (e : ℕ) → is_alone s e (value_at w (l.rows.items ++ l.left.entries)) ≡ is_alone s e (value_at w l.initial.left.entries);
+  named : (s : Side) (w : List ℕ) (e : ℕ) → is_alone s e (value_at w (l.rows.items ++ l.word-iterator)) ≡ is_alone s e (value_at w l.initial.word-iterator);
   alone : (s : Side) (w : List ℕ) (e : ℕ) → IsAlone s e (value_at w l.rows.items);
 }
-
-abbrev pub decreases-loop-word : goal.decreases-loop-word
-decreases-loop-word l = length l.left.entries

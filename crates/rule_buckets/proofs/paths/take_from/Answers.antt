@@ -14,5 +14,5 @@ returns-in_ok-all-in-Some-clause-found g c = λ d.
 
 pub returns-in_ok-all-in-Some-clause-left : goal.returns-in_ok-all-in-Some-clause-left
 returns-in_ok-all-in-Some-clause-left g c =
-    let whole : LevelCostsView g.row.S.Denot = record { source = c.stream.inside.costs.source.source.now; graph = c.stream.inside.costs.graph; ahead = c.stream.inside.next; rest = c.stream.inside.costs.remaining } in
+    let whole : LevelCostsView g.row.S.Denot = record { source = c.stream.inside.costs.source; graph = c.stream.inside.costs.graph; ahead = c.stream.inside.next; rest = c.stream.inside.costs.remaining } in
     left-none whole c.args.cost c.in-Some.here c.in-Some.docs c.in-Some.is c.if-here-cost.false ∙ ap (without c.args.cost) c.stream.view_is

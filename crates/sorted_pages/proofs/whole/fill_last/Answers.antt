@@ -1,14 +1,25 @@
-use Rattle.std.proofs.Common.{◌≡◌, ℕ, ◌++◌, ◌∷◌, [], List, sym, ap, subst, ◌∙◌, arith, append-nil}
+use Rattle.std.proofs.Common.{◌≡◌, ℕ, ◌+◌, ◌++◌, ◌∷◌, [], List, Vec, length, sym, ap, subst, ◌∙◌, arith, append-nil}
+use Rattle.std.specs.declared.alloc.Global.{Global}
 use Rattle.std.specs.Option.{option_to_list}
 use Rattle.std.proofs.lemmas.Bool.{eqb-true}
-use Rattle.std.proofs.lemmas.List.{nil_from_length}
+use Rattle.std.proofs.lemmas.List.{length-append, nil_from_length}
 use Rattle.sorted_pages.specs.Pages.{flat, RestFull}
 use Rattle.sorted_pages.proofs.WholeLemmas.{popped, flat_popped}
 use Rattle.sorted_pages.proofs.whole.fill_last.Goals as goal
 
+pub count_left-front-requires : goal.count_left-front-requires
+count_left-front-requires c =
+    let ps = c.args.front.now.pages.items in
+    let left = c.pop.new.self.items in
+    let page = c.in-Some.page in
+    let same : ps ≡ left ++ page ∷ [] = c.pop.ensures.items ∙ ap (λ r. left ++ option_to_list r) c.in-Some.is in
+    let long : length (flat ps) ≡ length (flat left) + length page.items = ap length (ap flat same ∙ flat_popped left page) ∙ length-append (flat left) page.items in
+    let seen = ap (λ (q : List (Vec ℕ Global)). length (flat q)) c.as_slice.ensures.value in
+    omega (arith, c.requires.counted, long, seen, c.len.ensures, page.ok.0)
+
 pub returns-in-Some-clause-entries : goal.returns-in-Some-clause-entries
 returns-in-Some-clause-entries c =
-    let ps = c.args.pages.now.items in
+    let ps = c.args.front.now.pages.items in
     let left = c.pop.new.self.items in
     let same : ps ≡ left ++ c.in-Some.page ∷ [] = c.pop.ensures.items ∙ ap (λ r. left ++ option_to_list r) c.in-Some.is in
     let zero_len = eqb-true _ _ (sym c.is_empty.ensures ∙ c.if-is_empty.true) in

@@ -8,11 +8,11 @@ use Rattle.token_words.proofs.Steps.{some_if, none_if, tokens-word, tokens-separ
 use Rattle.token_words.proofs.token_list.first_tokens.Goals as goal
 
 pub loop-segment-init : goal.loop-segment-init
-loop-segment-init c = rw (c.into_iter-segment-iterator.ensures.into_iter_gives, c.split_word_bounds-segment-items.ensures.left, c.new-list.ensures.items, concat-segments is_word_break c.args.text.now c.utf8.text) (record {
+loop-segment-init c = rw (c.into_iter-segment-iterator.ensures.into_iter_gives, c.split_word_bounds-segment-items.ensures.left, c.in_ok-list.ensures.items, concat-segments is_word_break c.args.text.now c.utf8.text) (record {
   told = refl;
   room = omega arith;
-  few = omega arith;
-  small = omega arith;
+  few = omega (arith, c.in_ok-list.ensures);
+  small = omega (arith, c.in_ok-list.ensures);
 })
 
 pub loop-segment-preserved-in_ok-push-in-Some-2 : goal.loop-segment-preserved-in_ok-push-in-Some-2

@@ -11,7 +11,8 @@ put_in-requires c = λ k d less.
 
 pub returns : goal.returns
 returns c = λ gone come documents change stood id.
-    c.put_in.ensures id
+    ap (row_at id) c.self.view_is
+    ∙ c.put_in.ensures id
     ∙ ap (come_at id (reverse c.prepared.inside.come.items))
     (c.take_out.ensures.each id ∙ ap (λ ids. left_at id (reverse (numbers ids)) (row_at id c.args.self.now)) c.as_slice.ensures.value)
     ∙ ap (λ prepared. come_at id prepared.come (left_at id prepared.gone (row_at id c.args.self.now))) c.prepared.view_is

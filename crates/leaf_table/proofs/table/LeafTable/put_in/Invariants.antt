@@ -1,5 +1,4 @@
 use Rattle.std.specs.Vec.Iter.{into_iter_items}
-use Rattle.leaf_table.specs.Tables.{table_rows}
 use Rattle.leaf_table.specs.Columns.{AreColumns}
 use Rattle.leaf_table.proofs.ChangeLemmas.{IsSetting}
 use Rattle.leaf_table.proofs.table.LeafTable.put_in.Given as goal
@@ -9,4 +8,4 @@ invariant-loop-row l =
     (goal.iterator-loop-row).can_next l.row-iterator ×
     (goal.iterator-loop-row).is_finite l.row-iterator ×
     IsSetting l.initial.self-inside.rows.items l.self-inside.rows.items (into_iter_items l.initial.row-iterator) (into_iter_items l.row-iterator) ×
-    AreColumns l.self-inside.columns.items (table_rows l.self-inside.rows.items)
+    AreColumns l.self-inside.columns.items l.self-inside.rows.items

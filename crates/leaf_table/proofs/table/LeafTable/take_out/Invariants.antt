@@ -1,5 +1,4 @@
 use Rattle.std.proofs.Common.{◌≡◌, ℕ, reverse, take, length}
-use Rattle.leaf_table.specs.Tables.{table_rows}
 use Rattle.leaf_table.specs.Columns.{AreColumns}
 use Rattle.leaf_table.specs.Changes.{numbers, left_at}
 use Rattle.leaf_table.proofs.ChangeLemmas.{kept_in}
@@ -10,5 +9,5 @@ invariant-loop-id l =
     record {
       each : (id : ℕ) → kept_in id l.self-inside.rows.items ≡ left_at id (reverse (numbers (take l.id-index l.gone))) (kept_in id l.initial.self-inside.rows.items);
       rows : length l.self-inside.rows.items ≡ length l.initial.self-inside.rows.items;
-      columns : AreColumns l.self-inside.columns.items (table_rows l.self-inside.rows.items);
+      columns : AreColumns l.self-inside.columns.items l.self-inside.rows.items;
     }
