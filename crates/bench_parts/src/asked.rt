@@ -2,8 +2,8 @@ ghost use Rattle.std.specs.Prelude.{IfOk};
 ghost use Rattle.search_base.specs.Graphs.{IsTerm};
 
 use doc_sets::{DocSet, DocSetBuilder};
-use near_words::documents_by_pair_cost;
-use posting_sets::{documents, documents_by_bucket};
+use near_words::{documents_by_pair_cost, documents_by_prefix_cost};
+use posting_sets::{PrefixPlaces, documents, documents_by_bucket};
 use postings::Postings;
 use search_base::{DocId, NoMemory, Term, Word};
 use std::alloc::Global;
@@ -82,11 +82,12 @@ pub(crate) fn asked(
             Ok(rows.len() as u64)
         }
         "near" => {
-            let sets = documents_by_pair_cost(alloc, universe, postings, &often, true, &begun)?;
+            let places = PrefixPlaces::new(alloc, postings, &begun)?;
+            let sets = documents_by_prefix_cost(alloc, universe, postings, &often, &places)?;
             Ok(greatest(sets))
         }
         _ => {
-            let sets = documents_by_pair_cost(alloc, universe, postings, &often, false, &seldom)?;
+            let sets = documents_by_pair_cost(alloc, universe, postings, &often, &seldom)?;
             Ok(greatest(sets))
         }
     }

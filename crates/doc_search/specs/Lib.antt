@@ -3,6 +3,7 @@ pub mod Rows
 pub mod Entries
 pub mod Matches
 pub mod Laws
+pub mod Lists
 pub mod Meeting
 pub mod Ranked
 pub mod Matched

@@ -1,11 +1,8 @@
-ghost use Rattle.std.specs.Prelude.{◌≡◌, ◌==◌, ◌<◌, ℕ, Bool, true, filter, reverse, IfOk, IfSome, IfNone, is_some};
+ghost use Rattle.std.specs.Prelude.{◌≡◌, ◌==◌, ◌<◌, ℕ, Bool, filter, reverse, IfOk, IfSome, IfNone};
 ghost use Rattle.std.specs.List.{AllByRecursion};
 ghost use Rattle.std.specs.Option.{option_copied};
 ghost use Rattle.search_base.specs.Whole.{whole_cost};
-ghost use Rattle.condition_graph.specs.Meets.{meets, IsRanked};
-ghost use Rattle.condition_graph.specs.Numbers.{number_of};
-ghost use Rattle.condition_graph.specs.Promise.{IsCondition};
-ghost use Rattle.path_costs.specs.Sets.{AreByNumber};
+ghost use Rattle.condition_graph.specs.Meets.{IsRanked};
 ghost use Rattle.sort_rule.specs.Numbers.{AreNumbered};
 ghost use Rattle.sort_rule.specs.Ordered.{AreOrdered};
 ghost use Rattle.sort_rule.specs.Rows.{is_under, IsNextFor, HasNoneAfter};
@@ -13,12 +10,9 @@ ghost use Rattle.rule_buckets.specs.Entries.{sort_entry};
 ghost use Rattle.doc_search.specs.Entries.{sort_keys};
 ghost use Rattle.doc_search.specs.Rows.{rows_at};
 
-use crate::by_number::meeting_by_number;
 use crate::indexed::IndexedRows;
-use crate::met::{meeting, meeting_at_hand};
 use crate::ordered::ordered;
 use bucket_sort::Bucket;
-use condition_graph::Condition;
 use doc_sets::DocSet;
 use search_base::{CostKey, DocId, NoMemory, PathId, Word};
 use std::alloc::Global;
@@ -39,61 +33,6 @@ pub(crate) fn above_ranks<I: IndexedRows>(rows: &I) -> u16
 {
     let count = rows.rank_count();
     count
-}
-
-/// The documents of the universe that meet a condition.
-pub(crate) fn documents_meeting<I: IndexedRows>(
-    alloc: Global,
-    rows: &I,
-    condition: &Condition,
-    universe: &DocSet,
-) -> Result<DocSet, NoMemory>
-    requires { IsCondition condition.now }
-    ensures { IfOk result (λ docs. docs.ids
-        ≡ filter (λ d. meets (rows_at (I.documents rows.now) d).places condition.now) universe.now.ids) }
-{
-    let index = rows.index();
-    let places = index.places();
-    let ranks = rows.ranks();
-    let docs = meeting(alloc, places, ranks, condition, universe)?;
-    Ok(docs)
-}
-
-/// The same, where it is known without a walk over a long list, and else none.
-pub(crate) fn documents_at_hand<I: IndexedRows>(
-    alloc: Global,
-    rows: &I,
-    condition: &Condition,
-    universe: &DocSet,
-) -> Result<Option<DocSet>, NoMemory>
-    requires { IsCondition condition.now }
-    ensures { IfOk result (λ found. IfSome found (λ docs. docs.ids
-        ≡ filter (λ d. meets (rows_at (I.documents rows.now) d).places condition.now) universe.now.ids)) }
-{
-    let index = rows.index();
-    let places = index.places();
-    let _ranks = rows.ranks();
-    let found = meeting_at_hand(alloc, places, condition, universe)?;
-    Ok(found)
-}
-
-/// The documents of the universe that meet a condition on a number, by the number.
-pub(crate) fn documents_by_number<I: IndexedRows>(
-    alloc: Global,
-    rows: &I,
-    condition: &Condition,
-    universe: &DocSet,
-) -> Result<Vec<(u16, DocSet)>, NoMemory>
-    requires condition { IsCondition condition.now }
-    requires number { is_some (number_of condition.now) ≡ true }
-    ensures { IfOk result (λ sets. AreByNumber (λ asked d. meets (rows_at (I.documents rows.now) d).places asked)
-        condition.now universe.now.ids sets.items) }
-{
-    let index = rows.index();
-    let places = index.places();
-    let ranks = rows.ranks();
-    let sets = meeting_by_number(alloc, places, ranks, condition, universe)?;
-    Ok(sets)
 }
 
 /// The documents of the universe that are so near to being these words.

@@ -3,12 +3,11 @@ ghost use Rattle.condition_graph.specs.Numbers.{number_of};
 ghost use Rattle.condition_graph.specs.Promise.{IsCondition};
 ghost use Rattle.doc_search.specs.Meeting.{AreMeetingByNumber};
 
+use crate::lists::SearchLists;
 use crate::parts::numbered;
 use condition_graph::Condition;
 use doc_sets::DocSet;
-use near_words::documents_by_pair_cost;
-use posting_sets::{documents_by_bucket, documents_by_rank, numbers_are_those_of_blocks};
-use postings::Postings;
+use posting_sets::numbers_are_those_of_blocks;
 use search_base::NoMemory;
 use std::alloc::Global;
 
@@ -17,15 +16,14 @@ use std::alloc::Global;
 /// are none. Where there is no memory, nothing has changed.
 pub fn meeting_by_number(
     alloc: Global,
-    postings: &Postings,
-    ranks: &[Option<u16>],
+    lists: &SearchLists<'_>,
     condition: &Condition,
     universe: &DocSet,
 ) -> Result<Vec<(u16, DocSet)>, NoMemory>
     requires condition { IsCondition condition.now }
     requires number { is_some (number_of condition.now) ≡ true }
     ensures { IfOk result (λ rows.
-        AreMeetingByNumber postings.now ranks.now condition.now universe.now.ids rows.items) }
+        AreMeetingByNumber lists.now.postings lists.now.ranks condition.now universe.now.ids rows.items) }
 {
     numbers_are_those_of_blocks();
     match condition {
@@ -36,17 +34,10 @@ pub fn meeting_by_number(
             right_prefix,
             ..
         } => {
-            let sets = documents_by_pair_cost(
-                alloc,
-                universe,
-                postings,
-                left,
-                *right_prefix,
-                right,
-            )?;
+            let sets = lists.by_pair_cost(alloc, left, *right_prefix, right, universe)?;
             numbered(alloc, sets)
         }
-        Condition::AtRank { term, .. } => documents_by_rank(alloc, postings, term, ranks, universe),
-        Condition::AtBucket { term, .. } => documents_by_bucket(alloc, postings, term, universe),
+        Condition::AtRank { term, .. } => lists.by_rank(alloc, term, universe),
+        Condition::AtBucket { term, .. } => lists.by_bucket(alloc, term, universe),
     }
 }

@@ -51,7 +51,7 @@ pub fn search_distinct<V: Values, G>(
         window,
         counts,
     } = search;
-    let snapshot = Snapshot::new(documents);
+    let snapshot = Snapshot::of_query(alloc, documents, query)?;
     let rules = rules_over(alloc, &snapshot, query, filter, rules)?;
     let matching = rules.matching();
     let all = copy_of(matching)?;

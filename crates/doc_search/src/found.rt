@@ -63,7 +63,7 @@ pub fn search_documents<G>(
         window,
         counts,
     } = search;
-    let snapshot = Snapshot::new(documents);
+    let snapshot = Snapshot::of_query(alloc, documents, query)?;
     let rules = rules_over(alloc, &snapshot, query, filter, rules)?;
     let hits = page(alloc, &rules, window, log, openings)?;
     with_counts(alloc, documents, rules.matching(), counts, hits)

@@ -1,58 +1,46 @@
-ghost use Rattle.std.specs.Prelude.{ℕ, List, Option, IfOk, IfSome};
+ghost use Rattle.std.specs.Prelude.{IfOk, IfSome};
 ghost use Rattle.condition_graph.specs.Promise.{IsCondition};
 ghost use Rattle.doc_search.specs.Meeting.{AreMeeting};
 
+use crate::lists::SearchLists;
 use crate::parts::{copy_of, nth, set_at};
 use condition_graph::Condition;
 use doc_sets::DocSet;
-use near_words::documents_by_pair_cost;
-use posting_sets::{
-    documents, documents_at_first, documents_by_bucket, documents_by_rank,
-    numbers_are_those_of_blocks,
-};
-use postings::Postings;
+use posting_sets::numbers_are_those_of_blocks;
 use search_base::NoMemory;
 use std::alloc::Global;
 
-/// The documents of the universe that meet a condition, such as a condition graph has. The ranks are given by path, and
-/// are those of the documents' places; an id of the universe that no document has meets the free condition alone. Where
-/// there is no memory, nothing has changed.
+/// The documents of the universe that meet a condition, such as a condition graph has. The ranks of the lists are those
+/// of the documents' places; an id of the universe that no document has meets the free condition alone. Where there is
+/// no memory, nothing has changed.
 pub fn meeting(
     alloc: Global,
-    postings: &Postings,
-    ranks: &[Option<u16>],
+    lists: &SearchLists<'_>,
     condition: &Condition,
     universe: &DocSet,
 ) -> Result<DocSet, NoMemory>
     requires { IsCondition condition.now }
-    ensures { IfOk result (λ set. AreMeeting postings.now ranks.now condition.now universe.now.ids set.ids) }
+    ensures { IfOk result (λ set. AreMeeting lists.now.postings lists.now.ranks condition.now universe.now.ids set.ids) }
 {
     numbers_are_those_of_blocks();
     match condition {
         Condition::Free => copy_of(universe),
-        Condition::Occurs(term) => documents(alloc, postings, term, universe),
+        Condition::Occurs(term) => lists.documents(alloc, term, universe),
         Condition::Pair {
             left,
             right,
             right_prefix,
             cost,
         } => {
-            let sets = documents_by_pair_cost(
-                alloc,
-                universe,
-                postings,
-                left,
-                *right_prefix,
-                right,
-            )?;
+            let sets = lists.by_pair_cost(alloc, left, *right_prefix, right, universe)?;
             Ok(nth(alloc, sets, usize::from(*cost)))
         }
         Condition::AtRank { term, rank } => {
-            let rows = documents_by_rank(alloc, postings, term, ranks, universe)?;
+            let rows = lists.by_rank(alloc, term, universe)?;
             set_at(alloc, rows.as_slice(), *rank)
         }
         Condition::AtBucket { term, bucket } => {
-            let rows = documents_by_bucket(alloc, postings, term, universe)?;
+            let rows = lists.by_bucket(alloc, term, universe)?;
             set_at(alloc, rows.as_slice(), u16::from(*bucket))
         }
     }
@@ -62,13 +50,13 @@ pub fn meeting(
 /// bucket alone.
 pub(crate) fn meeting_at_hand(
     alloc: Global,
-    postings: &Postings,
+    lists: &SearchLists<'_>,
     condition: &Condition,
     universe: &DocSet,
 ) -> Result<Option<DocSet>, NoMemory>
     requires { IsCondition condition.now }
-    ensures { IfOk result (λ found. IfSome found (λ set. (ranks : List (Option ℕ))
-        → AreMeeting postings.now ranks condition.now universe.now.ids set.ids)) }
+    ensures { IfOk result (λ found. IfSome found (λ set.
+        AreMeeting lists.now.postings lists.now.ranks condition.now universe.now.ids set.ids)) }
 {
     numbers_are_those_of_blocks();
     let Condition::AtBucket { term, bucket } = condition else {
@@ -77,6 +65,6 @@ pub(crate) fn meeting_at_hand(
     if *bucket != 0 {
         return Ok(None);
     }
-    let found = documents_at_first(alloc, postings, term, universe)?;
+    let found = lists.at_first(alloc, term, universe)?;
     Ok(found)
 }

@@ -1,15 +1,17 @@
-ghost use Rattle.std.specs.Prelude.{◌≡◌};
+ghost use Rattle.std.specs.Prelude.{◌≡◌, IfOk};
 
 use crate::answers::{
-    above_ranks, documents_at_cost, documents_at_hand, documents_by_number, documents_meeting,
-    documents_under, next_entry, numbers_under, ordered_under,
+    above_ranks, documents_at_cost, documents_under, next_entry, numbers_under, ordered_under,
 };
+use crate::by_number::meeting_by_number;
 use crate::indexed::IndexedRows;
+use crate::lists::SearchLists;
+use crate::met::{meeting, meeting_at_hand};
 use bucket_sort::Bucket;
 use condition_graph::Condition;
 use doc_sets::DocSet;
 use rule_buckets::RuleSource;
-use search_base::{CostKey, DocId, NoMemory, PathId, Word};
+use search_base::{CostKey, DocId, Graph, NoMemory, PathId, Word};
 use std::alloc::Global;
 use std::marker::Model;
 
@@ -17,20 +19,48 @@ use std::marker::Model;
 #[derive(Drop)]
 pub struct Snapshot<'a, I: IndexedRows> {
     rows: &'a I,
+    lists: SearchLists<'a>,
 }
 
 impl<'a, I: IndexedRows> Model for Snapshot<'a, I> {
+    ghost use Rattle.std.specs.Prelude.{map};
+    ghost use Rattle.postings.specs.Fresh.{StandsFor};
+    ghost use Rattle.posting_sets.specs.Blocks.{HaveRanks};
+    ghost use Rattle.row_index.specs.Standing.{placed};
+
     ghost Value = { I };
 
     ghost view = { λ snapshot. snapshot.rows.now };
+
+    ghost invariant = { λ snapshot.
+        StandsFor snapshot.lists.postings (map placed (I.documents snapshot.rows.now))
+        × HaveRanks snapshot.lists.ranks (map placed (I.documents snapshot.rows.now)) };
 }
 
 impl<'a, I: IndexedRows> Snapshot<'a, I> {
     /// The snapshot of an index as it is. Takes no memory.
-    pub fn new(rows: &'a I) -> Snapshot<'a, I>
+    pub fn new(alloc: Global, rows: &'a I) -> Snapshot<'a, I>
         ensures { result ≡ rows.now }
     {
-        Snapshot { rows }
+        let index = rows.index();
+        Snapshot {
+            rows,
+            lists: SearchLists::new(alloc, index.places(), rows.ranks()),
+        }
+    }
+
+    /// The same, where a query is asked of it: the places of each prefix of the query are gathered once. An error is
+    /// want of memory.
+    pub fn of_query(
+        alloc: Global,
+        rows: &'a I,
+        query: &'a Graph,
+    ) -> Result<Snapshot<'a, I>, NoMemory>
+        ensures { IfOk result (λ made. made ≡ rows.now) }
+    {
+        let mut made = Snapshot::new(alloc, rows);
+        made.lists.gather_all(alloc, query)?;
+        Ok(made)
     }
 
     /// What has the index. Takes no memory.
@@ -62,7 +92,7 @@ impl<'a, I: IndexedRows> RuleSource for Snapshot<'a, I> {
         condition: &Condition,
         universe: &DocSet,
     ) -> Result<DocSet, NoMemory> {
-        documents_meeting(alloc, self.rows, condition, universe)
+        meeting(alloc, &self.lists, condition, universe)
     }
 
     fn at_hand(
@@ -71,7 +101,7 @@ impl<'a, I: IndexedRows> RuleSource for Snapshot<'a, I> {
         condition: &Condition,
         universe: &DocSet,
     ) -> Result<Option<DocSet>, NoMemory> {
-        documents_at_hand(alloc, self.rows, condition, universe)
+        meeting_at_hand(alloc, &self.lists, condition, universe)
     }
 
     fn meeting_by_number(
@@ -80,7 +110,7 @@ impl<'a, I: IndexedRows> RuleSource for Snapshot<'a, I> {
         condition: &Condition,
         universe: &DocSet,
     ) -> Result<Vec<(u16, DocSet)>, NoMemory> {
-        documents_by_number(alloc, self.rows, condition, universe)
+        meeting_by_number(alloc, &self.lists, condition, universe)
     }
 
     fn at_whole_cost(

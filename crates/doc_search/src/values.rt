@@ -24,7 +24,7 @@ pub fn facet_values(
     requires { IsGraph query.now }
     ensures { IfOk result (λ rows. rows.items ≡ values_in documents.now query.now (view filter.now) asked.now) }
 {
-    let snapshot = Snapshot::new(documents);
+    let snapshot = Snapshot::new(alloc, documents);
     let rules = rules_over(alloc, &snapshot, query, filter, &[])?;
     let rows = counts_from(
         alloc,

@@ -4,7 +4,8 @@ ghost use Rattle.postings.specs.Dictionary.{list_at};
 ghost use Rattle.facet_index.specs.Places.{has_document};
 
 use doc_sets::{DocSet, DocSetBuilder, operations_are_on_members, sets_are_their_members};
-use postings::{PostingList, Postings};
+use posting_list::PostingList;
+use postings::Postings;
 use search_base::{DocId, NoMemory, Word};
 use sorted_pages::SortedPages;
 use std::alloc::Global;

@@ -7,7 +7,8 @@ ghost use Rattle.facet_index.specs.Ranges.{is_listed, PassesInside};
 
 use crate::lists::{add_documents, finish};
 use doc_sets::{DocSet, DocSetBuilder};
-use postings::{PostingList, Postings, WordLists};
+use posting_list::PostingList;
+use postings::{Postings, WordLists};
 use search_base::{NoMemory, Word};
 use std::alloc::Global;
 use std::ops::Bound;

@@ -56,8 +56,8 @@ impl LeafTable {
         }
     }
 
-    /// The leaves of the document of this id, and none where there is no such document. Each is shared by documents that
-    /// have the same. Takes no memory.
+    /// The leaves of the document of this id, and none where there is no such document. Each is shared by documents
+    /// that have the same. Takes no memory.
     pub fn leaves(&self, id: DocId) -> &[Rc<Leaf>]
         ensures { map rc_value result.now ≡ kept_at id.0 self.now }
     {
@@ -113,8 +113,8 @@ impl LeafTable {
     }
 
     /// Takes all memory that the change needs: there is a row for each id up to the greatest that comes. A leaf that a
-    /// row has already is shared with it, where it is known. The leaves of each document stay as they were, whatever the
-    /// result; after a refusal some empty rows may be left behind.
+    /// row has already is shared with it, where it is known. The leaves of each document stay as they were, whatever
+    /// the result; after a refusal some empty rows may be left behind.
     pub fn prepare(&mut self, change: LeafChange) -> Result<PreparedLeaves, NoMemory>
         ensures same { (id : ℕ) → row_at id self.new ≡ row_at id self.old }
         ensures made { IfOk result (λ prepared. prepared ≡ change) }

@@ -6,7 +6,7 @@ ghost use Rattle.list_facets.specs.Hits.{ids_of, AreHits, IsWhole};
 
 use crate::matching::Matching;
 use doc_sets::{DocSet, sets_are_their_members};
-use postings::PostingList;
+use posting_list::PostingList;
 use search_base::{DocId, NoMemory};
 use sorted_pages::SortedPages;
 

@@ -12,7 +12,8 @@ use crate::spellings::{rest_of, shown_in};
 use doc_sets::DocSet;
 use facet_counts::CountRow;
 use facet_keys::{counted_key, keys_tell_facets_apart};
-use postings::{PostingList, Postings};
+use posting_list::PostingList;
+use postings::Postings;
 use search_base::{NoMemory, PathId, Word};
 use std::alloc::Global;
 

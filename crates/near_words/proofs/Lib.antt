@@ -6,3 +6,4 @@ pub mod StandLemmas
 pub mod ReadLemmas
 pub mod InsideLemmas
 pub mod NarrowLemmas
+pub mod GatherLemmas

@@ -1,38 +1,32 @@
 -- The entries of a document's words, of all that stand in some documents.
-use Rattle.std.proofs.Common.{◌≡◌, ℕ, ◌+◌, ◌*◌, ◌/◌, ◌^◌, ◌<◌, ◌==◌, Bool, true, false, ◌&&◌, ◌||◌, cond, List, [], ◌∷◌, map, flat_map, nat_eq, None, Some, refl, sym, ap, ap₂, subst, ◌∙◌, inl, inr, arith}
-use Rattle.std.specs.declared.cmp.Ordering.TheVariants.{Less}
+use Rattle.std.proofs.Common.{◌≡◌, ℕ, ◌+◌, ◌*◌, ◌/◌, ◌^◌, ◌<◌, ◌==◌, Bool, true, false, ◌&&◌, ◌||◌, cond, List, [], ◌∷◌, map, nat_eq, refl, sym, ap, ap₂, subst, ◌∙◌, arith}
 use Rattle.std.specs.List.{list_any, starts_with, range_with_len}
-use Rattle.std.specs.List.Sorted.{IsStrictlySortedBy}
-use Rattle.std.specs.Map.{keys_of}
-use Rattle.std.specs.Ordering.{is_eq}
 use Rattle.std.specs.Str.{bytes_eq}
-use Rattle.std.proofs.lemmas.Bool.{cond-true, cond-false, eqb-true, eq-eqb}
-use Rattle.std.proofs.lemmas.Map.Keys.{sorted_head, sorted_tail}
+use Rattle.std.proofs.lemmas.Bool.{eqb-true, eq-eqb, false_from_ne_true}
 use Rattle.std.proofs.lemmas.Map.Text.{is_eq-slice_cmp}
 use Rattle.search_base.specs.declared.document.Place.{Place}
-use Rattle.search_base.specs.Occurrence.{is_asked}
+use Rattle.search_base.specs.Occurrence.{is_asked, is_word_at, words_stand_at}
 use Rattle.search_base.specs.PairCost.{asked_cost}
 use Rattle.search_base.proofs.AnyLemmas.{list_any-same}
-use Rattle.search_base.proofs.Members.{Among, All-among, Among-flat_map, Among-flat_mapped}
+use Rattle.search_base.proofs.Members.{All-among}
 use Rattle.doc_sets.specs.Sets.{has as has_id}
 use Rattle.sorted_pages.specs.Entries.{has}
 use Rattle.sorted_pages.proofs.SetLemmas.{has-filter}
 use Rattle.postings.specs.Documents.{Document, entry_of, stands, has_id as names, AreNarrow, AllNarrow, AreApart, places_of}
-use Rattle.postings.specs.Dictionary.{PostingsView, word_cmp, value_at, list_at, some_list}
+use Rattle.postings.specs.Dictionary.{PostingsView, list_at}
 use Rattle.postings.specs.Fresh.{StandsFor}
-use Rattle.postings.proofs.WordLemmas.{same_word, itself, turned, bytes_itself}
+use Rattle.postings.proofs.WordLemmas.{turned}
 use Rattle.near_words.specs.EntryCost.{AreEntriesOf}
 use Rattle.near_words.specs.ByCost.{run_of, cost_in, ids_at, ids_by_cost}
-use Rattle.near_words.specs.Inside.{inside, stands_by}
-use Rattle.near_words.proofs.DocumentLemmas.{any_among, among_any, among_has, has_among, document_cost}
+use Rattle.posting_sets.specs.Entries.{document_of, path_of, position_of}
+use Rattle.posting_sets.specs.Prefixes.{PrefixView, in_rows, AreGathered}
+use Rattle.posting_sets.proofs.PlaceLemmas.{is_there as at_parts}
+use Rattle.near_words.proofs.DocumentLemmas.{any_among, document_cost}
 
 both : (a b : Bool) → (a && b) ≡ true → (a ≡ true) × (b ≡ true)
 both true true h = (refl, refl)
 both true false h = absurd (cc)
 both false b h = absurd (cc)
-
-and_true : (a b : Bool) → a ≡ true → b ≡ true → (a && b) ≡ true
-and_true a b h k = ap₂ ◌&&◌ h k
 
 or_true : (b : Bool) → (b || true) ≡ true
 or_true true = refl
@@ -41,11 +35,6 @@ or_true false = refl
 clash : (b : Bool) → b ≡ true → b ≡ false → ⊥
 clash true h k = cc
 clash false h k = cc
-
-same_truth : (a b : Bool) → (a ≡ true → b ≡ true) → (b ≡ true → a ≡ true) → a ≡ b
-same_truth true b f g = sym (f refl)
-same_truth false true f g = g refl
-same_truth false false f g = refl
 
 -- ---- one document
 abbrev is_there : (List ℕ → Bool) → ℕ → ℕ → Place → Bool
@@ -86,6 +75,10 @@ last true true false never = refl
 last true false false never = refl
 last false later at never = refl
 
+-- a word that passes a test stands at the entry in some document
+abbrev stands_by : (List ℕ → Bool) → ℕ → List Document → Bool
+stands_by is_word entry documents = list_any (λ document. list_any (is_there is_word entry document.id) document.places) documents
+
 -- of what stands in the documents, that of one document stands at its places
 stands_at_home : (is_word : List ℕ → Bool) (entry id : ℕ) (documents : List Document) → AllNarrow documents → AreApart documents
     → (stands_by is_word entry documents && (entry / 2 ^ 32 == id)) ≡ list_any (is_there is_word entry id) (places_of id documents)
@@ -125,17 +118,57 @@ word_entries view documents word id fresh = record {
       ∙ list_any-same _ _ (λ place. ap (λ b. b && (entry_of id place == entry)) (turned_bytes place.word word)) (places_of id documents);
 }
 
+-- ---- the words that begin so
+swapped : (a b : Bool) → (a && b) ≡ (b && a)
+swapped true true = refl
+swapped true false = refl
+swapped false true = refl
+swapped false false = refl
+
+-- where a word stands that begins so, by its path and position
+abbrev begins_so : List ℕ → ℕ → List Place → Bool
+begins_so prefix entry places = words_stand_at places true (path_of entry) (position_of entry) (prefix ∷ [])
+
+begins_there : (prefix : List ℕ) (entry : ℕ) (places : List Place) → AreNarrow places
+    → list_any (is_word_at true (path_of entry) (position_of entry) prefix) places ≡ list_any (is_there (λ word. starts_with nat_eq word prefix) entry (document_of entry)) places
+begins_there prefix entry [] narrow = refl
+begins_there prefix entry (place ∷ places) narrow =
+    ap₂ ◌||◌ (swapped ((place.path.0 == path_of entry) && (place.position == position_of entry)) (starts_with nat_eq place.word prefix)
+    ∙ ap (λ b. starts_with nat_eq place.word prefix && b) (sym (at_parts entry place narrow.0)))
+    (begins_there prefix entry places narrow.1)
+
+begins_at_home : (documents : List Document) → AllNarrow documents → (prefix : List ℕ) (entry id : ℕ)
+    → (begins_so prefix entry (places_of (document_of entry) documents) && (entry / 2 ^ 32 == id)) ≡ list_any (is_there (λ word. starts_with nat_eq word prefix) entry id) (places_of id documents)
+begins_at_home documents narrow prefix entry id = by (entry / 2 ^ 32 == id) refl
+  where
+    one : (b : Bool) → ((b && true) && true) ≡ b
+    one true = refl
+    one false = refl
+
+    none : (b : Bool) → (b && false) ≡ false
+    none true = refl
+    none false = refl
+
+    by : (b : Bool) → (entry / 2 ^ 32 == id) ≡ b
+        → (begins_so prefix entry (places_of (document_of entry) documents) && b) ≡ list_any (is_there (λ word. starts_with nat_eq word prefix) entry id) (places_of id documents)
+    by true e = subst (λ (n : ℕ). (begins_so prefix entry (places_of (document_of entry) documents) && true) ≡ list_any (is_there (λ word. starts_with nat_eq word prefix) entry n) (places_of n documents))
+        (eqb-true _ _ e)
+        (one (list_any (is_word_at true (path_of entry) (position_of entry) prefix) (places_of (document_of entry) documents))
+        ∙ begins_there prefix entry (places_of (document_of entry) documents) (narrow_places (document_of entry) documents narrow))
+    by false e = none (begins_so prefix entry (places_of (document_of entry) documents))
+        ∙ sym (false_from_ne_true _ (λ h. clash (entry / 2 ^ 32 == id) (eq-eqb _ _ (home (λ word. starts_with nat_eq word prefix) entry id (places_of id documents) (narrow_places id documents narrow) h)) e))
+
 -- the entries of the words that begin so
-pub prefix_entries : (view : PostingsView) (documents : List Document) (universe entries prefix : List ℕ) (id : ℕ) → StandsFor view documents → has_id universe id ≡ true
-    → ((entry : ℕ) → has entries entry ≡ (stands_by (λ word. starts_with nat_eq word prefix) entry documents && has_id universe (entry / 2 ^ 32)))
-    → AreEntriesOf id (places_of id documents) (is_asked true prefix) (run_of id entries)
-prefix_entries view documents universe entries prefix id fresh member told = record {
+pub prefix_entries : (documents : List Document) (view : PrefixView) → AreGathered documents view → (universe entries : List ℕ) (id : ℕ) → has_id universe id ≡ true
+    → ((entry : ℕ) → has entries entry ≡ (in_rows view entry && has_id universe (entry / 2 ^ 32)))
+    → AreEntriesOf id (places_of id documents) (is_asked true view.prefix) (run_of id entries)
+prefix_entries documents view are universe entries id member told = record {
   each = λ entry.
       has-filter (λ e. e / 2 ^ 32 == id) entries entry
       ∙ ap (λ b. b && (entry / 2 ^ 32 == id)) (told entry)
-      ∙ by (stands_by (λ word. starts_with nat_eq word prefix) entry documents) (has_id universe (entry / 2 ^ 32)) (entry / 2 ^ 32 == id)
-      (λ is. ap (has_id universe) (eqb-true _ _ is) ∙ member)
-      ∙ stands_at_home (λ word. starts_with nat_eq word prefix) entry id documents fresh.narrow fresh.apart;
+      ∙ by (in_rows view entry) (has_id universe (entry / 2 ^ 32)) (entry / 2 ^ 32 == id) (λ is. ap (has_id universe) (eqb-true _ _ is) ∙ member)
+      ∙ ap (λ b. b && (entry / 2 ^ 32 == id)) (are.each entry)
+      ∙ begins_at_home documents are.narrow view.prefix entry id;
 }
   where
     by : (there inside at : Bool) → (at ≡ true → inside ≡ true) → ((there && inside) && at) ≡ (there && at)
@@ -143,96 +176,6 @@ prefix_entries view documents universe entries prefix id fresh member told = rec
     by true true false is = refl
     by true false false is = refl
     by false inside at is = refl
-
--- ---- all words that begin so
-module _ {X : Type 0} where
-  found_at : (rows : List (List ℕ × X)) (word : List ℕ) (value : X) → value_at word rows ≡ Some value → (row : List ℕ × X) × Among rows row × (row.1 ≡ value)
-  found_at [] word value h = absurd (cc)
-  found_at (r ∷ rs) word value h = by (is_eq (word_cmp word r.0)) h (found_at rs word value)
-    where
-      by : (b : Bool) → cond b (Some r.1) (value_at word rs) ≡ Some value → (value_at word rs ≡ Some value → (row : List ℕ × X) × Among rs row × (row.1 ≡ value)) → (row : List ℕ × X) × Among (r ∷ rs) row × (row.1 ≡ value)
-      by true h later = (r, inl refl, (cc))
-      by false h later = let found = later h in (found.0, inr found.1, found.2)
-
-  among_keys : (rows : List (List ℕ × X)) (row : List ℕ × X) → Among rows row → Among (keys_of rows) row.0
-  among_keys [] row h = absurd h
-  among_keys (r ∷ rs) row (inl same) = inl (ap (λ (x : List ℕ × X). x.0) same)
-  among_keys (r ∷ rs) row (inr later) = inr (among_keys rs row later)
-
-  value_of : (rows : List (List ℕ × X)) (row : List ℕ × X) → IsStrictlySortedBy word_cmp (keys_of rows) → Among rows row → value_at row.0 rows ≡ Some row.1
-  value_of [] row sorted h = absurd h
-  value_of (r ∷ rs) row sorted (inl same) =
-      let here : is_eq (word_cmp row.0 r.0) ≡ true = ap (λ (x : List ℕ × X). is_eq (word_cmp row.0 x.0)) same ∙ itself row.0 in
-      cond-true _ _ _ here ∙ ap (λ (x : List ℕ × X). Some x.1) same
-  value_of (r ∷ rs) row sorted (inr later) =
-      let less = All-among (λ key. word_cmp r.0 key ≡ Less) (keys_of rs) row.0 (sorted_head word_cmp r.0 (keys_of rs) sorted) (among_keys rs row later) in
-      cond-false _ _ _ (turned row.0 r.0 ∙ ap is_eq less) ∙ value_of rs row (sorted_tail word_cmp r.0 (keys_of rs) sorted) later
-
-any_weaker : {X : Type 0} (p q : X → Bool) → ((x : X) → p x ≡ true → q x ≡ true) → (xs : List X) → list_any p xs ≡ true → list_any q xs ≡ true
-any_weaker p q f xs h = let found = any_among p xs h in among_any q xs found.0 found.1 (f found.0 found.2)
-
-same_bytes : (a b : List ℕ) → bytes_eq a b ≡ true → a ≡ b
-same_bytes a b h = same_word a b (is_eq-slice_cmp a b ∙ h)
-
--- where a word stands that passes, one that passes stands, and the other way round
-stands_passing : (is_word : List ℕ → Bool) (word : List ℕ) (entry : ℕ) (documents : List Document) → is_word word ≡ true → stands word entry documents ≡ true → stands_by is_word entry documents ≡ true
-stands_passing is_word word entry documents passes = any_weaker _ _ (λ d. any_weaker _ _ (λ place h.
-    let told = both (bytes_eq place.word word) (entry_of d.id place == entry) h in
-    and_true _ _ (ap is_word (same_bytes place.word word told.0) ∙ passes) told.1) d.places) documents
-
-passing_stands : (is_word : List ℕ → Bool) (entry : ℕ) (documents : List Document) → stands_by is_word entry documents ≡ true → (word : List ℕ) × (is_word word ≡ true) × (stands word entry documents ≡ true)
-passing_stands is_word entry documents h =
-    let d = any_among (λ (document : Document). list_any (is_there is_word entry document.id) document.places) documents h in
-    let place = any_among (is_there is_word entry d.0.id) d.0.places d.2 in
-    let word = place.0.word in
-    let told = both (is_word word) (entry_of d.0.id place.0 == entry) place.2 in (
-      word,
-      told.0,
-      among_any (λ (document : Document). list_any (is_there (λ w. bytes_eq w word) entry document.id) document.places) documents d.0 d.1
-          (among_any (is_there (λ w. bytes_eq w word) entry d.0.id) d.0.places place.0 place.1 (and_true _ _ (bytes_itself word) told.1)),
-    )
-
-shown : (b : Bool) (list value : List ℕ) → cond b (some_list list) None ≡ Some value → (b ≡ true) × (list ≡ value)
-shown true [] value h = absurd (cc)
-shown true (x ∷ xs) value h = (refl, (cc))
-shown false list value h = absurd (cc)
-
-some_of : (list : List ℕ) (x : ℕ) → has list x ≡ true → some_list list ≡ Some list
-some_of [] x h = absurd (cc)
-some_of (y ∷ ys) x h = refl
-
-abbrev pub AreShown : List (List ℕ × List ℕ) → List ℕ → PostingsView → Type 0
-AreShown rows prefix view = (word : List ℕ) → value_at word rows ≡ cond (starts_with nat_eq word prefix) (some_list (list_at word view)) None
-
-has_all : (universe : List ℕ) (rows : List (List ℕ × List ℕ)) (entry : ℕ) → Among (flat_map (λ row. inside universe row.1) rows) entry
-    → (row : List ℕ × List ℕ) × Among rows row × (has row.1 entry ≡ true) × (has_id universe (entry / 2 ^ 32) ≡ true)
-has_all universe rows entry h =
-    let found = Among-flat_map (λ (row : List ℕ × List ℕ). inside universe row.1) rows entry h in
-    let told = both _ _ (sym (has-filter (λ e. has_id universe (e / 2 ^ 32)) found.0.1 entry) ∙ among_has (inside universe found.0.1) entry found.2) in
-    (found.0, found.1, told.0, told.1)
-
-pub gathered_entries : (universe prefix : List ℕ) (view : PostingsView) (documents : List Document) (rows : List (List ℕ × List ℕ)) → AreShown rows prefix view
-    → IsStrictlySortedBy word_cmp (keys_of rows) → StandsFor view documents → (entry : ℕ)
-    → has (flat_map (λ row. inside universe row.1) rows) entry ≡ (stands_by (λ word. starts_with nat_eq word prefix) entry documents && has_id universe (entry / 2 ^ 32))
-gathered_entries universe prefix view documents rows are_shown sorted fresh entry = same_truth _ _ forth back
-  where
-    forth : has (flat_map (λ row. inside universe row.1) rows) entry ≡ true → (stands_by (λ word. starts_with nat_eq word prefix) entry documents && has_id universe (entry / 2 ^ 32)) ≡ true
-    forth h =
-        let found = has_all universe rows entry (has_among _ entry h) in
-        let row = found.0 in
-        let told = shown (starts_with nat_eq row.0 prefix) (list_at row.0 view) row.1 (sym (are_shown row.0) ∙ value_of rows row sorted found.1) in
-        let there : stands row.0 entry documents ≡ true = sym (fresh.each row.0 entry) ∙ ap (λ v. has v entry) told.1 ∙ found.2 in
-        and_true _ _ (stands_passing (λ word. starts_with nat_eq word prefix) row.0 entry documents told.0 there) found.3
-
-    back : (stands_by (λ word. starts_with nat_eq word prefix) entry documents && has_id universe (entry / 2 ^ 32)) ≡ true → has (flat_map (λ row. inside universe row.1) rows) entry ≡ true
-    back h =
-        let told = both _ _ h in
-        let word = passing_stands (λ word. starts_with nat_eq word prefix) entry documents told.0 in
-        let list = list_at word.0 view in
-        let there : has list entry ≡ true = fresh.each word.0 entry ∙ word.2 in
-        let found = found_at rows word.0 list (are_shown word.0 ∙ cond-true _ _ _ word.1 ∙ some_of list entry there) in
-        among_has _ entry (Among-flat_mapped (λ (row : List ℕ × List ℕ). inside universe row.1) rows found.0 entry found.1
-        (has_among _ entry (has-filter (λ e. has_id universe (e / 2 ^ 32)) found.0.1 entry ∙ and_true _ _ (ap (λ v. has v entry) found.2 ∙ there) told.1)))
 
 -- ---- the costs of all documents of a universe
 ids_same : (f g : ℕ → ℕ) (k : ℕ) (ids : List ℕ) → ((id : ℕ) → has_id ids id ≡ true → f id ≡ g id) → ids_at f ids k ≡ ids_at g ids k

@@ -1,5 +1,4 @@
-ghost use Rattle.std.specs.Prelude.{◌≡◌, ℕ, List, [], ◌++◌, ◌&&◌, ◌/◌, ◌^◌, nat_eq, map, IfOk, OnOk};
-ghost use Rattle.std.specs.List.{starts_with};
+ghost use Rattle.std.specs.Prelude.{◌≡◌, ℕ, true, false, List, [], ◌++◌, ◌&&◌, ◌/◌, ◌^◌, map, flat_map, IfOk, OnOk};
 ghost use Rattle.search_base.specs.PairCost.{pair_cost, asked_cost};
 ghost use Rattle.doc_sets.specs.Sets.{has as has_id};
 ghost use Rattle.sorted_pages.specs.Entries.{has, IsIncreasing};
@@ -7,15 +6,17 @@ ghost use Rattle.postings.specs.Documents.{Document, places_of};
 ghost use Rattle.postings.specs.Dictionary.{list_at};
 ghost use Rattle.postings.specs.Fresh.{StandsFor};
 ghost use Rattle.near_words.specs.ByCost.{ids_by_cost};
-ghost use Rattle.near_words.specs.Inside.{inside, stands_by};
+ghost use Rattle.posting_sets.specs.Prefixes.{in_rows, AreGathered};
+ghost use Rattle.near_words.specs.Inside.{inside};
 ghost use Rattle.near_words.specs.Narrowed.{AreNarrowed};
 
 use crate::by_document::{document, read, seek};
 use crate::costs::documents_by_cost;
 use doc_sets::DocSet;
-use posting_sets::documents;
+use posting_list::PostingList;
+use posting_sets::{PrefixPlaces, documents};
 use postings::Postings;
-use search_base::{NoMemory, Term, Word};
+use search_base::{DocId, NoMemory, Term, Word};
 use sorted_pages::SortedPages;
 use std::alloc::Global;
 
@@ -59,64 +60,62 @@ fn in_order(entries: Vec<u64>) -> Vec<u64>
     entries
 }
 
-// The entries in the universe of all words that begin so, list after list.
-fn gathered(
+// Adds the places of a row whose documents are in the universe.
+fn add_row_inside(universe: &DocSet, row: &[u64], entries: &mut Vec<u64>) -> Result<(), NoMemory>
+    ensures { OnOk result (entries.new.items ≡ entries.old.items ++ inside universe.now.ids row.now) }
+{
+    for entry in row {
+        if universe.contains(DocId((*entry / 0x1_0000_0000) as u32)) {
+            entries.push(*entry)?;
+        }
+    }
+    Ok(())
+}
+
+// Adds the entries of some lists whose documents are in the universe, list after list.
+fn add_lists_inside(
+    universe: &DocSet,
+    lists: &[&PostingList],
+    entries: &mut Vec<u64>,
+) -> Result<(), NoMemory>
+    ensures { OnOk result (entries.new.items
+        ≡ entries.old.items ++ flat_map (λ list. inside universe.now.ids list.now.entries) lists.now) }
+{
+    for list in lists {
+        add_inside(universe, list.pages(), entries)?;
+    }
+    Ok(())
+}
+
+// The places in the universe of all words that begin so.
+fn places_inside(
     alloc: Global,
     universe: &DocSet,
-    postings: &Postings,
-    prefix: &Word,
+    prefix: &PrefixPlaces<'_>,
 ) -> Result<Vec<u64>, NoMemory>
-    ensures { IfOk result (λ entries. (documents : List Document) → StandsFor postings.now documents
-        → (entry : ℕ) → has entries.items entry ≡ (stands_by (λ word. starts_with nat_eq word prefix.now) entry documents
-        && has_id universe.now.ids (entry / 2 ^ 32))) }
+    ensures { IfOk result (λ entries. (entry : ℕ) → has entries.items entry
+        ≡ (in_rows prefix.now entry && has_id universe.now.ids (entry / 2 ^ 32))) }
 {
     let mut entries = Vec::new(alloc);
-    for (_word, list) in postings.with_prefix(prefix) {
-        add_inside(universe, list.pages(), &mut entries)?;
-    }
+    add_lists_inside(universe, prefix.long(), &mut entries)?;
+    add_row_inside(universe, prefix.short(), &mut entries)?;
     Ok(entries)
 }
 
 // The same as a list in pages.
-fn list_with_prefix(
+fn list_inside(
     alloc: Global,
     universe: &DocSet,
-    postings: &Postings,
-    prefix: &Word,
+    prefix: &PrefixPlaces<'_>,
 ) -> Result<SortedPages, NoMemory>
-    ensures { IfOk result (λ list. (documents : List Document) → StandsFor postings.now documents
-        → (entry : ℕ) → has list.entries entry ≡ (stands_by (λ word. starts_with nat_eq word prefix.now) entry documents
-        && has_id universe.now.ids (entry / 2 ^ 32))) }
+    ensures { IfOk result (λ list. (entry : ℕ) → has list.entries entry
+        ≡ (in_rows prefix.now entry && has_id universe.now.ids (entry / 2 ^ 32))) }
 {
-    let entries = in_order(gathered(alloc, universe, postings, prefix)?);
+    let entries = in_order(places_inside(alloc, universe, prefix)?);
     let mut list = SortedPages::new(alloc);
     list.reserve(alloc, entries.as_slice())?;
     list.insert_reserved(entries.as_slice());
     Ok(list)
-}
-
-// The documents of the universe by the pair cost of two words. Each document of the universe is gone over.
-fn costs_of(
-    alloc: Global,
-    universe: &DocSet,
-    postings: &Postings,
-    left: &Word,
-    prefix: bool,
-    right: &Word,
-) -> Result<Vec<DocSet>, NoMemory>
-    ensures { IfOk result (λ sets. (documents : List Document) → StandsFor postings.now documents
-        → map (λ set. set.ids) sets.items
-        ≡ ids_by_cost (λ id. asked_cost (places_of id documents) left.now prefix right.now) universe.now.ids) }
-{
-    let none = SortedPages::new(alloc);
-    let lefts = list_of(postings, left, &none);
-    if prefix {
-        let rights = list_with_prefix(alloc, universe, postings, right)?;
-        documents_by_cost(alloc, universe, lefts, &rights)
-    } else {
-        let rights = list_of(postings, right, &none);
-        documents_by_cost(alloc, universe, lefts, rights)
-    }
 }
 
 // How many places the word has.
@@ -159,25 +158,44 @@ fn narrowed(
 /// The documents of the universe by the pair cost of two words, where the postings are those of some documents: a set
 /// for each cost from 0 to 6, in this order. A document in which the words do not stand near each other is in none.
 ///
-/// Where a word has fewer places than the universe has documents, only its documents are gone over. With `prefix` the
-/// right word stands for each word that begins with it; the places of these inside the universe are collected and sorted
-/// first. An error is want of memory, which is in proportion to the universe and to those places.
+/// Where a word has fewer places than the universe has documents, only its documents are gone over. An error is want of
+/// memory, which is in proportion to the universe.
 pub fn documents_by_pair_cost(
     alloc: Global,
     universe: &DocSet,
     postings: &Postings,
     left: &Word,
-    prefix: bool,
     right: &Word,
 ) -> Result<Vec<DocSet>, NoMemory>
     ensures { IfOk result (λ sets. (documents : List Document) → StandsFor postings.now documents
         → map (λ set. set.ids) sets.items
-        ≡ ids_by_cost (λ id. asked_cost (places_of id documents) left.now prefix right.now) universe.now.ids) }
+        ≡ ids_by_cost (λ id. asked_cost (places_of id documents) left.now false right.now) universe.now.ids) }
 {
     let near = narrowed(alloc, universe, postings, left)?;
-    if prefix {
-        return costs_of(alloc, &near, postings, left, prefix, right);
-    }
     let nearer = narrowed(alloc, &near, postings, right)?;
-    costs_of(alloc, &nearer, postings, left, prefix, right)
+    let none = SortedPages::new(alloc);
+    let lefts = list_of(postings, left, &none);
+    let rights = list_of(postings, right, &none);
+    documents_by_cost(alloc, &nearer, lefts, rights)
+}
+
+/// The same, where the right word stands for each word that begins as a prefix does, whose places were gathered from the
+/// postings. Those of them that are inside the universe are collected and sorted. An error is want of memory, which is in
+/// proportion to the universe and to those places.
+pub fn documents_by_prefix_cost(
+    alloc: Global,
+    universe: &DocSet,
+    postings: &Postings,
+    left: &Word,
+    right: &PrefixPlaces<'_>,
+) -> Result<Vec<DocSet>, NoMemory>
+    ensures { IfOk result (λ sets. (documents : List Document) → StandsFor postings.now documents
+        → AreGathered documents right.now → map (λ set. set.ids) sets.items
+        ≡ ids_by_cost (λ id. asked_cost (places_of id documents) left.now true right.now.prefix) universe.now.ids) }
+{
+    let near = narrowed(alloc, universe, postings, left)?;
+    let none = SortedPages::new(alloc);
+    let lefts = list_of(postings, left, &none);
+    let rights = list_inside(alloc, &near, right)?;
+    documents_by_cost(alloc, &near, lefts, &rights)
 }

@@ -1,9 +1,6 @@
 -- Documents by the least number of the places where a term occurs.
 use Rattle.std.proofs.Common.{◌≡◌, ℕ, zero, suc, ◌^◌, ◌<◌, Bool, true, false, not, ◌&&◌, ◌||◌, cond, List, [], ◌∷◌, length, map, eqb, Option, None, Some, refl, sym, ap, ap₂, subst, ◌∙◌, arith}
-use Rattle.std.specs.List.{list_any, filter, starts_with}
-use Rattle.std.specs.List.Sorted.{IsStrictlySortedBy}
-use Rattle.std.specs.Map.{keys_of}
-use Rattle.std.specs.Prelude.{nat_eq}
+use Rattle.std.specs.List.{list_any, filter}
 use Rattle.std.specs.Option.{option_eq}
 use Rattle.std.specs.Cmp.{both_ways}
 use Rattle.std.proofs.lemmas.Bool.{eqb-true, eq-eqb, and_from, or_left, or_right, true≢false, true_from_ne_false}
@@ -13,19 +10,20 @@ use Rattle.search_base.specs.TermView.{TermView}
 use Rattle.sorted_pages.specs.Entries.{has, IsIncreasing}
 use Rattle.sorted_pages.proofs.SetLemmas.{has-filter, increasing-filter, increasing-same}
 use Rattle.doc_sets.specs.SetView.{SetView}
-use Rattle.postings.specs.Dictionary.{PostingsView, word_cmp, value_at, list_at, some_list}
+use Rattle.postings.specs.Dictionary.{PostingsView, list_at}
 use Rattle.postings.specs.Documents.{Document, entry_of, AreNarrow, AllNarrow, places_of}
 use Rattle.postings.specs.Fresh.{StandsFor}
 use Rattle.posting_sets.specs.declared.number.Number.{Number}
 use Rattle.posting_sets.specs.Entries.{document_of, path_of, position_of}
 use Rattle.posting_sets.specs.Starts.{is_start, AreStarts}
 use Rattle.posting_sets.specs.Found.{Finds, term_of, lacks_list}
-use Rattle.posting_sets.specs.Numbers.{set_at, least_number, AreNumbered}
-use Rattle.posting_sets.specs.Gathered.{has_numbered_row, number_at, place_number, is_numbered, ids_at, is_below, has_number, AreLeast, AreOfNumbers}
+use Rattle.posting_sets.specs.Numbers.{set_at, least_number, numbered, AreNumbered}
+use Rattle.posting_sets.specs.Gathered.{number_at, place_number, is_numbered, ids_at, is_below, has_number, AreLeast, AreOfNumbers}
+use Rattle.posting_sets.specs.Prefixes.{PrefixView, in_rows, AreGathered, prefix_term}
 use Rattle.posting_sets.proofs.WalkLemmas.{both_true, either_true}
 use Rattle.posting_sets.proofs.PlaceLemmas.{start_at, narrow_at, document_at, path_at, position_at}
 use Rattle.posting_sets.proofs.OccursLemmas.{finds_starts, finds_lacking, first_of, by_places}
-use Rattle.posting_sets.proofs.PrefixLemmas.{begins_at, finds_rows}
+use Rattle.posting_sets.proofs.PrefixLemmas.{finds_rows}
 use Rattle.posting_sets.proofs.LeastLemmas.{is_some_of, some_is, some_has, least_is, least_has, none_lower}
 
 -- ---- the number of a place, by its entry
@@ -53,6 +51,14 @@ number_is documents narrow term word words is start starts number ids n id b fin
     by_places documents narrow term word words is start starts ids id (is_numbered number n id) (of_document number n id) b finds
     ∙ ap (λ c. has ids id && c) (numbered_all number n id (places_of id documents) (places_of id documents) term (narrow_at id documents narrow))
 
+-- ---- no set yet
+pub no_set : (n id : ℕ) (sets : List (List ℕ)) → sets ≡ [] → has (ids_at n sets) id ≡ false
+no_set n id sets e = ap (λ v. has (ids_at n v) id) e ∙ none n
+  where
+    none : (n : ℕ) → has (ids_at n []) id ≡ false
+    none zero = refl
+    none (suc n) = refl
+
 -- ---- words in a row
 module _ (view : PostingsView) (words : List (List ℕ)) (some : 0 < length words) (number : Number) (ids : List ℕ) where
   abbrev lists : List (List ℕ)
@@ -64,17 +70,10 @@ module _ (view : PostingsView) (words : List (List ℕ)) (some : 0 < length word
       let first = first_of words some in
       number_is documents fresh.narrow (term_of false words) first.0 first.1 first.2 (is_start lists) (start_at view documents fresh words) number ids n id b finds
 
-  none_at : (n id : ℕ) (sets : List (List ℕ)) → sets ≡ [] → has (ids_at n sets) id ≡ false
-  none_at n id sets e = ap (λ v. has (ids_at n v) id) e ∙ none n
-    where
-      none : (n : ℕ) → has (ids_at n []) id ≡ false
-      none zero = refl
-      none (suc n) = refl
-
   pub words_numbered : (walked : List (List ℕ)) (starts : List ℕ) (old sets : List (List ℕ)) → walked ≡ lists → AreStarts ids walked starts → old ≡ []
       → ((n id : ℕ) → has (ids_at n sets) id ≡ (list_any (is_numbered number n id) starts || has (ids_at n old) id)) → AreOfNumbers view (term_of false words) (place_number number) ids sets
   words_numbered walked starts old sets e are empty each = λ documents fresh n id.
-      each n id ∙ ap (λ b. list_any (is_numbered number n id) starts || b) (none_at n id old empty) ∙ or_false (list_any (is_numbered number n id) starts)
+      each n id ∙ ap (λ b. list_any (is_numbered number n id) starts || b) (no_set n id old empty) ∙ or_false (list_any (is_numbered number n id) starts)
       ∙ words_number documents fresh n id _ (finds_starts ids lists starts (is_numbered number n id) (subst (λ v. AreStarts ids v starts) e are))
     where
       or_false : (b : Bool) → (b || false) ≡ b
@@ -83,18 +82,17 @@ module _ (view : PostingsView) (words : List (List ℕ)) (some : 0 < length word
 
   pub words_without : (sets : List (List ℕ)) → lacks_list view words ≡ true → sets ≡ [] → AreOfNumbers view (term_of false words) (place_number number) ids sets
   words_without sets lacks e = λ documents fresh n id.
-      none_at n id sets e ∙ words_number documents fresh n id false (finds_lacking view words some ids (is_numbered number n id) lacks)
+      no_set n id sets e ∙ words_number documents fresh n id false (finds_lacking view words some ids (is_numbered number n id) lacks)
 
 -- ---- words that begin so
-pub prefix_numbered : (view : PostingsView) (prefix : List ℕ) (rows : List (List ℕ × List ℕ))
-    → ((word : List ℕ) → value_at word rows ≡ cond (starts_with nat_eq word prefix) (some_list (list_at word view)) None) → IsStrictlySortedBy word_cmp (keys_of rows)
-    → (number : Number) (ids : List ℕ) (sets : List (List ℕ)) → ((n id : ℕ) → has (ids_at n sets) id ≡ has_numbered_row number n ids id rows)
-    → AreOfNumbers view (term_of true (prefix ∷ [])) (place_number number) ids sets
-prefix_numbered view prefix rows lists sorted number ids sets each = λ documents fresh n id.
+pub prefix_numbered : (view : PrefixView) (documents : List Document) → AreGathered documents view → (number : Number) (ids : List ℕ) (sets : List (List ℕ))
+    → ((n id : ℕ) → has (ids_at n sets) id
+    ≡ (list_any (λ row. has ids id && list_any (is_numbered number n id) row) view.long || (has ids id && list_any (is_numbered number n id) view.short)))
+    → (n id : ℕ) → has (ids_at n sets) id ≡ has_number documents (prefix_term view) (place_number number) ids n id
+prefix_numbered view documents are number ids sets each n id =
     each n id
-    ∙ number_is documents fresh.narrow (term_of true (prefix ∷ [])) prefix [] refl (λ entry. list_any (λ row. has row.1 entry) rows)
-    (begins_at view documents fresh prefix rows lists sorted) number ids n id _
-    (finds_rows ids id (is_numbered number n id) (of_document number n id) rows)
+    ∙ number_is documents are.narrow (prefix_term view) view.prefix [] refl (in_rows view) are.each number ids n id _
+    (finds_rows ids id (is_numbered number n id) (of_document number n id) view)
 
 -- ---- the sets before a number
 below_found : (n id : ℕ) (sets : List (List ℕ)) → is_below n id sets ≡ true → (m : ℕ) × (m < n) × (has (ids_at m sets) id ≡ true)
@@ -148,13 +146,17 @@ module _ (documents : List Document) (term : TermView) (number : Place → Optio
       not_false true e = refl
       not_false false e = absurd (cc)
 
+pub least_at : (documents : List Document) (term : TermView) (number : Place → Option ℕ) (ids : List ℕ) (sets : List (List ℕ)) (rows : List (ℕ × SetView)) → IsIncreasing ids
+    → ((n id : ℕ) → has (ids_at n sets) id ≡ has_number documents term number ids n id) → AreLeast sets rows → (n : ℕ) → set_at n rows ≡ numbered documents term number ids n
+least_at documents term number ids sets rows up of least n =
+    let asks : ℕ → Bool = λ id. option_eq eqb (least_number number (places_of id documents) term) (Some n) in
+    increasing-same (set_at n rows) (filter asks ids) (least.sorted n) (increasing-filter asks ids up)
+    (λ id. least.each n id ∙ by_least documents term number ids sets of n id ∙ sym (has-filter asks ids id))
+
 pub are_numbered : (view : PostingsView) (term : TermView) (number : Place → Option ℕ) (ids : List ℕ) (sets : List (List ℕ)) (rows : List (ℕ × SetView)) → IsIncreasing ids
     → AreOfNumbers view term number ids sets → AreLeast sets rows → AreNumbered view term number ids rows
 are_numbered view term number ids sets rows up of least = record {
   up = least.up;
   some = least.some;
-  each = λ documents fresh n.
-      let asks : ℕ → Bool = λ id. option_eq eqb (least_number number (places_of id documents) term) (Some n) in
-      increasing-same (set_at n rows) (filter asks ids) (least.sorted n) (increasing-filter asks ids up)
-      (λ id. least.each n id ∙ by_least documents term number ids sets (of documents fresh) n id ∙ sym (has-filter asks ids id));
+  each = λ documents fresh. least_at documents term number ids sets rows up (of documents fresh) least;
 }

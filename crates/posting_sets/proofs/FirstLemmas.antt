@@ -12,10 +12,10 @@ use Rattle.search_base.specs.TermView.{TermView}
 use Rattle.sorted_pages.specs.Entries.{has, IsIncreasing}
 use Rattle.sorted_pages.proofs.SetLemmas.{has-filter, increasing-filter, increasing-same}
 use Rattle.postings.specs.Dictionary.{PostingsView}
-use Rattle.postings.specs.Documents.{places_of}
+use Rattle.postings.specs.Documents.{Document, places_of}
 use Rattle.posting_sets.specs.declared.number.Number.TheVariants.{First}
-use Rattle.posting_sets.specs.Numbers.{least_number}
-use Rattle.posting_sets.specs.Gathered.{place_number, ids_at, AreOfNumbers}
+use Rattle.posting_sets.specs.Numbers.{least_number, numbered}
+use Rattle.posting_sets.specs.Gathered.{place_number, ids_at, has_number, AreOfNumbers}
 use Rattle.posting_sets.specs.Beginnings.{AreAtFirst}
 use Rattle.posting_sets.proofs.LeastLemmas.{is_some_of, some_is, some_has, least_is, least_has}
 
@@ -42,11 +42,16 @@ module _ (all : List Place) (term : TermView) where
       (λ h. some_is _ 0 (least_is bucket_at places 0 h (λ m low there. omega arith)))
       (λ h. least_has bucket_at places 0 (is_some_of _ 0 h))
 
-pub are_at_first : (view : PostingsView) (term : TermView) (ids : List ℕ) → IsIncreasing ids → (sets : List (List ℕ)) (set : List ℕ) → set ≡ ids_at 0 sets → IsIncreasing set
-    → AreOfNumbers view term (place_number First) ids sets → AreAtFirst view term ids set
-are_at_first view term ids up sets set is rise are = λ documents fresh.
+pub first_of_numbers : (documents : List Document) (term : TermView) (ids : List ℕ) → IsIncreasing ids → (sets : List (List ℕ)) (set : List ℕ) → set ≡ ids_at 0 sets → IsIncreasing set
+    → ((n id : ℕ) → has (ids_at n sets) id ≡ has_number documents term (place_number First) ids n id)
+    → set ≡ numbered documents term (λ place. Some (bucket_of place.position)) ids 0
+first_of_numbers documents term ids up sets set is rise are =
     let asks : ℕ → Bool = λ id. option_eq eqb (least_number (λ place. Some (bucket_of place.position)) (places_of id documents) term) (Some 0) in
     increasing-same set (filter asks ids) rise (increasing-filter asks ids up)
-    (λ id. ap (λ v. has v id) is ∙ are documents fresh 0 id
+    (λ id. ap (λ v. has v id) is ∙ are 0 id
     ∙ ap (λ b. has ids id && b) (any_first (places_of id documents) term (places_of id documents) ∙ least_first (places_of id documents) term (places_of id documents))
     ∙ sym (has-filter asks ids id))
+
+pub are_at_first : (view : PostingsView) (term : TermView) (ids : List ℕ) → IsIncreasing ids → (sets : List (List ℕ)) (set : List ℕ) → set ≡ ids_at 0 sets → IsIncreasing set
+    → AreOfNumbers view term (place_number First) ids sets → AreAtFirst view term ids set
+are_at_first view term ids up sets set is rise are = λ documents fresh. first_of_numbers documents term ids up sets set is rise (are documents fresh)

@@ -1,5 +1,5 @@
 -- The documents of words that are kept as sets.
-use Rattle.std.proofs.Common.{◌≡◌, ℕ, ◌<◌, Bool, true, false, ◌&&◌, ◌||◌, cond, List, [], ◌∷◌, length, refl, ap, ◌∙◌}
+use Rattle.std.proofs.Common.{◌≡◌, ℕ, ◌<◌, Bool, false, cond, List, [], ◌∷◌, length, refl, ap, ◌∙◌}
 use Rattle.std.specs.List.{filter}
 use Rattle.sorted_pages.specs.Entries.{has, IsIncreasing}
 use Rattle.doc_sets.specs.Sets.{intersection}
@@ -21,14 +21,3 @@ kept_found view (word ∷ []) some kept ids set of up e =
     words_found view (word ∷ []) some ids set (list ∷ []) up refl
     (are_in_list ids set list (list ∷ []) up (e ∙ same_filter (has kept) (has_document list) of ids) refl)
 kept_found view (word ∷ (other ∷ words)) some kept ids set of up e = absurd of
-
--- a step from word to word
-pub word_step : (u d old rows : Bool) → ((u && (d || old)) || rows) ≡ ((u && old) || ((u && d) || rows))
-word_step true true true rows = refl
-word_step true true false rows = refl
-word_step true false old rows = refl
-word_step false d old rows = refl
-
-pub none_yet : (u old rows : Bool) → old ≡ false → ((u && old) || rows) ≡ rows
-none_yet true old rows e = ap (λ b. b || rows) e
-none_yet false old rows e = refl

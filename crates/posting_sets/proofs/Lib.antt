@@ -15,3 +15,4 @@ pub mod KeptLemmas
 pub mod RankLemmas
 pub mod FirstLemmas
 pub mod NarrowLemmas
+pub mod GatheredLemmas

@@ -7,7 +7,7 @@ use Rattle.std.proofs.lemmas.List.{length-map}
 use Rattle.doc_sets.specs.Sets.{has, intersection}
 use Rattle.sorted_pages.proofs.SetLemmas.{has-filter}
 use Rattle.postings.specs.Dictionary.{PostingsView, list_at}
-use Rattle.postings.specs.Sets.{IsSetOf}
+use Rattle.posting_list.specs.Sets.{IsSetOf}
 use Rattle.posting_sets.specs.Entries.{document_of, position_of}
 use Rattle.posting_sets.specs.Starts.{stand_all, is_start}
 use Rattle.posting_sets.specs.Found.{has_document, AreInLists, IsNarrowed}

@@ -1,5 +1,5 @@
 -- The documents of words that begin alike, by their lists.
-use Rattle.std.proofs.Common.{◌≡◌, ℕ, suc, ◌<◌, inl, inr, Bool, true, false, ◌&&◌, ◌||◌, cond, List, [], ◌∷◌, length, get_or, eqb, None, Some, refl, sym, ap, subst, ◌∙◌, arith}
+use Rattle.std.proofs.Common.{◌≡◌, ℕ, suc, ◌<◌, inl, inr, Bool, true, false, ◌&&◌, ◌||◌, cond, List, [], ◌∷◌, length, map, get_or, eqb, None, Some, refl, sym, ap, subst, ◌∙◌, arith}
 use Rattle.std.specs.Prelude.{nat_eq}
 use Rattle.std.specs.List.{filter, list_any, starts_with}
 use Rattle.std.specs.List.Sorted.{IsStrictlySortedBy}
@@ -7,7 +7,7 @@ use Rattle.std.specs.Map.{keys_of}
 use Rattle.std.specs.BTreeMap.{is_at}
 use Rattle.std.specs.Ordering.{is_eq}
 use Rattle.std.specs.Cmp.{both_ways}
-use Rattle.std.proofs.lemmas.Bool.{cond-true, cond-false, eqb-true, and_from}
+use Rattle.std.proofs.lemmas.Bool.{cond-true, cond-false, eqb-true, and_from, or_left, or_right}
 use Rattle.std.proofs.lemmas.Map.Keys.{Less-from_sorted, sorted_tail}
 use Rattle.std.proofs.lemmas.Map.Text.{is_eq-slice_cmp}
 use Rattle.search_base.specs.Occurrence.{words_stand_at}
@@ -19,10 +19,11 @@ use Rattle.postings.specs.Documents.{Document, places_of}
 use Rattle.postings.specs.Fresh.{StandsFor}
 use Rattle.postings.proofs.WordLemmas.{itself, turned, same_word, bytes_itself}
 use Rattle.posting_sets.specs.Entries.{document_of, path_of, position_of}
-use Rattle.posting_sets.specs.Starts.{is_start, AreStarts}
-use Rattle.posting_sets.specs.Found.{Finds, AreInLists, has_document, has_row, occurring, term_of}
+use Rattle.posting_sets.specs.Starts.{is_start, is_inside, AreStarts}
+use Rattle.posting_sets.specs.Found.{Finds, AreInLists, has_document, occurring}
+use Rattle.posting_sets.specs.Prefixes.{PrefixView, in_rows, AreGathered, prefix_term}
 use Rattle.posting_sets.proofs.StartLemmas.{is_start_one}
-use Rattle.posting_sets.proofs.WalkLemmas.{both_true}
+use Rattle.posting_sets.proofs.WalkLemmas.{both_true, either_true, turned_or}
 use Rattle.posting_sets.proofs.PlaceLemmas.{has_at}
 use Rattle.posting_sets.proofs.OccursLemmas.{list_any-found, list_any-from, has_found, has_from, finds_starts, occurring_is}
 
@@ -55,30 +56,57 @@ module _ (ids : List ℕ) (id : ℕ) (test : ℕ → Bool) (of : (entry : ℕ) �
       (λ h. let f = listed.found h in walked.from f.0 f.1 f.2 f.3)
 
   -- ---- several
-  abbrev has_passing : Rows → Bool
-  has_passing rows = list_any (λ row. has ids id && list_any test row.1) rows
+  row_found : (row : List ℕ) → (has ids id && list_any test row) ≡ true → (entry : ℕ) × (is_inside ids entry ≡ true) × (has row entry ≡ true) × (test entry ≡ true)
+  row_found row h =
+      let both = both_true (has ids id) _ h in
+      let f = has_found test row both.1 in
+      (f.0, ap (has ids) (of f.0 f.2) ∙ both.0, f.1, f.2)
 
-  abbrev starts_in : Rows → ℕ → Bool
-  starts_in rows entry = list_any (λ row. has row.1 entry) rows
+  row_from : (row : List ℕ) (entry : ℕ) → is_inside ids entry ≡ true → has row entry ≡ true → test entry ≡ true → (has ids id && list_any test row) ≡ true
+  row_from row entry inside at t = and_from _ _ (ap (has ids) (sym (of entry t)) ∙ inside) (has_from test row entry at t)
 
-  pub finds_rows : (rows : Rows) → Finds ids (starts_in rows) test (has_passing rows)
-  finds_rows rows = record {
-    found = λ h.
-        let row = list_any-found _ rows h in
-        let both = both_true (has ids id) _ row.2 in
-        let f = has_found test row.0.1 both.1 in
-        (f.0, ap (has ids) (of f.0 f.2) ∙ both.0, list_any-from _ rows row.0 row.1 f.1, f.2);
-    from = λ entry inside start t.
-        let row = list_any-found _ rows start in
-        list_any-from _ rows row.0 row.1 (and_from _ _ (ap (has ids) (sym (of entry t)) ∙ inside) (has_from test row.0.1 entry row.2 t));
+  abbrev pub has_passing : PrefixView → Bool
+  has_passing view = list_any (λ row. has ids id && list_any test row) view.long || (has ids id && list_any test view.short)
+
+  pub finds_rows : (view : PrefixView) → Finds ids (in_rows view) test (has_passing view)
+  finds_rows view = record {
+    found = λ h. either_true (list_any (λ row. has ids id && list_any test row) view.long) _ h
+        (λ here.
+        let row = list_any-found _ view.long here in
+        let f = row_found row.0 row.2 in
+        (f.0, f.1, or_left _ _ (list_any-from _ view.long row.0 row.1 f.2), f.3))
+        (λ there. let f = row_found view.short there in (f.0, f.1, or_right (list_any (λ row. has row f.0) view.long) _ f.2, f.3));
+    from = λ entry inside start t. either_true (list_any (λ row. has row entry) view.long) _ start
+        (λ here.
+        let row = list_any-found _ view.long here in
+        or_left _ _ (list_any-from _ view.long row.0 row.1 (row_from row.0 entry inside row.2 t)))
+        (λ there. or_right (list_any (λ row. has ids id && list_any test row) view.long) _ (row_from view.short entry inside there t));
   }
 
--- a step from row to row
-pub row_step : (starts builder rows : Bool) → ((starts || builder) || rows) ≡ (builder || (starts || rows))
-row_step true true rows = refl
-row_step true false rows = refl
-row_step false true rows = refl
-row_step false false rows = refl
+-- ---- steps over rows
+pub any_guarded : {X : Type 0} (u : Bool) (p : X → Bool) (xs : List X) → list_any (λ x. u && p x) xs ≡ (u && list_any p xs)
+any_guarded true p xs = refl
+any_guarded false p [] = refl
+any_guarded false p (x ∷ xs) = any_guarded false p xs
+
+pub any_mapped : {X Y : Type 0} (f : X → Y) (p : Y → Bool) (xs : List X) → list_any p (map f xs) ≡ list_any (λ x. p (f x)) xs
+any_mapped f p [] = refl
+any_mapped f p (x ∷ xs) = ap (λ b. p (f x) || b) (any_mapped f p xs)
+
+-- one more of what is added
+pub added_step : (new this old taken first more : Bool) → new ≡ (this || old) → old ≡ (taken || first) → more ≡ (taken || this) → new ≡ (more || first)
+added_step new this old taken first more e f g = e ∙ ap (λ b. this || b) f ∙ turned_or this taken first ∙ ap (λ b. b || first) (sym g)
+
+-- what the long lists and the short row have
+pub guarded_both : (u new s old l none : Bool) → new ≡ (s || old) → (u && old) ≡ (u && (l || none)) → none ≡ false → (u && new) ≡ ((u && l) || (u && s))
+guarded_both true new s old l none e f g = e ∙ ap (λ b. s || b) (f ∙ ap (λ b. l || b) g) ∙ turned s l
+  where
+    turned : (s l : Bool) → (s || (l || false)) ≡ (l || s)
+    turned true true = refl
+    turned true false = refl
+    turned false true = refl
+    turned false false = refl
+guarded_both false new s old l none e f g = refl
 
 -- what is known of the documents of a set alone
 pub guarded : (u d s old : Bool) → s ≡ (u && d) → (u && (s || old)) ≡ (u && (d || old))
@@ -162,9 +190,25 @@ module _ (view : PostingsView) (documents : List Document) (fresh : StandsFor vi
       let row = row_of_value word rows (list_at word view) (lists word ∙ shows _ _ entry here.1 there) in
       list_any-from _ rows row.0 row.1 (ap (λ v. has v entry) row.2 ∙ there))
 
-  pub prefix_found : (ids set : List ℕ) → IsIncreasing ids → IsIncreasing set → ((id : ℕ) → has set id ≡ has_row ids id rows)
-      → set ≡ occurring documents (term_of true (prefix ∷ [])) ids
-  prefix_found ids set up set_up each =
-      occurring_is documents fresh.narrow (term_of true (prefix ∷ [])) prefix [] refl (λ entry. list_any (λ row. has row.1 entry) rows) begins_at ids set up set_up
-      (λ id. subst (Finds ids (λ entry. list_any (λ row. has row.1 entry) rows) (λ entry. eqb (document_of entry) id)) (sym (each id))
-      (finds_rows ids id (λ entry. eqb (document_of entry) id) (λ entry t. eqb-true _ _ t) rows))
+-- ---- what is gathered
+pub prefix_found : (view : PrefixView) (documents : List Document) → AreGathered documents view → (ids set : List ℕ) → IsIncreasing ids → IsIncreasing set
+    → ((id : ℕ) → has set id ≡ (list_any (λ row. has ids id && has_document row id) view.long || (has ids id && has_document view.short id)))
+    → set ≡ occurring documents (prefix_term view) ids
+prefix_found view documents are ids set up set_up each =
+    occurring_is documents are.narrow (prefix_term view) view.prefix [] refl (in_rows view) are.each ids set up set_up
+    (λ id. subst (Finds ids (in_rows view) (λ entry. eqb (document_of entry) id)) (sym (each id))
+    (finds_rows ids id (λ entry. eqb (document_of entry) id) (λ entry t. eqb-true _ _ t) view))
+
+-- nothing is left to be gathered
+pub alone : (a b : Bool) → b ≡ false → a ≡ (a || b)
+alone true b e = refl
+alone false b e = sym e
+
+-- a short list's places come into the row
+pub row_more : (long row list : Bool) → (long || (row || list)) ≡ (list || (long || row))
+row_more true row true = refl
+row_more true row false = refl
+row_more false true true = refl
+row_more false true false = refl
+row_more false false true = refl
+row_more false false false = refl

@@ -7,7 +7,7 @@ use Rattle.std.proofs.lemmas.Bool.{cases_lt, eqb-true, eq-eqb, ltb-true, lt-ltb,
 use Rattle.sorted_pages.specs.Entries.{has}
 use Rattle.sorted_pages.proofs.SetLemmas.{has-filter}
 use Rattle.postings.specs.Dictionary.{PostingsView, list_at, some_list}
-use Rattle.postings.specs.Sets.{IsSetOfPassing, is_first, is_start as is_path_start}
+use Rattle.posting_list.specs.Sets.{IsSetOfPassing, is_first, is_start as is_path_start}
 use Rattle.posting_sets.specs.declared.number.Number.TheVariants.{First}
 use Rattle.posting_sets.specs.Entries.{document_of, path_of, position_of}
 use Rattle.posting_sets.specs.Starts.{is_inside}

@@ -51,7 +51,3 @@ pub record IsNarrowed (view : PostingsView) (words : List (List ℕ)) (universe 
 -- one of the words has no list
 abbrev pub lacks_list : PostingsView → List (List ℕ) → Bool
 lacks_list view words = list_any (λ word. length (list_at word view) == 0) words
-
--- the document is in a set, and one of the rows has an entry of it
-abbrev pub has_row : List ℕ → ℕ → List (List ℕ × List ℕ) → Bool
-has_row ids id rows = list_any (λ row. has ids id && has_document row.1 id) rows

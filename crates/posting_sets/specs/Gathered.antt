@@ -87,8 +87,3 @@ NumbersBelow n (row ∷ rows) = (row.0 < n) × NumbersBelow n rows
 abbrev pub AddsRow : List (ℕ × SetView) → List (ℕ × SetView) → ℕ → List ℕ → Type 0
 AddsRow old new n [] = new ≡ old
 AddsRow old new n (id ∷ ids) = (set : SetView) × (new ≡ old ++ (n, set) ∷ []) × (set.ids ≡ id ∷ ids)
-
--- the document is in a set, and one of the rows has an entry of it with this number
-abbrev pub has_numbered_row : Number → ℕ → List ℕ → ℕ → List (List ℕ × List ℕ) → Bool
-has_numbered_row number n ids id rows =
-    list_any (λ row. has ids id && list_any (is_numbered number n id) row.1) rows

@@ -6,3 +6,4 @@ pub mod Numbers
 pub mod Gathered
 pub mod Blocks
 pub mod Beginnings
+pub mod Prefixes

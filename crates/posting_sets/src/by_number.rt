@@ -10,6 +10,7 @@ ghost use Rattle.posting_sets.specs.Beginnings.{AreBeginning, AreAtFirst};
 use crate::lists::lists_of;
 use crate::number::Number;
 use crate::numbered::{add_list, add_places, finished, first_set, least_sets};
+use crate::prefix::PrefixPlaces;
 use doc_sets::{DocSet, DocSetBuilder};
 use postings::Postings;
 use search_base::{NoMemory, Term, Word};
@@ -71,11 +72,8 @@ fn numbers_of_prefix(
         (place_number number.entry) universe.now.ids sets.items) }
     ensures few { IfOk result (λ sets. length sets.items ≤ 2 ^ 16) }
 {
-    let mut sets = Vec::new(alloc);
-    for (_word, list) in postings.with_prefix(prefix) {
-        add_list(alloc, &mut sets, list, number, universe)?;
-    }
-    Ok(sets)
+    let places = PrefixPlaces::new(alloc, postings, prefix)?;
+    places.numbers(alloc, number, universe)
 }
 
 // The documents of each number of a place where the term occurs.

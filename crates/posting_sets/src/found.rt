@@ -4,14 +4,16 @@ ghost use Rattle.std.specs.List.{filter};
 ghost use Rattle.doc_sets.specs.Sets.{has, IsIncreasing};
 ghost use Rattle.search_base.specs.Graphs.{IsTerm};
 ghost use Rattle.postings.specs.Dictionary.{list_at};
-ghost use Rattle.postings.specs.Sets.{IsSetOf};
+ghost use Rattle.posting_list.specs.Sets.{IsSetOf};
 ghost use Rattle.posting_sets.specs.Found.{has_document, AreInLists, AreOccurring, IsKeptOf, IsNarrowed, term_of};
 
 use crate::entry::document_of;
 use crate::lists::{is_walked, lists_of};
 use crate::occurrences::Occurrences;
+use crate::prefix::PrefixPlaces;
 use doc_sets::{DocSet, DocSetBuilder};
-use postings::{PostingList, Postings};
+use posting_list::PostingList;
+use postings::Postings;
 use search_base::{DocId, NoMemory, Term, Word};
 use sorted_pages::SortedPages;
 use std::alloc::Global;
@@ -83,7 +85,7 @@ fn add_list(
 
 // Adds the documents of a list to a set, maybe with some from outside of the universe. Where they are kept beside a list
 // that would be walked, they are taken from there.
-fn add_kept_or_list(
+pub(crate) fn add_kept_or_list(
     alloc: Global,
     builder: &mut DocSetBuilder,
     list: &PostingList,
@@ -233,15 +235,10 @@ fn documents_of_prefix(
     prefix: &Word,
     universe: &DocSet,
 ) -> Result<DocSet, NoMemory>
-    requires { IsIncreasing universe.now.ids }
     ensures { IfOk result (λ set. AreOccurring postings.now (term_of true (prefix.now ∷ [])) universe.now.ids set.ids) }
 {
-    let mut builder = DocSetBuilder::new(alloc, 0)?;
-    for (_word, list) in postings.with_prefix(prefix) {
-        add_kept_or_list(alloc, &mut builder, list, universe)?;
-    }
-    let all = builder.finish(alloc)?;
-    universe.and(alloc, &all)
+    let places = PrefixPlaces::new(alloc, postings, prefix)?;
+    places.documents(alloc, universe)
 }
 
 /// The documents of the universe in which the term occurs: its words in a row, or a word that begins

@@ -12,7 +12,7 @@ use crate::lists::is_walked;
 use crate::number::{Number, number_of, rank_of};
 use crate::occurrences::Occurrences;
 use doc_sets::{DocSet, DocSetBuilder};
-use postings::PostingList;
+use posting_list::PostingList;
 use search_base::{DocId, NoMemory, PathId};
 use sorted_pages::SortedPages;
 use std::alloc::Global;
@@ -62,7 +62,7 @@ fn add_set(
 }
 
 // Adds the document of an entry to the set of its number, if it has one.
-fn add_entry(
+pub(crate) fn add_entry(
     alloc: Global,
     sets: &mut Vec<DocSetBuilder>,
     entry: u64,

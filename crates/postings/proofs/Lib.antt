@@ -6,7 +6,4 @@ pub mod PrefixLemmas
 pub mod TightLemmas
 pub mod FromLemmas
 pub mod BackLemmas
-pub mod SetLemmas
-pub mod KeptLemmas
 pub mod NumberLemmas
-pub mod MovedLemmas

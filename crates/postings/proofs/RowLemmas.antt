@@ -1,5 +1,5 @@
 -- Changes of words, one row behind the other.
-use Rattle.std.proofs.Common.{◌≡◌, ℕ, ◌<◌, ◌+◌, Bool, true, false, not, ◌&&◌, ◌||◌, ◌==◌, cond, List, [], ◌∷◌, ◌++◌, length, get_or, take, Option, None, Some, Result, Ok, Err, OnOk, refl, sym, ap, ap₂, subst, ◌∙◌, zero, suc, add-one, arith}
+use Rattle.std.proofs.Common.{◌≡◌, ℕ, ◌<◌, ◌+◌, Bool, true, false, not, ◌&&◌, ◌||◌, ◌==◌, cond, List, [], ◌∷◌, ◌++◌, length, get_or, take, Option, None, Some, Result, Ok, Err, OnOk, refl, sym, ap, ap₂, subst, ◌∙◌, zero, suc, arith}
 use Rattle.std.specs.declared.cmp.Ordering.TheVariants.{Less}
 use Rattle.std.specs.List.{AllByRecursion}
 use Rattle.std.specs.List.Sorted.{IsStrictlySortedBy}
@@ -7,7 +7,6 @@ use Rattle.std.specs.Ordering.{is_eq}
 use Rattle.std.specs.Str.{bytes_eq}
 use Rattle.std.specs.Map.{keys_of}
 use Rattle.std.specs.BTreeMap.{is_at}
-use Rattle.std.proofs.Math.Seq.{take-suc}
 use Rattle.std.proofs.lemmas.Bool.{cond-true, cond-false}
 use Rattle.std.proofs.lemmas.List.{get_or-map}
 use Rattle.std.proofs.lemmas.Map.Entries.{length-keys_of}
@@ -51,10 +50,6 @@ value_push_here {X} x (r ∷ rs) h = by (is_at (word_cmp x.0) r.0) h (value_push
         → cond b (Some r.1) (value_at x.0 (rs ++ x ∷ [])) ≡ Some x.1
     by true e later = absurd (cc)
     by false e later = later e
-
--- one row more of the first rows
-pub take_one_more : {X : Type 0} (rows : List X) (i : ℕ) (x : X) → i < length rows → x ≡ get_or rows i x → take (i + 1) rows ≡ take i rows ++ x ∷ []
-take_one_more rows i x inside is = ap (λ n. take n rows) (add-one i) ∙ take-suc rows i x inside ∙ ap (λ y. take i rows ++ y ∷ []) (sym is)
 
 -- what is read alike of a row's new value and of its old one is read alike at each word
 pub read_swapped : {X Y : Type 0} (f : Option X → Y) (done left : List (List ℕ × X)) (word : List ℕ) (old new : X) → f (Some old) ≡ f (Some new)

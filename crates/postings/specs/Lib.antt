@@ -5,4 +5,3 @@ pub mod Changes
 pub mod Fresh
 pub mod Prefixes
 pub mod Words
-pub mod Sets

@@ -11,10 +11,10 @@ ghost use Rattle.postings.specs.declared.change.Side.TheVariants.{Goes, Comes};
 
 use crate::change::{WordChange, copy_word};
 use crate::hints::Hints;
-use crate::posting_list::PostingList;
 use crate::slots::{
     Slot, change_at, clear_at, free_number, is_empty_at, is_word_at, put_at, reserve_at, slot_at,
 };
+use posting_list::PostingList;
 use search_base::{DocId, NoMemory, Word};
 use std::alloc::Global;
 use std::collections::BTreeMap;

@@ -5,21 +5,17 @@
 //! they stand, each once, and a word without a place has no list. Whole documents go and come: a
 //! `Change` gathers them, `prepare` takes all memory and leaves every answer, and `commit` and
 //! `release` take none and cannot be refused. A place that goes and comes stays: where a document
-//! is replaced, only the words whose places differ are part of what is prepared. Beside a long list
-//! stands the set of its documents, as bits, and maybe those of the documents of each path and of
-//! those that begin it with the word, which change with the list. Contracts see postings as lists
-//! by word, a change as what each word loses and gains. The crate stands on `search_base`,
-//! `doc_sets` and `sorted_pages`.
+//! is replaced, only the words whose places differ are part of what is prepared. A word is looked up
+//! by a hash that is only a hint: a number is taken where its word is the one that is asked for, and
+//! else the ordered map of words is asked. Each list with its sets is one of `posting_list`.
+//! Contracts see postings as lists by word, a change as what each word loses and gains. The crate
+//! stands on `search_base`, `sorted_pages` and `posting_list`.
 #![tactic(auto)]
 
 mod change;
 mod dictionary;
-mod documents;
 mod entry;
 mod hints;
-mod moved;
-mod part;
-mod posting_list;
 mod postings;
 mod prefix;
 mod settled;
@@ -27,7 +23,6 @@ mod slots;
 mod words;
 
 pub use change::{Change, Prepared};
-pub use posting_list::PostingList;
 pub use postings::Postings;
 pub use prefix::PrefixLists;
 pub use words::WordLists;

@@ -14,15 +14,14 @@ ghost use Rattle.postings.specs.declared.change.Side.TheVariants.{Goes, Comes};
 ghost use Rattle.postings.specs.Fresh.{StandsFor};
 ghost use Rattle.postings.specs.Prefixes.{rows_left};
 
-use crate::change::{Change, Prepared};
+use crate::change::{Change, Prepared, WordChange};
 use crate::dictionary::{
     Dictionary, change_words, drop_all_spent, list_of, no_words, reserve_words,
 };
-use crate::documents::last_document;
-use crate::posting_list::PostingList;
 use crate::prefix::PrefixLists;
 use crate::settled::settle;
 use crate::words::WordLists;
+use posting_list::{PostingList, last_document};
 use search_base::{DocId, NoMemory, Word};
 use sorted_pages::SortedPages;
 use std::alloc::Global;
@@ -139,7 +138,7 @@ impl Postings {
     {
         let words = settle(alloc, change.words)?;
         let rows = words.as_slice();
-        self.last = last_document(rows, self.last);
+        self.last = last_in(rows, self.last);
         let mut numbers = Vec::new(alloc);
         match reserve_words(alloc, &mut self.lists, rows, self.last, &mut numbers) {
             Ok(()) => Ok(Prepared { words, numbers }),
@@ -175,4 +174,13 @@ impl Postings {
     {
         drop_all_spent(&mut self.lists, prepared.words.as_slice());
     }
+}
+
+// The greatest document that comes, or one where none is above it.
+fn last_in(rows: &[(Word, WordChange)], one: DocId) -> DocId {
+    let mut last = one;
+    for row in rows {
+        last = last_document(&row.1.come, last);
+    }
+    last
 }

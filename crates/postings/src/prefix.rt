@@ -5,8 +5,8 @@ ghost use Rattle.std.specs.Option.{option_map};
 ghost use Rattle.postings.specs.Dictionary.{some_list};
 ghost use Rattle.postings.specs.Prefixes.{rows_left, first_rows, entries_in};
 
-use crate::posting_list::PostingList;
 use crate::slots::{Slot, slot_at};
+use posting_list::PostingList;
 use search_base::Word;
 use std::collections::btree_map::Range;
 

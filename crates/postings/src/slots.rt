@@ -4,9 +4,9 @@ ghost use Rattle.std.specs.Option.{option_map, option_copied};
 ghost use Rattle.sorted_pages.specs.Entries.{IsIncreasing};
 ghost use Rattle.sorted_pages.specs.Rooms.{HasRoom};
 ghost use Rattle.postings.specs.Dictionary.{entries_of, RoomAt, slot_in, word_in, pages_in, HasSameSlots};
-ghost use Rattle.postings.specs.Sets.{AreAfter};
+ghost use Rattle.posting_list.specs.Sets.{AreAfter};
 
-use crate::posting_list::PostingList;
+use posting_list::PostingList;
 use search_base::{DocId, NoMemory, Word};
 use std::alloc::Global;
 

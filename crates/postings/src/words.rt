@@ -2,9 +2,9 @@ ghost use Rattle.std.specs.Iterator.{YieldsFirstBy, item_count};
 ghost use Rattle.std.specs.Prelude.{◌≡◌, [], ◌∷◌, ◌++◌, IfSome, IfNone};
 ghost use Rattle.postings.specs.Words.{shown_rows};
 
-use crate::posting_list::PostingList;
 use crate::prefix::shown_at;
 use crate::slots::Slot;
+use posting_list::PostingList;
 use search_base::Word;
 use std::collections::btree_map::Range;
 use std::marker::Model;

@@ -27,10 +27,11 @@ use Rattle.request_routes.specs.Routes.{Found, path_of, query_of, parts_of, rout
 use Rattle.request_routes.proofs.Keys.{given_key}
 use Rattle.request_routes.proofs.Named.{names_index, IsNamed, found_named}
 use Rattle.request_calls.specs.Asked.{CallData, write, read as reads}
-use Rattle.request_calls.specs.Bodies.{json_in, as_text, text_or_none, text_at, is_key_or_null, is_uid_text, index_member_fault, index_members_fault, index_from_members, index_in, members_of, settings_refusal, patch_from, patch_in, documents_in, ids_in}
-use Rattle.request_calls.specs.Searches.{search_of, search_by}
-use Rattle.request_calls.specs.Multi.{multi_of}
-use Rattle.request_calls.specs.FacetSearches.{facets_of}
+use Rattle.request_calls.specs.Bodies.{is_key_or_null, is_uid_text, index_member_fault, index_members_fault, index_from_members, index_in, settings_refusal, patch_from, patch_in, documents_in, ids_in}
+use Rattle.search_bodies.specs.Json.{json_in, as_text, text_or_none, text_at, members_of}
+use Rattle.search_bodies.specs.Searches.{search_of, search_by}
+use Rattle.search_bodies.specs.Multi.{multi_of}
+use Rattle.search_bodies.specs.FacetSearches.{facets_of}
 use Rattle.request_calls.specs.Calls.{call_at, call_of, IsKey, IsPatch, IsAccepted}
 
 -- ---- steps that may be refused

@@ -2,7 +2,7 @@
 use Rattle.std.specs.Prelude.{ℕ, List}
 use Rattle.search_call.specs.SearchView.{SearchView, FacetCallView}
 use Rattle.doc_values.specs.Changes.{ChangeData}
-pub use Rattle.request_calls.specs.MultiData.{MultiData}
+use Rattle.search_bodies.specs.MultiData.{MultiData}
 use Rattle.request_calls.specs.declared.call.ReadCall.{ReadCall}
 use Rattle.request_calls.specs.declared.call.ReadCall.TheVariants as called
 

@@ -2,47 +2,18 @@
 use Rattle.std.specs.Prelude.{ℕ, ◌+◌, List, [], ◌∷◌, length, nat_lt, Bool, true, false, codes, Option, Some, None, option_map, Result, Ok, Err, if◌then◌else◌}
 use Rattle.std.specs.Str.{bytes_eq}
 use Rattle.serde_json.specs.Data.{Data, null, boolean, number, string, array, object, Items, no_items, item, Members, no_members, member}
-use Rattle.serde_json.specs.Find.{get_member}
 use Rattle.search_base.specs.Trying.{◌>>=◌, ◌>>◌, first_of, or_refuse, refused_as}
 use Rattle.index_settings.specs.declared.fault.SettingsRefusal.{SettingsRefusal}
 use Rattle.index_settings.specs.declared.fault.SettingsRefusal.TheVariants as settings
 use Rattle.index_settings.specs.Table.{patch_fault}
 use Rattle.doc_values.specs.Ids as ids
 use Rattle.doc_values.specs.Ids.{is_uid}
-use Rattle.document_stream.specs.Bodies.{json_of, documents_read}
+use Rattle.document_stream.specs.Bodies.{documents_read}
 use Rattle.document_stream.specs.declared.fault.BodyRefusal.{BodyRefusal}
 use Rattle.document_stream.specs.declared.fault.BodyRefusal.TheVariants as body
+use Rattle.search_bodies.specs.Json.{json_in, members_of, as_text, text_at}
 use Rattle.request_refusals.specs.declared.refusal.Refusal.{Refusal}
 use Rattle.request_refusals.specs.declared.refusal.Refusal.TheVariants.{InvalidUid, Unknown, NotJson, NotList, NotObject, NumberNotWhole, BadListedId, MissingUid, BadSettings, BadRankingRule}
-
--- the JSON value that a body is
-abbrev pub json_in : List ℕ → Result Data Refusal
-json_in body = or_refuse NotJson (json_of body)
-
--- the members of a body that is to be an object
-abbrev pub members_of : Data → Result Members Refusal
-members_of null = Err (Unknown (codes "body"))
-members_of (boolean b) = Err (Unknown (codes "body"))
-members_of (number n) = Err (Unknown (codes "body"))
-members_of (string s) = Err (Unknown (codes "body"))
-members_of (array ds) = Err (Unknown (codes "body"))
-members_of (object ms) = Ok ms
-
--- the text that a member is, where it is there and is one
-abbrev pub as_text : Data → Option (List ℕ)
-as_text null = None
-as_text (boolean b) = None
-as_text (number n) = None
-as_text (string s) = Some s
-as_text (array ds) = None
-as_text (object ms) = None
-
-abbrev pub text_or_none : Option Data → Option (List ℕ)
-text_or_none None = None
-text_or_none (Some d) = as_text d
-
-abbrev pub text_at : List ℕ → Members → Option (List ℕ)
-text_at name ms = text_or_none (get_member name ms)
 
 -- ---- an index that is to be made
 

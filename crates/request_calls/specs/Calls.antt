@@ -19,9 +19,9 @@ use Rattle.request_routes.specs.Query.{Pair, query_for, value_of, count_in, fiel
 use Rattle.request_calls.specs.declared.call.Call.{Call}
 use Rattle.request_calls.specs.declared.call.Call.TheVariants as call
 use Rattle.request_calls.specs.Bodies.{index_in, documents_in, ids_in, patch_in}
-use Rattle.request_calls.specs.Searches.{search_of, search_by}
-use Rattle.request_calls.specs.Multi.{multi_of}
-use Rattle.request_calls.specs.FacetSearches.{facets_of}
+use Rattle.search_bodies.specs.Searches.{search_of, search_by}
+use Rattle.search_bodies.specs.Multi.{multi_of}
+use Rattle.search_bodies.specs.FacetSearches.{facets_of}
 use Rattle.request_calls.specs.Asked.{CallData, write, read, read_view}
 use Rattle.request_calls.specs.Asked as asked
 

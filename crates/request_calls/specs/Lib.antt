@@ -1,11 +1,5 @@
 pub mod Refusals
 pub mod Bodies
-pub mod Values
-pub mod Formats
-pub mod Searches
-pub mod Multi
-pub mod FacetSearches
-pub mod MultiData
 pub mod Asked
 pub mod Calls
 pub mod Held

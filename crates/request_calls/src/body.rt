@@ -1,16 +1,15 @@
-ghost use Rattle.std.specs.Prelude.{◌≡◌, ◌≤◌, IfOk};
-ghost use Rattle.serde_json.specs.Data.{depth};
-ghost use Rattle.serde_json.specs.Read.{max_depth};
-ghost use Rattle.serde_json.specs.Find.{get};
+ghost use Rattle.std.specs.Prelude.{◌≡◌};
 ghost use Rattle.serde_json.specs.View.{view, members_view, items_view};
 ghost use Rattle.search_base.specs.Gives.{Gives, Checks};
 ghost use Rattle.request_calls.specs.Held.{new_index};
-ghost use Rattle.request_calls.specs.Bodies.{json_in, body_refusal as refusal_of_body, documents_in as documents_of_body, index_in, index_from, index_member_fault, index_members_fault, is_key_or_null as key_or_null, is_uid_text, as_text, text_or_none, ids_in, ids_from};
+ghost use Rattle.request_calls.specs.Bodies.{body_refusal as refusal_of_body, documents_in as documents_of_body, index_in, index_from, index_member_fault, index_members_fault, is_key_or_null as key_or_null, is_uid_text, ids_in, ids_from};
+ghost use Rattle.search_bodies.specs.Json.{as_text};
 
 use doc_values::{DocumentText, id_of, is_uid};
 use document_stream::BodyRefusal;
 use request_refusals::Refusal;
-use search_base::{Fault, NoMemory, Word};
+use search_base::{Fault, Word};
+use search_bodies::{read_json, text_at};
 use serde_json::{Map, Value};
 use std::alloc::Global;
 
@@ -18,21 +17,6 @@ use std::alloc::Global;
 pub(crate) struct NewIndex {
     pub uid: Word,
     pub key: Option<Word>,
-}
-
-/// The JSON value that a body is.
-pub(crate) fn read_json(alloc: Global, body: &[u8]) -> Result<Value, Fault<Refusal>>
-    ensures value { Gives view result (json_in body.now) }
-    ensures shallow { IfOk result (λ value. depth (view value) ≤ max_depth) }
-{
-    match Value::from_slice(alloc, body) {
-        Ok(value) => Ok(value),
-        Err(e) => if e.is_memory() {
-            Err(Fault::NoMemory)
-        } else {
-            Err(Fault::Refused(Refusal::NotJson))
-        },
-    }
 }
 
 /// The documents of a body, read one by one.
@@ -115,16 +99,6 @@ fn index_call(alloc: Global, value: &Value) -> Result<NewIndex, Fault<Refusal>>
             Ok(NewIndex { uid, key })
         }
         None => Err(Fault::Refused(Refusal::MissingUid)),
-    }
-}
-
-/// The text that a member is, where it is there and is one.
-pub(crate) fn text_at(alloc: Global, value: &Value, name: &str) -> Result<Option<Word>, NoMemory>
-    ensures { IfOk result (λ word. word ≡ text_or_none (get name.now (view value.now))) }
-{
-    match value.get(name).and_then(Value::as_str) {
-        Some(text) => Ok(Some(Word::new(alloc, text)?)),
-        None => Ok(None),
     }
 }
 

@@ -9,10 +9,7 @@ ghost use Rattle.request_calls.specs.Calls.{call_of, call_at, IsCall, IsAccepted
 ghost use Rattle.request_calls.specs.Held.{call_data};
 
 use crate::body::{NewIndex, read_documents, read_ids, read_index};
-use crate::facets::read_facets;
-use crate::multi::{MultiCall, read_multi};
 use crate::reply::refusal_reply;
-use crate::search::{read_search, search_by_pairs};
 use crate::settings::read_patch;
 use doc_values::{Change, ChangeKind};
 use http_wire::{Reply, Wire};
@@ -22,6 +19,7 @@ use request_routes::{
     split_target, task_number, text_in,
 };
 use search_base::{Fault, NoMemory, Word};
+use search_bodies::{MultiCall, read_facets, read_multi, read_search, search_by_pairs};
 use search_call::{FacetCall, SearchCall};
 use std::alloc::Global;
 

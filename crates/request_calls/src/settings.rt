@@ -2,10 +2,10 @@ ghost use Rattle.serde_json.specs.View.{view};
 ghost use Rattle.search_base.specs.Gives.{Gives, Checks, Turns};
 ghost use Rattle.request_calls.specs.Bodies.{patch_in, patch_refusal, settings_refusal};
 
-use crate::body::read_json;
 use index_settings::{SettingsRefusal, check_patch};
 use request_refusals::Refusal;
 use search_base::{Fault, Word};
+use search_bodies::read_json;
 use serde_json::Value;
 use std::alloc::Global;
 

@@ -1,7 +1,3 @@
 pub mod PrintLemmas
-pub mod ShownLemmas
-pub mod AddedLemmas
-pub mod CropLemmas
-pub mod PlaceLemmas
 pub mod TermLemmas
 pub mod FacetLemmas

@@ -10,10 +10,8 @@ use Rattle.search_call.specs.declared.Window.{Window}
 use Rattle.search_call.specs.declared.Window.TheVariants.{Slice, Page}
 use Rattle.facet_counts.specs.declared.rows.CountRow.{CountRow}
 use Rattle.facet_counts.specs.FacetView.{FacetView}
-use Rattle.request_replies.specs.Costs.{whole}
+use Rattle.search_replies.specs.Costs.{whole}
 use Rattle.request_replies.specs.Facets.{distribution_data, stats_data, ends_data, facet_members}
-use Rattle.request_replies.specs.declared.positions.Place.{Place}
-use Rattle.request_replies.specs.Positions.{place_data}
 use Rattle.request_replies.specs.Replies.{count, text_or_null, listing_data, hits_data, total_pages, results_data, facet_hit, facet_hits_data, with_estimate, with_index, window_members, joined, shown_with}
 
 -- what stands behind pieces stands behind the last of them
@@ -190,13 +188,6 @@ facet_hits_printed query rows front list asked rest whole is_front is_list is_as
     three_pieces front list rest whole (codes "{\"facetHits\":") (codes ",\"facetQuery\":" ++ (compact_text (text_or_null query) ++ codes "}"))
     (compact_text (array (items_of (map facet_hit rows)))) is_front is_list
     (is_rest ∙ ap (λ v. codes ",\"facetQuery\":" ++ (v ++ codes "}")) is_asked) is_whole
-
-pub place_printed : (place : Place) (piece old new : List ℕ)
-    → piece ≡ codes "{\"length\":" ++ (decimal place.length ++ (codes ",\"start\":" ++ (decimal place.start ++ (codes ",\"text\":" ++ (decimal place.text ++ codes "}")))))
-    → new ≡ old ++ piece
-    → new ≡ old ++ compact_text (place_data place)
-unfolding serde_json_on_literals
-place_printed place piece old new is_piece is_new = is_new ∙ ap (λ v. old ++ v) is_piece
 
 -- ---- counts
 

@@ -4,7 +4,7 @@ use Rattle.std.specs.Prelude.{ℕ, ℤ, List, [], ◌∷◌, Option, Some, None,
 use Rattle.serde_json.specs.Data.{Data, number, unsigned, object, Members, no_members, member, put}
 use Rattle.facet_counts.specs.declared.rows.CountRow.{CountRow}
 use Rattle.facet_counts.specs.FacetView.{FacetView}
-use Rattle.request_replies.specs.Costs.{whole}
+use Rattle.search_replies.specs.Costs.{whole}
 
 -- ---- how many documents have each value
 

@@ -1,10 +1,2 @@
-pub mod Costs
-pub mod Members
-pub mod Formatted
-pub mod Positions
-pub mod Shown
-pub mod Names
-pub mod Marks
-pub mod Added
 pub mod Facets
 pub mod Replies

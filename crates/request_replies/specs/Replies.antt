@@ -19,7 +19,7 @@ use Rattle.task_queue.specs.declared.task.TaskState.{TaskState}
 use Rattle.task_queue.specs.declared.task.TaskState.TheVariants as state
 use Rattle.task_queue.specs.Queue.{Shown as TaskShown}
 use Rattle.request_refusals.specs.Tasks.{code_of_row}
-use Rattle.request_replies.specs.Shown.{shown, all_shown, hit_shown}
+use Rattle.search_replies.specs.Shown.{shown, all_shown, hit_shown}
 use Rattle.request_replies.specs.Facets.{facet_members}
 
 abbrev pub answer : ℕ → Data → Answer

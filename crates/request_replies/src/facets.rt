@@ -7,9 +7,9 @@ ghost use Rattle.serde_json.specs.View.{view, members_view};
 ghost use Rattle.serde_json.specs.Written.{compact_text, members_text};
 ghost use Rattle.request_replies.specs.Facets.{counts_data, with_counts, distribution_data, with_stats, ends_data, ends_members, stats_data, facet_members};
 
-use crate::text::{put_comma, quoted_text};
 use facet_counts::{CountRow, FacetReply};
 use search_base::{NoMemory, Word};
+use search_replies::{put_comma, quoted_text};
 use serde_json::{Map, Value};
 use std::alloc::Global;
 use std::collections::BTreeMap;

@@ -5,19 +5,14 @@ ghost use Rattle.serde_json.specs.Data.{Members, member, array};
 ghost use Rattle.serde_json.specs.View.{items_of};
 ghost use Rattle.serde_json.specs.Written.{compact_text, members_text};
 ghost use Rattle.request_replies.specs.Facets.{facet_members};
-ghost use Rattle.request_replies.specs.Names.{shows};
-ghost use Rattle.request_replies.specs.Shown.{hit_by};
+ghost use Rattle.search_replies.specs.Shown.{shown_by};
 ghost use Rattle.search_result.specs.View.{found_view};
 ghost use Rattle.request_replies.specs.Replies.{found_data, shown_with, total_pages as total_pages_of, with_estimate, with_index, window_members};
 
-use crate::display::Display;
 use crate::facets::put_facets;
-use crate::marks::Marks;
-use crate::names::Names;
-use crate::shown::put_hits;
-use crate::text::{put_comma, quoted_text};
 use search_base::{NoMemory, Word};
 use search_call::{SearchCall, Window};
+use search_replies::{Display, put_comma, put_hits, quoted_text};
 use search_result::SearchResult;
 use std::alloc::Global;
 
@@ -33,9 +28,7 @@ pub(crate) fn found_text(
     ensures { IfOk result (λ text. string_bytes text ≡ compact_text (shown_with (option_copied uid.entry)
         (found_data displayed.now call.now found.now.terms.items (found_view found.now)))) }
 {
-    let names = Names::common(alloc, displayed, &call.retrieve)?;
-    let marks = Marks::new(alloc, &call.formats, found.terms.as_slice())?;
-    let display = Display { names, marks };
+    let display = Display::new(alloc, displayed, call, found.terms.as_slice())?;
     let mut text = String::from_str(alloc, "{")?;
     put_found(alloc, &mut text, call.window, &display, found)?;
     let rest = window_text(alloc, uid, call.q.as_str(), call.window, found.total)?;
@@ -55,8 +48,7 @@ fn put_found(
     ensures { OnOk result ((rest : Members) → string_bytes text.new ++ members_text true rest
         ≡ string_bytes text.old ++ members_text false (with_estimate window found.now.total
         (facet_members (found_view found.now).facets (member (codes "hits")
-        (array (items_of (map (hit_by (shows display.now.names) display.now.marks.formats display.now.marks.terms)
-        (found_view found.now).hits))) rest)))) }
+        (array (items_of (map (shown_by display.now) (found_view found.now).hits))) rest)))) }
 {
     let later = put_estimate(alloc, text, window, found.total)?;
     let later = put_facets(alloc, text, later, found.all_facets())?;

@@ -1,32 +1,20 @@
-//! The replies to calls that are not refused: what is shown of documents, hits, indexes and settings, how a change is
-//! acknowledged, and what is told of the task that it became.
+//! The replies to calls that are not refused: what is shown of documents, searches, indexes and settings, how a change
+//! is acknowledged, and what is told of the task that it became.
 //!
 //! Promises that each reply is the answer of its definition in specs/Replies.antt, byte for byte; the one error is want
-//! of memory. A hit shows members of its document and what the search adds to them: `_costs`, `_formatted`, which has
-//! these members with their texts marked and cropped, and `_matchesPosition`, which says where matched words stand in
-//! them. Contracts see a `ResultText` as its bytes. Stands on `doc_values` for documents, `index_settings` for
-//! settings, `search_call` and `search_result` for searches and what they found, `hit_format` for marked texts,
-//! `facet_counts` for counts of values, `task_queue` for what is told of a task, `request_refusals` for the codes of
-//! failed ones, `http_wire` for replies, and on nothing that keeps documents.
+//! of memory. Contracts see a `ResultText` as its bytes. Stands on `search_replies` for the documents and hits in them,
+//! `doc_values` for documents, `index_settings` for settings, `search_call` and `search_result` for searches and what
+//! they found, `facet_counts` for counts of values, `task_queue` for what is told of a task, `request_refusals` for the
+//! codes of failed ones, `http_wire` for replies, and on nothing that keeps documents.
 #![tactic(auto)]
 
-mod added;
-mod costs;
-mod crops;
-mod display;
 mod facets;
-mod formatted;
 mod found;
-mod marks;
-mod names;
-mod own;
-mod positions;
+mod listing;
 mod replies;
 mod result;
 mod several;
-mod shown;
 mod tasks;
-mod text;
 
 pub use replies::{
     document_reply, documents_reply, facet_hits_reply, health_reply, hits_reply, index_reply,

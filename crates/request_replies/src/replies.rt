@@ -9,9 +9,9 @@ ghost use Rattle.search_result.specs.View.{found_view};
 ghost use Rattle.request_replies.specs.Replies.{answer, health, health_data, index_data, one_index, one_document, list_data, documents_listing, facet_hits, found_data, settings as shown_settings, hits as hits_answer, results as all_results, with_uid};
 
 use crate::found::found_text;
+use crate::listing::listing_text;
 use crate::result::ResultText;
 use crate::several::{facet_hits_text, results_text};
-use crate::shown::{listing_text, shown_text};
 use doc_values::DocumentText;
 use facet_counts::CountRow;
 use http::StatusCode;
@@ -19,6 +19,7 @@ use http_wire::{Reply, make_reply};
 use index_settings::{Settings, to_json};
 use search_base::{NoMemory, Word};
 use search_call::SearchCall;
+use search_replies::shown_text;
 use search_result::SearchResult;
 use serde_json::{Value, json};
 use std::alloc::{AllocError, Global};

@@ -7,9 +7,9 @@ ghost use Rattle.serde_json.specs.Written.{compact_text};
 ghost use Rattle.request_replies.specs.Replies.{joined, results_data, facet_hit, facet_hits_data, text_or_null};
 
 use crate::result::ResultText;
-use crate::text::{put_comma, quoted_text};
 use facet_counts::CountRow;
 use search_base::{NoMemory, Word};
+use search_replies::{put_comma, quoted_text};
 use std::alloc::Global;
 
 /// What several searches found, in their order.

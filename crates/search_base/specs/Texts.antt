@@ -6,5 +6,5 @@ use Rattle.search_base.specs.declared.word.Text.TheVariants.{Short, Long}
 
 -- the bytes of a text, in place or shared
 abbrev pub text_bytes : Text → List ℕ
-text_bytes (Short s) = s.bytes
+text_bytes (Short s) = s
 text_bytes (Long t) = rc_str_bytes t

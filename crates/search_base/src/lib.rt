@@ -4,7 +4,7 @@
 //! order, and a tick adds one to its counter. Contracts see a type with a vector among its parts
 //! as a record of lists, and each other type as it is declared. `specs/` says what a search means:
 //! where a term occurs in a document, the readings of a query, and the costs by which documents
-//! are ranked. Of the kit the crate takes `arrayvec` alone, for the text of short words.
+//! are ranked.
 #![tactic(auto)]
 
 mod cost_key;
@@ -15,6 +15,7 @@ mod outcome;
 mod position;
 mod query;
 mod rule;
+mod short_text;
 mod steps;
 mod token;
 mod value;

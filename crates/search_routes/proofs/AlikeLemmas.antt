@@ -5,7 +5,8 @@ use Rattle.serde_json.specs.Data.{Data}
 use Rattle.http_wire.specs.Reply.{Answer}
 use Rattle.request_refusals.specs.declared.refusal.Refusal.{Refusal}
 use Rattle.search_base.specs.Trying.{◌>>=◌}
-use Rattle.request_calls.specs.Asked.{MultiData, search, multi}
+use Rattle.search_bodies.specs.MultiData.{MultiData}
+use Rattle.request_calls.specs.Asked.{search, multi}
 use Rattle.request_replies.specs.Replies as replies
 use Rattle.search_routes.specs.State.{State}
 use Rattle.search_routes.specs.Machine.{searched, results_of, answer_to}

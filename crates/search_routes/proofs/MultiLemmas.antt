@@ -26,7 +26,7 @@ use Rattle.index_core.specs.Looked.{unless_refused}
 use Rattle.index_core.specs.Opened.{opened, opened_in, most_opened}
 use Rattle.request_refusals.specs.declared.refusal.Refusal.{Refusal}
 use Rattle.request_refusals.specs.declared.refusal.Refusal.TheVariants.{NoIndex}
-use Rattle.request_calls.specs.Asked.{MultiData}
+use Rattle.search_bodies.specs.MultiData.{MultiData}
 use Rattle.request_replies.specs.Replies.{with_uid}
 use Rattle.named_indexes.specs.Indexes.{Indexes, index_at}
 use Rattle.search_routes.specs.Machine.{found_shown, search_refusal, searched, result_of, results_of}

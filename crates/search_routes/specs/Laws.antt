@@ -3,7 +3,8 @@ use Rattle.std.specs.Prelude.{◌≡◌, ◌≢◌, ◌⊎◌, ◌+◌, List, ma
 use Rattle.serde_json.specs.Data.{Data}
 use Rattle.http_wire.specs.Reply.{Answer}
 use Rattle.http_wire.specs.Stream.{Request}
-use Rattle.request_calls.specs.Asked.{MultiData, search, multi}
+use Rattle.search_bodies.specs.MultiData.{MultiData}
+use Rattle.request_calls.specs.Asked.{search, multi}
 use Rattle.request_replies.specs.Replies as replies
 use Rattle.queued_changes.specs.State.{accepted}
 use Rattle.queued_changes.specs.Run.{IsStep}

@@ -18,7 +18,8 @@ use Rattle.request_refusals.specs.declared.refusal.Refusal.TheVariants.{NoTask, 
 use Rattle.search_base.specs.TermView.{TermView}
 use Rattle.search_base.specs.Trying.{◌>>=◌, ◌>>◌, refuse_if, or_refuse, refused_as}
 use Rattle.request_calls.specs.Refusals.{refused}
-use Rattle.request_calls.specs.Asked.{ReadData, MultiData, health, task, indexes, index, documents, document, settings, search, multi, facets, CallData, write, read}
+use Rattle.search_bodies.specs.MultiData.{MultiData}
+use Rattle.request_calls.specs.Asked.{ReadData, health, task, indexes, index, documents, document, settings, search, multi, facets, CallData, write, read}
 use Rattle.request_calls.specs.Calls.{call_of}
 use Rattle.search_call.specs.SearchView.{SearchView}
 use Rattle.request_replies.specs.Replies as replies

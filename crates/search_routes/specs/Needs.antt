@@ -5,7 +5,8 @@ use Rattle.http_wire.specs.Stream.{Request}
 use Rattle.index_changes.specs.Index.{Index, documents as documents_in, document_under}
 use Rattle.index_core.specs.Fetches.{documents_needed}
 use Rattle.request_refusals.specs.declared.refusal.Refusal.{Refusal}
-use Rattle.request_calls.specs.Asked.{ReadData, MultiData, health, task, indexes, index, documents, document, settings, search, multi, facets, CallData, write, read}
+use Rattle.search_bodies.specs.MultiData.{MultiData}
+use Rattle.request_calls.specs.Asked.{ReadData, health, task, indexes, index, documents, document, settings, search, multi, facets, CallData, write, read}
 use Rattle.request_calls.specs.Calls.{call_of}
 use Rattle.search_call.specs.SearchView.{SearchView}
 use Rattle.queued_changes.specs.State.{accepted}

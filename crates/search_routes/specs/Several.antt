@@ -14,7 +14,7 @@ use Rattle.multi_search.specs.declared.multi.MultiFault.{MultiFault}
 use Rattle.multi_search.specs.declared.multi.MultiFault.TheVariants as multi
 use Rattle.multi_search.specs.Outcomes.{Agrees}
 use Rattle.request_refusals.specs.declared.refusal.Refusal.{Refusal}
-use Rattle.request_calls.specs.Asked.{MultiData}
+use Rattle.search_bodies.specs.MultiData.{MultiData}
 use Rattle.named_indexes.specs.Indexes.{Indexes}
 use Rattle.search_routes.specs.Machine.{result_of}
 use Rattle.search_routes.specs.Needs.{answered, search_need}

@@ -8,9 +8,9 @@
 //! those that wait, what became of the last ones, and each index by its uid. Stands on named_indexes, which are the
 //! indexes and the changes that they take, on queued_changes and task_queue for the tasks, on index_core, which is one
 //! index, on index_image and change_payloads for images and payloads, on request_calls, which reads a request into a
-//! call, on request_refusals for why a request is refused, on request_replies for what is shown of what was done, on
-//! multi_search for several searches in one call, on doc_values for documents and changes, and on http_wire for
-//! requests and replies.
+//! call, on search_bodies for several searches in one body, on request_refusals for why a request is refused, on
+//! request_replies for what is shown of what was done, on multi_search for making several searches in one call, on
+//! doc_values for documents and changes, and on http_wire for requests and replies.
 #![tactic(auto)]
 
 mod asking;

@@ -13,10 +13,10 @@ use crate::searching::{search_index, shown_text};
 use bucket_sort::BucketLog;
 use multi_search::{MultiFault, OneFault, SearchOne, run};
 use named_indexes::Indexes;
-use request_calls::MultiCall;
 use request_refusals::Refusal;
 use request_replies::ResultText;
 use search_base::{Fault, Steps};
+use search_bodies::MultiCall;
 use std::alloc::Global;
 
 /// Makes several searches, one after the other, and gives what each shows. The first that is refused refuses all. 2^32

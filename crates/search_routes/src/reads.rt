@@ -15,13 +15,14 @@ use bucket_sort::BucketLog;
 use http_wire::Reply;
 use named_indexes::{Indexes, Payload};
 use queued_changes::Queued;
-use request_calls::{MultiCall, ReadCall};
+use request_calls::ReadCall;
 use request_refusals::Refusal;
 use request_replies::{
     document_reply, documents_reply, facet_hits_reply, health_reply, index_reply, list_reply,
     results_reply, settings_reply, task_reply,
 };
 use search_base::{Fault, Steps, Word};
+use search_bodies::MultiCall;
 use search_call::{FacetCall, SearchCall};
 use search_settings::SearchRefusal;
 use std::alloc::Global;

@@ -3,10 +3,8 @@ use doc_sets::DocSet;
 use facet_index::{FacetChange, FacetIndex};
 use facet_keys::{greatest_key, least_key, mark_key, value_key};
 use leaf_table::{LeafChange, LeafTable};
-use postings::{Change, Postings};
-use search_base::{DocId, FacetValue, Leaf, Mark, MarkKind, PathId, Place, Word};
+use search_base::{DocId, FacetValue, Leaf, Mark, MarkKind, PathId, Word};
 use std::alloc::Global;
-use std::ops::Bound;
 use std::process::Abort;
 
 // A document with its leaves and marks.
@@ -421,62 +419,4 @@ fn keys_in_order(rt: HostRuntime) {
     for (key, next) in keys.iter().zip(keys.iter().skip(1)) {
         check(&rt, key < next, "keys");
     }
-}
-
-// How many words there are from a bound on.
-fn from(postings: &Postings, low: Bound<&Word>) -> usize {
-    let mut count = 0_usize;
-    for (_word, list) in postings.words_from(low) {
-        count = count.saturating_add(list.pages().len());
-    }
-    count
-}
-
-fn places(rt: &impl Abort, alloc: Global) -> Vec<Place> {
-    let mut places = Vec::new(alloc);
-    for text in &["a", "ab", "b"] {
-        let place = Place {
-            path: PathId(0),
-            rank: 0,
-            position: 0,
-            word: word(rt, alloc, text),
-        };
-        places.push(place).expect(rt, "memory");
-    }
-    places
-}
-
-fn three_words(rt: &impl Abort, alloc: Global) -> Postings {
-    let mut postings = Postings::new(alloc);
-    let mut change = Change::new(alloc);
-    let places = places(rt, alloc);
-    change.put_in(alloc, DocId(2), &places).expect(rt, "memory");
-    let prepared = postings.prepare(alloc, change).expect(rt, "memory");
-    postings.commit(prepared);
-    postings
-}
-
-// A word, and how many words there are from it on, with it and without it.
-const BOUNDS: [(&str, usize, usize); 6] = [
-    ("", 3, 3),
-    ("a", 3, 2),
-    ("aa", 2, 2),
-    ("ab", 2, 1),
-    ("b", 1, 0),
-    ("c", 0, 0),
-];
-
-#[test]
-fn words_from_a_bound(rt: HostRuntime) {
-    let postings = three_words(&rt, rt.alloc());
-    for (text, with, without) in &BOUNDS {
-        let word = word(&rt, rt.alloc(), text);
-        check(&rt, from(&postings, Bound::Included(&word)) == *with, text);
-        check(
-            &rt,
-            from(&postings, Bound::Excluded(&word)) == *without,
-            text,
-        );
-    }
-    check(&rt, from(&postings, Bound::Unbounded) == 3, "all");
 }

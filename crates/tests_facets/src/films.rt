@@ -1,8 +1,6 @@
 use crate::checks::{check, check_ids, set, wide_set, word};
-use crate::counts::{asked, told};
 use crate::facets::{DocLeaves, commit};
 use facet_index::FacetIndex;
-use facet_shelf::Shelf;
 use search_base::{CostKey, DocId, FacetValue, Leaf, Mark, MarkKind, PathId, SortKey};
 use std::alloc::Global;
 use std::process::Abort;
@@ -56,15 +54,6 @@ fn index(rt: &impl Abort, alloc: Global) -> FacetIndex {
     index
 }
 
-fn shelf(rt: &impl Abort, alloc: Global) -> Shelf {
-    let mut films = Vec::new(alloc);
-    for (_id, year, genres) in &FILMS {
-        let leaves = leaves_of(rt, alloc, *year, genres);
-        films.push(leaves).expect(rt, "memory");
-    }
-    Shelf::of(alloc, films).expect(rt, "memory")
-}
-
 #[test]
 fn films_by_value_mark_and_range(rt: HostRuntime) {
     let alloc = rt.alloc();
@@ -102,23 +91,5 @@ fn films_by_year(rt: HostRuntime) {
             let docs = index.sort_docs(alloc, YEAR, true, &year, &all);
             check_ids(&rt, &docs.expect(&rt, "memory"), ids, "films of it");
         }
-    }
-}
-
-// The matches, the path, how many values are given at most, and what is told of them.
-const COUNTS: [(&[u32], PathId, u64, &str); 3] = [
-    (&[0, 1, 2, 3], GENRES, 1, "action Action 2, "),
-    (&[0, 1, 2, 3], YEAR, 0, "1999 to 2012, "),
-    (&[3], GENRES, 1, "drama drama 1, "),
-];
-
-#[test]
-fn values_of_films(rt: HostRuntime) {
-    let alloc = rt.alloc();
-    let shelf = shelf(&rt, alloc);
-    for (ids, path, most, want) in &COUNTS {
-        let matching = set(&rt, alloc, ids);
-        let reply = asked(&rt, alloc, &shelf, &matching, Some(path.0), *most);
-        check(&rt, told(&rt, alloc, &reply).as_str() == *want, want);
     }
 }

@@ -1,5 +1,4 @@
-//! Tests of the keys of facets, the words of posting lists from a bound on, the facet index, the table of leaves, the
-//! sets that filters select, and counts.
+//! Tests of the keys of facets, the facet index, and the sets that filters select.
 //!
 //! They stand in a crate of their own, so that the crates they try are proved once and not twice. The crate has nothing
 //! but tests, and promises nothing.
@@ -8,10 +7,6 @@
 #[cfg(test)]
 mod checks;
 #[cfg(test)]
-mod columns;
-#[cfg(test)]
-mod counts;
-#[cfg(test)]
 mod facets;
 #[cfg(test)]
 mod films;
@@ -19,7 +14,5 @@ mod films;
 mod filter_texts;
 #[cfg(test)]
 mod filters;
-#[cfg(test)]
-mod shared_leaves;
 #[cfg(test)]
 mod sorts;

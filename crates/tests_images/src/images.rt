@@ -1,8 +1,7 @@
 mod images;
 mod outcomes;
 
-use crate::checks::{check, check_text, word};
-use crate::hex::{bytes_of, fault_text};
+use crate::checks::{bytes_of, check, check_text, fault_text, word};
 use index_image::{ImageRows, decode, encode};
 use search_base::OutcomeRow;
 use std::alloc::Global;

@@ -7,8 +7,6 @@
 #[cfg(test)]
 mod checks;
 #[cfg(test)]
-mod hex;
-#[cfg(test)]
 mod images;
 #[cfg(test)]
 mod payloads;

@@ -1,7 +1,6 @@
 mod changes;
 
-use crate::checks::{check, check_text, word};
-use crate::hex::{bytes_of, fault_text};
+use crate::checks::{bytes_of, check, check_text, fault_text, word};
 use change_payloads::{
     damage, decode_change, encode_change, optional, put_length, put_optional, put_word, text,
     u8_at, u32_at,

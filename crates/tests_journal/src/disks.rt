@@ -3,29 +3,9 @@ use outside_io::MemoryDisk;
 use std::alloc::{AllocError, Global};
 use std::process::Abort;
 
-fn value_of(digit: u8) -> u8 {
-    match digit {
-        b'0'..=b'9' => digit.wrapping_sub(b'0'),
-        _ => digit.wrapping_sub(b'a').wrapping_add(10),
-    }
-}
-
 // The bytes of a text in hexadecimal.
-fn bytes_of(rt: &impl Abort, alloc: Global, hex: &str) -> Vec<u8> {
-    let mut bytes = Vec::new(alloc);
-    let mut high = None;
-    for digit in hex.as_bytes() {
-        let value = value_of(*digit);
-        high = match high {
-            None => Some(value.wrapping_mul(16)),
-            Some(sixteens) => {
-                let byte: u8 = sixteens;
-                bytes.push(byte.wrapping_add(value)).expect(rt, "memory");
-                None
-            }
-        };
-    }
-    bytes
+fn bytes_of(rt: &impl Abort, alloc: Global, text: &str) -> Vec<u8> {
+    hex::decode(alloc, text).expect(rt, "hexadecimal")
 }
 
 /// A disk that holds these bytes, and whose calls from one on to the 39th fail.

@@ -1,7 +1,8 @@
 use crate::checks::check;
 use crate::places::{Document, Spot, WORDS, add_document, commit, next, over_and_over, word};
 use doc_sets::DocSet;
-use near_words::{documents_by_pair_cost, pair_cost};
+use near_words::{documents_by_pair_cost, documents_by_prefix_cost, pair_cost};
+use posting_sets::PrefixPlaces;
 use postings::Postings;
 use search_base::DocId;
 use sorted_pages::is_increasing;
@@ -97,8 +98,12 @@ fn sets_of(
     (left, prefix, right): (usize, bool, usize),
 ) -> Vec<DocSet> {
     let (left, right) = (word(rt, alloc, left), word(rt, alloc, right));
-    let sets = documents_by_pair_cost(alloc, universe, postings, &left, prefix, &right);
-    sets.expect(rt, "memory")
+    if prefix {
+        let places = PrefixPlaces::new(alloc, postings, &right).expect(rt, "memory");
+        documents_by_prefix_cost(alloc, universe, postings, &left, &places).expect(rt, "memory")
+    } else {
+        documents_by_pair_cost(alloc, universe, postings, &left, &right).expect(rt, "memory")
+    }
 }
 
 // The sets of two words are those of the documents.

@@ -1,6 +1,7 @@
 use crate::checks::check;
 use doc_sets::DocSet;
-use postings::{Change, PostingList, Postings};
+use posting_list::PostingList;
+use postings::{Change, Postings};
 use search_base::{DocId, PathId, Place, Word};
 use std::alloc::Global;
 use std::process::Abort;

@@ -5,8 +5,8 @@ use crate::places::{
 };
 use doc_sets::{DocSet, DocSetBuilder};
 use posting_sets::{
-    documents, documents_at_first, documents_by_beginning, documents_by_bucket, documents_by_rank,
-    numbers_are_those_of_blocks,
+    PrefixPlaces, documents, documents_at_first, documents_by_beginning, documents_by_bucket,
+    documents_by_rank, numbers_are_those_of_blocks,
 };
 use postings::Postings;
 use search_base::{DocId, Term, bucket};
@@ -173,6 +173,27 @@ fn check_beginning(
     }
 }
 
+// The places of a prefix are gathered once, and each question about them is answered as the documents say.
+fn check_prefix_answers(
+    rt: &impl Abort,
+    alloc: Global,
+    places: &PrefixPlaces<'_>,
+    all: &[Document],
+    asked: &Asked,
+    universe: &[u32],
+) {
+    let set = set_of(rt, alloc, universe);
+    let found = places.documents(alloc, &set).expect(rt, "memory");
+    check_found(rt, &found, all, asked, universe);
+    let rows = places.by_rank(alloc, &RANKS, &set).expect(rt, "memory");
+    check(rt, are_numbered(all, asked, universe, true, &rows), "ranks");
+    let rows = places.by_bucket(alloc, &set).expect(rt, "memory");
+    let right = are_numbered(all, asked, universe, false, &rows);
+    check(rt, right, "buckets");
+    let first = places.at_first(alloc, &set).expect(rt, "memory");
+    check_first(rt, Some(&first), all, asked, universe);
+}
+
 // Each question is answered as the documents say.
 fn check_answers(
     rt: &impl Abort,
@@ -197,7 +218,11 @@ fn check_answers(
     );
     let first = documents_at_first(alloc, postings, &term, &set).expect(rt, "memory");
     check_first(rt, first.as_ref(), all, asked, universe);
-    if !term.prefix {
+    if term.prefix {
+        let places = PrefixPlaces::new(alloc, postings, &term.words[0]).expect(rt, "memory");
+        check(rt, *places.prefix() == term.words[0], "prefix");
+        check_prefix_answers(rt, alloc, &places, all, asked, universe);
+    } else {
         let words = term.words.as_slice();
         let found = documents_by_beginning(alloc, postings, words, &set).expect(rt, "memory");
         check_beginning(rt, &found, all, asked, universe);
@@ -327,13 +352,18 @@ fn questions_about_named_documents(rt: HostRuntime) {
     }
 }
 
-// So many documents of the same words, and a universe of one in a hundred and the last.
+// So many documents of the same words, and a universe of one in a hundred and the last. The last has a rare word too.
 fn alike(rt: &impl Abort, alloc: Global, many: u32, universe: &mut Vec<u32>) -> Vec<Document> {
     let mut all = Vec::new(alloc);
     for id in 0..many {
         let spots = [(2, 0, 0), (4, 0, 1), (3, 2, (id % 40) as u16)];
-        add_document(rt, &mut all, id, spots_from(rt, alloc, &spots));
-        if id % 100 == 99 || id.wrapping_add(1) == many {
+        let mut spots = spots_from(rt, alloc, &spots);
+        let is_last = id.wrapping_add(1) == many;
+        if is_last {
+            spots.push((1, 1, 3)).expect(rt, "memory");
+        }
+        add_document(rt, &mut all, id, spots);
+        if id % 100 == 99 || is_last {
             universe.push(id).expect(rt, "memory");
         }
     }

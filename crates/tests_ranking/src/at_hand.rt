@@ -139,7 +139,7 @@ fn check_same(rt: &impl Abort, alloc: Global, query: &str, lines: &str, rules: &
     let shelf = shelf(rt, alloc, lines);
     let all = shelf.index().ids();
     let graph = graph(rt, alloc, query);
-    let snapshot = Snapshot::new(&shelf);
+    let snapshot = Snapshot::of_query(alloc, &shelf, &graph).expect(rt, "memory");
     let by_number = all_hits(rt, alloc, &snapshot, &graph, rules, all);
     let at_hand = AtHand { inner: &snapshot };
     let at_hand = all_hits(rt, alloc, &at_hand, &graph, rules, all);

@@ -1,4 +1,4 @@
-//! Tests of costs, the conditions of costs, and a search over an index.
+//! Tests of costs, and of a search over an index.
 //!
 //! They use what these crates offer to others, and stand in a crate of their own, so that the crates they try are proved
 //! once and not twice. The crate has nothing but tests, and promises nothing.
@@ -8,8 +8,6 @@
 mod at_hand;
 #[cfg(test)]
 mod checks;
-#[cfg(test)]
-mod conditions;
 #[cfg(test)]
 mod costs;
 #[cfg(test)]

@@ -49,7 +49,7 @@ fn found(
     let log = Box::new(alloc, RecordLog::new(alloc)).expect(rt, "memory");
     let mut log: Box<dyn BucketLog> = log;
     let mut openings: Steps<Counted> = Steps::new();
-    let snapshot = Snapshot::new(shelf);
+    let snapshot = Snapshot::of_query(alloc, shelf, &graph).expect(rt, "memory");
     let all = shelf.index().ids();
     let passing = documents_passing(alloc, shelf, filter, &paths, all).expect(rt, "memory");
     let rules = Rules::new(alloc, &snapshot, &graph, rules, &passing).expect(rt, "memory");

@@ -22,7 +22,7 @@ returns-clause-hits g c =
     let tree = view search.filter.now in
     let made = c.in_ok-rules.rules in
     let over : AreRulesOver among search.query.now tree search.rules.now made =
-    subst (λ (of : DocumentsView). AreRulesOver of search.query.now tree search.rules.now made) c.new-snapshot.ensures c.in_ok-rules.ensures in
+    subst (λ (of : DocumentsView). AreRulesOver of search.query.now tree search.rules.now made) c.in_ok-snapshot.ensures c.in_ok-rules.ensures in
     let all = c.in_ok-all.ensures ∙ c.matching-matching.ensures in
     let values = g.V.Values.values c.args.values.now in
     IfOk-weaker c.with_counts.result _ _ (λ found same. ap (map (λ (id : DocId). id.0)) same ∙ c.in_ok-hits.ensures.hits
@@ -35,7 +35,7 @@ returns-clause-total g c =
     let tree = view search.filter.now in
     let made = c.in_ok-rules.rules in
     let over : AreRulesOver among search.query.now tree search.rules.now made =
-    subst (λ (of : DocumentsView). AreRulesOver of search.query.now tree search.rules.now made) c.new-snapshot.ensures c.in_ok-rules.ensures in
+    subst (λ (of : DocumentsView). AreRulesOver of search.query.now tree search.rules.now made) c.in_ok-snapshot.ensures c.in_ok-rules.ensures in
     IfOk-weaker c.with_counts.result _ _ (λ found same. same ∙ ap length c.matching-matching.ensures
     ∙ same-total among search.query.now tree search.rules.now made over) c.with_counts.ensures.total
 
@@ -46,7 +46,7 @@ returns-clause-facets g c =
     let tree = view search.filter.now in
     let made = c.in_ok-rules.rules in
     let over : AreRulesOver among search.query.now tree search.rules.now made =
-    subst (λ (of : DocumentsView). AreRulesOver of search.query.now tree search.rules.now made) c.new-snapshot.ensures c.in_ok-rules.ensures in
+    subst (λ (of : DocumentsView). AreRulesOver of search.query.now tree search.rules.now made) c.in_ok-snapshot.ensures c.in_ok-rules.ensures in
     IfOk-weaker c.with_counts.result _ _ (λ found same. same
     ∙ ap (λ ids. map (counted search.counts.most (map (rows_at among.documents) ids)) search.counts.attributes.items) c.matching-matching.ensures
     ∙ ap (λ rows. map (counted search.counts.most rows) search.counts.attributes.items) (same-rows among search.query.now tree search.rules.now made over))
@@ -59,7 +59,7 @@ returns-clause-asks g c =
     let tree = view search.filter.now in
     let made = c.in_ok-rules.rules in
     let over : AreRulesOver among search.query.now tree search.rules.now made =
-    subst (λ (of : DocumentsView). AreRulesOver of search.query.now tree search.rules.now made) c.new-snapshot.ensures c.in_ok-rules.ensures in
+    subst (λ (of : DocumentsView). AreRulesOver of search.query.now tree search.rules.now made) c.in_ok-snapshot.ensures c.in_ok-rules.ensures in
     let all = c.in_ok-all.ensures ∙ c.matching-matching.ensures in
     let values = g.V.Values.values c.args.values.now in
     on-ok c.with_counts.result _
@@ -73,7 +73,7 @@ returns-clause-err_asks g c =
     let tree = view search.filter.now in
     let made = c.in_ok-rules.rules in
     let over : AreRulesOver among search.query.now tree search.rules.now made =
-    subst (λ (of : DocumentsView). AreRulesOver of search.query.now tree search.rules.now made) c.new-snapshot.ensures c.in_ok-rules.ensures in
+    subst (λ (of : DocumentsView). AreRulesOver of search.query.now tree search.rules.now made) c.in_ok-snapshot.ensures c.in_ok-rules.ensures in
     let all = c.in_ok-all.ensures ∙ c.matching-matching.ensures in
     let values = g.V.Values.values c.args.values.now in
     on-err c.with_counts.result _
@@ -88,12 +88,16 @@ returns-in_err-hits-clause-err_asks g c =
     let tree = view search.filter.now in
     let made = c.in_ok-rules.rules in
     let over : AreRulesOver among search.query.now tree search.rules.now made =
-    subst (λ (of : DocumentsView). AreRulesOver of search.query.now tree search.rules.now made) c.new-snapshot.ensures c.in_ok-rules.ensures in
+    subst (λ (of : DocumentsView). AreRulesOver of search.query.now tree search.rules.now made) c.in_ok-snapshot.ensures c.in_ok-rules.ensures in
     let all = c.in_ok-all.ensures ∙ c.matching-matching.ensures in
     let values = g.V.Values.values c.args.values.now in
     on-err _ _
     (subst (λ ds. AsksForSome g.V.Values.Asks c.args.values.now ds c.distinct_page.new.values)
     (same-taken among search.query.now tree search.rules.now made over c.in_ok-all.all.ids all values search.window.offset search.window.limit) c.in_err-hits.ensures.err_asks)
+
+pub returns-in_err-snapshot-clause-err_asks : goal.returns-in_err-snapshot-clause-err_asks
+returns-in_err-snapshot-clause-err_asks g c =
+    on-err _ _ (asks-nothing g.V.Values.Asks c.args.values.now (taken_in c.args.documents.now c.args.search (g.V.Values.values c.args.values.now)))
 
 pub returns-in_err-rules-clause-err_asks : goal.returns-in_err-rules-clause-err_asks
 returns-in_err-rules-clause-err_asks g c =
@@ -103,11 +107,17 @@ pub returns-in_err-all-clause-err_asks : goal.returns-in_err-all-clause-err_asks
 returns-in_err-all-clause-err_asks g c =
     on-err _ _ (asks-nothing g.V.Values.Asks c.args.values.now (taken_in c.args.documents.now c.args.search (g.V.Values.values c.args.values.now)))
 
+pub returns-in_err-snapshot-clause-opens : goal.returns-in_err-snapshot-clause-opens
+returns-in_err-snapshot-clause-opens g c =
+    let all = opened_for c.args.documents.now c.args.search (g.V.Values.values c.args.values.now) in
+    let log = log_state ((g.dyn-1.0.entry c.args.log.now.vtable).1.told c.args.log.now.value) c.args.openings.now in
+    opens-failed _ c.from_residual.result all log log c.from_residual.ensures.1 (opens-nothing all log)
+
 pub returns-in_err-rules-clause-opens : goal.returns-in_err-rules-clause-opens
 returns-in_err-rules-clause-opens g c =
     let all = opened_for c.args.documents.now c.args.search (g.V.Values.values c.args.values.now) in
     let log = log_state ((g.dyn-1.0.entry c.args.log.now.vtable).1.told c.args.log.now.value) c.args.openings.now in
-    opens-failed _ c.from_residual.result all log log c.from_residual.ensures.1 (opens-nothing all log)
+    opens-failed _ c.from_residual-in_err-rules.result all log log c.from_residual-in_err-rules.ensures.1 (opens-nothing all log)
 
 pub returns-in_err-all-clause-opens : goal.returns-in_err-all-clause-opens
 returns-in_err-all-clause-opens g c =
@@ -122,7 +132,7 @@ returns-in_err-hits-clause-opens g c =
     let tree = view search.filter.now in
     let made = c.in_ok-rules.rules in
     let over : AreRulesOver among search.query.now tree search.rules.now made =
-    subst (λ (of : DocumentsView). AreRulesOver of search.query.now tree search.rules.now made) c.new-snapshot.ensures c.in_ok-rules.ensures in
+    subst (λ (of : DocumentsView). AreRulesOver of search.query.now tree search.rules.now made) c.in_ok-snapshot.ensures c.in_ok-rules.ensures in
     let all = c.in_ok-all.ensures ∙ c.matching-matching.ensures in
     let values = g.V.Values.values c.args.values.now in
     let old = log_state ((g.dyn-1.0.entry c.args.log.now.vtable).1.told c.args.log.now.value) c.args.openings.now in
@@ -139,7 +149,7 @@ returns-clause-opens g c =
     let tree = view search.filter.now in
     let made = c.in_ok-rules.rules in
     let over : AreRulesOver among search.query.now tree search.rules.now made =
-    subst (λ (of : DocumentsView). AreRulesOver of search.query.now tree search.rules.now made) c.new-snapshot.ensures c.in_ok-rules.ensures in
+    subst (λ (of : DocumentsView). AreRulesOver of search.query.now tree search.rules.now made) c.in_ok-snapshot.ensures c.in_ok-rules.ensures in
     let all = c.in_ok-all.ensures ∙ c.matching-matching.ensures in
     let values = g.V.Values.values c.args.values.now in
     let old = log_state ((g.dyn-1.0.entry c.args.log.now.vtable).1.told c.args.log.now.value) c.args.openings.now in
@@ -156,7 +166,7 @@ returns-in_err-hits-clause-few g c =
     let tree = view search.filter.now in
     let made = c.in_ok-rules.rules in
     let over : AreRulesOver among search.query.now tree search.rules.now made =
-    subst (λ (of : DocumentsView). AreRulesOver of search.query.now tree search.rules.now made) c.new-snapshot.ensures c.in_ok-rules.ensures in
+    subst (λ (of : DocumentsView). AreRulesOver of search.query.now tree search.rules.now made) c.in_ok-snapshot.ensures c.in_ok-rules.ensures in
     let all = c.in_ok-all.ensures ∙ c.matching-matching.ensures in
     let values = g.V.Values.values c.args.values.now in
     subst (λ most. RisesAtMost c.args.openings.now c.distinct_page.new.openings most)
@@ -169,7 +179,7 @@ returns-clause-few g c =
     let tree = view search.filter.now in
     let made = c.in_ok-rules.rules in
     let over : AreRulesOver among search.query.now tree search.rules.now made =
-    subst (λ (of : DocumentsView). AreRulesOver of search.query.now tree search.rules.now made) c.new-snapshot.ensures c.in_ok-rules.ensures in
+    subst (λ (of : DocumentsView). AreRulesOver of search.query.now tree search.rules.now made) c.in_ok-snapshot.ensures c.in_ok-rules.ensures in
     let all = c.in_ok-all.ensures ∙ c.matching-matching.ensures in
     let values = g.V.Values.values c.args.values.now in
     subst (λ most. RisesAtMost c.args.openings.now c.distinct_page.new.openings most)

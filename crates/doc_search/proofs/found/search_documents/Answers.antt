@@ -20,7 +20,7 @@ returns-clause-hits g c =
     let tree = view search.filter.now in
     let made = c.in_ok-rules.rules in
     let over : AreRulesOver among search.query.now tree search.rules.now made =
-    subst (λ (of : DocumentsView). AreRulesOver of search.query.now tree search.rules.now made) c.new-snapshot.ensures c.in_ok-rules.ensures in
+    subst (λ (of : DocumentsView). AreRulesOver of search.query.now tree search.rules.now made) c.in_ok-snapshot.ensures c.in_ok-rules.ensures in
     IfOk-weaker c.with_counts.result _ _ (λ found same. ap (map (λ (id : DocId). id.0)) same ∙ c.in_ok-hits.ensures.hits
     ∙ ap (λ matches. ids_of (hits_of matches search.window.offset search.window.limit)) (same-matches among search.query.now tree search.rules.now made over))
     c.with_counts.ensures.hits
@@ -32,7 +32,7 @@ returns-clause-total g c =
     let tree = view search.filter.now in
     let made = c.in_ok-rules.rules in
     let over : AreRulesOver among search.query.now tree search.rules.now made =
-    subst (λ (of : DocumentsView). AreRulesOver of search.query.now tree search.rules.now made) c.new-snapshot.ensures c.in_ok-rules.ensures in
+    subst (λ (of : DocumentsView). AreRulesOver of search.query.now tree search.rules.now made) c.in_ok-snapshot.ensures c.in_ok-rules.ensures in
     IfOk-weaker c.with_counts.result _ _ (λ found same. same ∙ ap length c.matching.ensures
     ∙ same-total among search.query.now tree search.rules.now made over) c.with_counts.ensures.total
 
@@ -43,17 +43,23 @@ returns-clause-facets g c =
     let tree = view search.filter.now in
     let made = c.in_ok-rules.rules in
     let over : AreRulesOver among search.query.now tree search.rules.now made =
-    subst (λ (of : DocumentsView). AreRulesOver of search.query.now tree search.rules.now made) c.new-snapshot.ensures c.in_ok-rules.ensures in
+    subst (λ (of : DocumentsView). AreRulesOver of search.query.now tree search.rules.now made) c.in_ok-snapshot.ensures c.in_ok-rules.ensures in
     IfOk-weaker c.with_counts.result _ _ (λ found same. same
     ∙ ap (λ ids. map (counted search.counts.most (map (rows_at among.documents) ids)) search.counts.attributes.items) c.matching.ensures
     ∙ ap (λ rows. map (counted search.counts.most rows) search.counts.attributes.items) (same-rows among search.query.now tree search.rules.now made over))
     c.with_counts.ensures.facets
 
+pub returns-in_err-snapshot-clause-opens : goal.returns-in_err-snapshot-clause-opens
+returns-in_err-snapshot-clause-opens g c =
+    let all = opened_in c.args.documents.now c.args.search in
+    let log = log_state ((g.dyn-1.0.entry c.args.log.now.vtable).1.told c.args.log.now.value) c.args.openings.now in
+    opens-failed _ c.from_residual.result all log log c.from_residual.ensures.1 (opens-nothing all log)
+
 pub returns-in_err-rules-clause-opens : goal.returns-in_err-rules-clause-opens
 returns-in_err-rules-clause-opens g c =
     let all = opened_in c.args.documents.now c.args.search in
     let log = log_state ((g.dyn-1.0.entry c.args.log.now.vtable).1.told c.args.log.now.value) c.args.openings.now in
-    opens-failed _ c.from_residual.result all log log c.from_residual.ensures.1 (opens-nothing all log)
+    opens-failed _ c.from_residual-in_err-rules.result all log log c.from_residual-in_err-rules.ensures.1 (opens-nothing all log)
 
 pub returns-in_err-hits-clause-opens : goal.returns-in_err-hits-clause-opens
 returns-in_err-hits-clause-opens g c =
@@ -62,7 +68,7 @@ returns-in_err-hits-clause-opens g c =
     let tree = view search.filter.now in
     let made = c.in_ok-rules.rules in
     let over : AreRulesOver among search.query.now tree search.rules.now made =
-    subst (λ (of : DocumentsView). AreRulesOver of search.query.now tree search.rules.now made) c.new-snapshot.ensures c.in_ok-rules.ensures in
+    subst (λ (of : DocumentsView). AreRulesOver of search.query.now tree search.rules.now made) c.in_ok-snapshot.ensures c.in_ok-rules.ensures in
     let old = log_state ((g.dyn-1.0.entry c.args.log.now.vtable).1.told c.args.log.now.value) c.args.openings.now in
     let new = log_state ((g.dyn-1.0.entry c.page.new.log.vtable).1.told c.page.new.log.value) c.page.new.openings in
     let here = lists.opened_in rows_among made search.window in
@@ -77,7 +83,7 @@ returns-clause-opens g c =
     let tree = view search.filter.now in
     let made = c.in_ok-rules.rules in
     let over : AreRulesOver among search.query.now tree search.rules.now made =
-    subst (λ (of : DocumentsView). AreRulesOver of search.query.now tree search.rules.now made) c.new-snapshot.ensures c.in_ok-rules.ensures in
+    subst (λ (of : DocumentsView). AreRulesOver of search.query.now tree search.rules.now made) c.in_ok-snapshot.ensures c.in_ok-rules.ensures in
     let old = log_state ((g.dyn-1.0.entry c.args.log.now.vtable).1.told c.args.log.now.value) c.args.openings.now in
     let new = log_state ((g.dyn-1.0.entry c.page.new.log.vtable).1.told c.page.new.log.value) c.page.new.openings in
     let here = lists.opened_in rows_among made search.window in

@@ -1,7 +1,8 @@
 use Rattle.std.proofs.Common.{◌≡◌, ◌+◌, ◌<◌, false, length, take, drop, get_or, None, sym, subst, arith}
 use Rattle.std.specs.Ordering.{is_eq}
 use Rattle.postings.specs.Dictionary.{lists_of, word_cmp, value_at, RoomAt, IsTight}
-use Rattle.postings.proofs.RowLemmas.{Told, told_none, told_more, take_one_more, rows_apart, absent_before}
+use Rattle.posting_list.proofs.SetLemmas.{take_one_more}
+use Rattle.postings.proofs.RowLemmas.{Told, told_none, told_more, rows_apart, absent_before}
 use Rattle.postings.proofs.TightLemmas.{tight_less, drop_one}
 use Rattle.postings.proofs.dictionary.change_words.Goals as goal
 

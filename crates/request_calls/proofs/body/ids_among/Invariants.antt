@@ -1,7 +1,7 @@
 use Rattle.std.proofs.Common.{◌≡◌, ◌+◌, drop}
 use Rattle.serde_json.specs.View.{items_view}
 use Rattle.request_calls.specs.Bodies.{ids_from}
-use Rattle.request_calls.proofs.Listed.{after_these}
+use Rattle.search_bodies.proofs.Listed.{after_these}
 use Rattle.request_calls.proofs.body.ids_among.Given as goal
 
 -- the ids so far, and then what is left, as it lies from the next place on

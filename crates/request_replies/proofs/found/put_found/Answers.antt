@@ -6,15 +6,14 @@ use Rattle.facet_counts.specs.FacetView.{FacetView}
 use Rattle.search_result.specs.View.{found_view, hit_view}
 use Rattle.search_result.specs.declared.Hit.{Hit}
 use Rattle.request_replies.specs.Facets.{facet_members}
-use Rattle.request_replies.specs.Names.{shows}
-use Rattle.request_replies.specs.Shown.{hit_by}
+use Rattle.search_replies.specs.Shown.{shown_by}
 use Rattle.request_replies.proofs.PrintLemmas.{hits_printed}
 use Rattle.request_replies.proofs.found.put_found.Goals as goal
 
 pub returns : goal.returns
 returns c = λ rest.
     let found = found_view c.args.found.now in
-    let shown : List Hit → List _ = λ hits. map (hit_by (shows c.args.display.now.names) c.args.display.now.marks.formats c.args.display.now.marks.terms) (map hit_view hits) in
+    let shown : List Hit → List _ = λ hits. map (shown_by c.args.display.now) (map hit_view hits) in
     let Counts : Option (List FacetView) → Type 0 = λ facets. (rest : Members) → string_bytes c.put_facets.new.text ++ members_text c.in_ok-later-2.later rest
     ≡ string_bytes c.put_estimate.new.text ++ members_text c.in_ok-later.later (facet_members facets rest) in
     let Docs : List Hit → Type 0 = λ hits. string_bytes c.put_hits.new.text ≡ string_bytes c.push_str.new.self ++ compact_text (array (items_of (shown hits))) in

@@ -1,0 +1,7 @@
+use Rattle.std.proofs.Common.{◌≡◌, ℕ, ◌||◌, take}
+use Rattle.doc_sets.specs.Sets.{has}
+use Rattle.posting_list.specs.Sets.{has_passing, is_part}
+use Rattle.posting_list.proofs.documents.put_in_each.Given as goal
+
+abbrev pub invariant-loop-entry : goal.invariant-loop-entry
+invariant-loop-entry l = (id : ℕ) → has l.set.ids id ≡ (has_passing (is_part l.part) (take l.entry-index l.come) id || has l.initial.set.ids id)

@@ -1,0 +1,6 @@
+use Rattle.posting_list.proofs.KeptLemmas.{some_of}
+use Rattle.posting_list.proofs.posting_list.PostingList.in_path.Goals as goal
+
+pub returns : goal.returns
+returns c =
+    some_of _ _ c.set_of.result c.set_of.ensures (λ set of. of c.args.self.now.entries c.kept.ensures)

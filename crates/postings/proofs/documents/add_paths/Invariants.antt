@@ -1,5 +1,0 @@
-use Rattle.postings.specs.Sets.{AreSetsOf}
-use Rattle.postings.proofs.documents.add_paths.Given as goal
-
-abbrev pub invariant-loop-path : goal.invariant-loop-path
-invariant-loop-path l = AreSetsOf l.sets.items l.list.entries

@@ -1,6 +1,0 @@
-use Rattle.std.proofs.Common.{ℕ, List}
-use Rattle.postings.specs.Sets.{AreSetsOf}
-use Rattle.postings.proofs.documents.make_rooms.Given as goal
-
-abbrev pub invariant-loop-kept : goal.invariant-loop-kept
-invariant-loop-kept l = (entries : List ℕ) → AreSetsOf l.initial.kept-items entries → AreSetsOf l.kept-items entries

@@ -1,6 +1,0 @@
-use Rattle.postings.proofs.KeptLemmas.{some_of}
-use Rattle.postings.proofs.posting_list.PostingList.starting_any.Goals as goal
-
-pub returns : goal.returns
-returns c =
-    some_of _ _ c.set_of.result c.set_of.ensures (λ set of. of c.args.self.now.entries c.kept.ensures)

@@ -1,8 +1,0 @@
-use Rattle.std.proofs.Common.{◌≡◌, drop, map}
-use Rattle.request_replies.specs.Added.{added_name}
-use Rattle.request_replies.specs.Members.{is_among}
-use Rattle.request_replies.proofs.own.is_added.Given as goal
-
--- the name is among all where it is among those that are left
-abbrev pub invariant-loop-one : goal.invariant-loop-one
-invariant-loop-one l = is_among (map added_name l.added) l.name ≡ is_among (map added_name (drop l.one-index l.added)) l.name

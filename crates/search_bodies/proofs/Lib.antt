@@ -1,0 +1,4 @@
+pub mod JsonBodies
+pub mod Listed
+pub mod Lengths
+pub mod Colons

@@ -1,0 +1,15 @@
+use Rattle.std.proofs.Common.{◌≡◌, ◌++◌, string_bytes, false}
+use Rattle.serde_json.specs.View.{members_view}
+use Rattle.serde_json.specs.Written.{members_text, members_have_float}
+use Rattle.search_replies.specs.Added.{owns}
+use Rattle.search_replies.specs.Formatted.{formatted_members}
+use Rattle.search_replies.specs.Members.{members_by}
+use Rattle.search_replies.proofs.formatted.put_formatted.Given as goal
+
+-- the text so far, with the members that are left, is the text at first with all members
+abbrev pub invariant-loop-name : goal.invariant-loop-name
+invariant-loop-name l = record {
+  whole : members_have_float (members_view l.name-iterator) ≡ false;
+  text : string_bytes l.text ++ members_text l.later (formatted_members l.marks.terms l.marks.formats (members_by (owns l.own.names.now l.own.added.now) (members_view l.name-iterator)))
+      ≡ string_bytes l.initial.text ++ members_text false (formatted_members l.marks.terms l.marks.formats (members_by (owns l.own.names.now l.own.added.now) (members_view l.initial.name-iterator)));
+}
