@@ -1,4 +1,4 @@
-ghost use Rattle.std.specs.Prelude.{◌≡◌, ℕ, List, ◌*◌, ◌/◌, ◌^◌, ◌||◌, ◌&&◌, ◌==◌, not, IfOk, OnOk};
+ghost use Rattle.std.specs.Prelude.{◌≡◌, ℕ, List, ◌-◌, ◌*◌, ◌/◌, ◌^◌, ◌||◌, ◌&&◌, ◌==◌, get_or, length, max, not, IfOk, OnOk};
 ghost use Rattle.std.specs.Bool.{OnTrue};
 ghost use Rattle.doc_sets.specs.Sets.{has as has_id};
 ghost use Rattle.posting_list.specs.Sets.{has_passing, IsSetOfPassing, is_part, AreSetsOf, AreSetsIn, AreAfter};
@@ -48,9 +48,11 @@ fn first_entry(id: DocId) -> u64
 
 /// The document of the last of these places, which come in increasing order, or the one that is handed in where it is
 /// greater or there is no place. Takes no memory.
-pub fn last_document(come: &[u64], one: DocId) -> DocId {
+pub fn last_document(come: &[u64], one: DocId) -> DocId
+    ensures { result.0 ≡ max one.0 (get_or come.now (length come.now - 1) 0 / 2 ^ 32) }
+{
     match come.last() {
-        Some(entry) => one.max(document_of(*entry)),
+        Some(entry) => DocId(one.0.max(document_of(*entry).0)),
         None => one,
     }
 }
