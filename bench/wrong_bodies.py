@@ -3,11 +3,14 @@
 
     bench/wrong_bodies.py NAME..
 
-It copies the crates into a new folder, makes a file of each body on the pages of the named crates, and has the prover
-try them: each must be refused. It prints those that were refused and those that were not, says how many were, takes
-the copy away, and ends with status 1 if one was not refused, or cannot be applied. The repository itself stays as it
-is. Try a crate's when its text changes: a body takes ten to forty seconds once the crate is proved on this machine.
+It copies the crates into a new folder, with the libraries that `rt lib` or `rt check` have built here and that still
+stand; makes a file of each body on the pages of the named crates, and has the prover try them: each must be refused. It
+prints those that were refused and those that were not, says whether all were, takes the copy away, and ends with status
+1 if one was not refused, or cannot be applied. The repository itself stays as it is. Try a crate's when its text
+changes. What takes time are the libraries below it that are not built yet, and two checks of the crate from nothing; a
+body takes ten to forty seconds more.
 """
+import os
 import pathlib
 import re
 import shutil
@@ -27,10 +30,20 @@ def bodies(name):
     return dict(BODY.findall(page.read_text()))
 
 
+def linked(built, copy):
+    try:
+        os.link(built, copy)
+    except OSError:
+        shutil.copy2(built, copy)
+
+
 def copied(folder):
-    """A copy of the crates, without a body to try."""
+    """A copy of the crates with their built libraries, without a body to try."""
     ignored = shutil.ignore_patterns("out", "must-fail")
     shutil.copytree(REPOSITORY / "crates", folder / "crates", ignore=ignored)
+    for stamp in REPOSITORY.glob("crates/*/out/rlib/stamp"):
+        library = stamp.parent
+        shutil.copytree(library, folder / library.relative_to(REPOSITORY), copy_function=linked)
     for name in ("crates.txt", "HANDLES"):
         shutil.copy(REPOSITORY / name, folder)
     subprocess.run(["git", "init", "-q", folder], check=True)
@@ -44,7 +57,7 @@ def ran(words, folder):
 
 
 def all_refused(folder, name):
-    """Whether each wrong body of a crate was refused. Begins with its proof, so that each is tried over that."""
+    """Whether each wrong body of a crate was refused. Begins with its proof: only of a proved crate does that tell."""
     crate = folder / "crates" / name
     tried = bodies(name)
     status, said = ran(["rt", "check", "--jobs", "1"], crate)
