@@ -1,13 +1,12 @@
-//! A program for five scripts under bench/: it does one thing with one part of the server as often as it is told, and
+//! A program for four scripts under bench/: it does one thing with one part of the server as often as it is told, and
 //! prints what it counted last.
 //!
-//! Its first word says which part: `words` (bench/words.py), `formats` (bench/formats.py), `pages` (bench/buckets.py),
-//! `lists` (bench/postings.py) or `facets` (bench/facets.py). What stands behind it is said in the module of that name.
-//! Any other words end with status 1, and so does want of memory.
+//! Its first word says which part: `words` (bench/words.py), `formats` (bench/formats.py), `pages` (bench/buckets.py)
+//! or `lists` (bench/postings.py). What stands behind it is said in the module of that name. Any other words end with
+//! status 1, and so does want of memory.
 #![tactic(auto)]
 
 mod asked;
-mod facets;
 mod filled;
 mod formats;
 mod lists;
@@ -36,7 +35,6 @@ fn told(rt: &HostRuntime) -> Option<String> {
     let count = match part.as_str() {
         "words" => words::counted(rt, rest)?,
         "formats" => formats::counted(rt, rest)?,
-        "facets" => facets::counted(rt.alloc(), rest)?,
         "lists" => lists::counted(rt.alloc(), rest)?,
         "pages" => return pages::told(rt.alloc(), rest),
         _ => return None,

@@ -8,7 +8,7 @@ use Rattle.std.specs.Int.{Width, w32, byte_len, from_le_bytes, to_le_bytes}
 use Rattle.std.specs.List.{flat_map, AllByRecursion}
 use Rattle.serde_json.specs.Data.{Data}
 use Rattle.serde_json.specs.Written.{compact_text}
-use Rattle.doc_values.specs.Changes.{KindData, create, drop_index, replace, update, remove, clear, patch, reset, ChangeData}
+use Rattle.document_changes.specs.Changes.{KindData, create, drop_index, replace, update, remove, clear, patch, reset, ChangeData}
 use Rattle.change_payloads.specs.Spelling.{text, optional, json, texts_data, documents, kind_byte, body, change}
 use Rattle.change_payloads.specs.Fields.{number_at, piece_at, text_at, json_at, ids_at, stored_at, optional_at, documents_at, counted_at}
 use Rattle.change_payloads.specs.Change.{kind_at, create_at, stored_with, remove_at, patch_at, body_at, whole_change, or_spot, change_at}

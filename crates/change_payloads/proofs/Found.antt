@@ -14,8 +14,8 @@ use Rattle.serde_json.specs.Find.{as_str}
 use Rattle.serde_json.specs.Read.{read}
 use Rattle.serde_json.specs.View.{items_of}
 use Rattle.serde_json.specs.Written.{compact_text, has_float}
-use Rattle.doc_values.specs.declared.change.Change.{Change}
-use Rattle.doc_values.specs.Changes.{change_view, KindData, create, drop_index, replace, update, remove, clear, patch, reset, ChangeData}
+use Rattle.document_changes.specs.declared.change.Change.{Change}
+use Rattle.document_changes.specs.Changes.{change_view, KindData, create, drop_index, replace, update, remove, clear, patch, reset, ChangeData}
 use Rattle.doc_values.specs.Stored.{document_at, at_value, if_text}
 use Rattle.std.specs.Result.{result_ok}
 use Rattle.doc_values.specs.Walk.{document_of}

@@ -1,7 +1,7 @@
 -- The change of a payload.
 use Rattle.std.specs.Prelude.{ℕ, ◌-◌, ◌==◌, ◌||◌, List, length, nat_lt, slice_get, if◌then◌else◌, Option, Result, Ok, Err}
 use Rattle.serde_json.specs.Data.{Data}
-use Rattle.doc_values.specs.Changes.{KindData, create, drop_index, replace, update, remove, clear, patch, reset, ChangeData}
+use Rattle.document_changes.specs.Changes.{KindData, create, drop_index, replace, update, remove, clear, patch, reset, ChangeData}
 use Rattle.change_payloads.specs.Fields.{◌>>=◌, byte_at, text_at, optional_at, counted_at, ids_at, json_at}
 
 -- the byte of one of the eight kinds

@@ -1,5 +1,5 @@
 ghost use Rattle.std.specs.Prelude.{◌≡◌, Ok, IfOk};
-ghost use Rattle.doc_values.specs.Changes.{ChangeData, replace, update, kind_view, change_view};
+ghost use Rattle.document_changes.specs.Changes.{ChangeData, replace, update, kind_view, change_view};
 ghost use Rattle.change_payloads.specs.Answers.{Gives, Decodes};
 ghost use Rattle.change_payloads.specs.Spelling.{change as spelling};
 ghost use Rattle.change_payloads.specs.Fits.{IsChange};
@@ -8,7 +8,7 @@ ghost use Rattle.change_payloads.specs.Change.{kind_at as kind_in, create_at, st
 use crate::fault::{ImageFault, ReadFault};
 use crate::fields::{documents, optional, text, u8_at};
 use crate::json::{ids, value};
-use doc_values::{Change, ChangeKind};
+use document_changes::{Change, ChangeKind};
 use std::alloc::Global;
 
 /// The change that a payload spells: a kind, the uid of the index, and what the kind has.

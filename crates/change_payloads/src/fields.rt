@@ -5,6 +5,7 @@ ghost use Rattle.change_payloads.specs.Fields.{byte_at, number_at, piece_at, utf
 
 use crate::fault::ReadFault;
 use doc_values::DocumentText;
+use document_changes::Documents;
 use search_base::{NoMemory, Word};
 use std::alloc::Global;
 use std::str;
@@ -86,14 +87,12 @@ pub fn optional(alloc: Global, bytes: &[u8]) -> Result<(Option<Word>, &[u8]), Re
 
 /// The documents that are counted, and the bytes behind them.
 #[tactic(auto, unfolding(crate::specs::Fields::counted_at))]
-pub(crate) fn documents(
-    alloc: Global,
-    bytes: &[u8],
-) -> Result<(Vec<DocumentText>, &[u8]), ReadFault>
-    ensures { Gives (λ x. (x.0.items, x.1.now)) result (counted_at bytes.now) }
+pub(crate) fn documents(alloc: Global, bytes: &[u8]) -> Result<(Documents, &[u8]), ReadFault>
+    ensures { Gives (λ x. (x.0, x.1.now)) result (counted_at bytes.now) }
 {
     let (count, rest) = u32_at(bytes)?;
-    some_documents(alloc, count, rest)
+    let (texts, rest) = some_documents(alloc, count, rest)?;
+    Ok((Documents::unread(texts), rest))
 }
 
 fn some_documents(

@@ -5,12 +5,13 @@ ghost use Rattle.serde_json.specs.Data.{depth};
 ghost use Rattle.serde_json.specs.Read.{max_depth};
 ghost use Rattle.serde_json.specs.View.{view as data_of};
 ghost use Rattle.serde_json.specs.Written.{has_float};
-ghost use Rattle.doc_values.specs.Changes.{kind_view, change_view};
+ghost use Rattle.document_changes.specs.Changes.{kind_view, change_view};
 ghost use Rattle.change_payloads.specs.Spelling.{text as text_bytes, optional as optional_bytes, json as json_bytes, texts_data, documents as documents_bytes, kind_byte as byte_of, body as body_bytes, change as change_bytes, HasText};
 ghost use Rattle.change_payloads.specs.Change.{change_at};
 ghost use Rattle.change_payloads.specs.Fits.{IsText, IsKey, IsStored, AreStored, AreIds, IsJson, IsKind};
 
-use doc_values::{Change, ChangeKind, DocumentText};
+use doc_values::DocumentText;
+use document_changes::{Change, ChangeKind, Documents};
 use search_base::{NoMemory, Word};
 use serde_json::Value;
 use std::alloc::Global;
@@ -131,19 +132,15 @@ pub fn put_optional(out: &mut Vec<u8>, text: &Option<Word>) -> Result<(), NoMemo
     }
 }
 
-fn put_stored(
-    out: &mut Vec<u8>,
-    key: &Option<Word>,
-    documents: &Vec<DocumentText>,
-) -> Result<(), NoMemory>
+fn put_stored(out: &mut Vec<u8>, key: &Option<Word>, documents: &Documents) -> Result<(), NoMemory>
     ensures bytes { OnOk result (out.new.items
-        ≡ out.old.items ++ (optional_bytes key.now ++ documents_bytes documents.now.items)) }
+        ≡ out.old.items ++ (optional_bytes key.now ++ documents_bytes documents.now)) }
     ensures key { OnOk result (IsKey key.now) }
-    ensures stored { OnOk result (AreStored documents.now.items) }
+    ensures stored { OnOk result (AreStored documents.now) }
 {
     put_optional(out, key)?;
-    put_length(out, documents.len())?;
-    put_documents(out, documents)?;
+    put_length(out, documents.texts().len())?;
+    put_documents(out, documents.texts())?;
     Ok(())
 }
 

@@ -7,7 +7,7 @@ use Rattle.std.specs.List.{AllByRecursion}
 use Rattle.std.specs.Prelude.{◌||◌}
 use Rattle.serde_json.specs.Data.{Data}
 use Rattle.serde_json.specs.Written.{compact_text}
-use Rattle.doc_values.specs.Changes.{KindData, create, drop_index, replace, update, remove, clear, patch, reset, ChangeData}
+use Rattle.document_changes.specs.Changes.{KindData, create, drop_index, replace, update, remove, clear, patch, reset, ChangeData}
 use Rattle.doc_values.specs.Stored.{document_at}
 use Rattle.change_payloads.specs.Fields.{◌>>=◌, number_at, piece_at, held_or, utf8_of, json_of, ids_of, text_at, json_at, ids_at, stored_at, optional_at, documents_at, counted_at}
 use Rattle.change_payloads.specs.Change.{Spot, spot, kind_at, create_at, stored_with, remove_at, patch_at, body_at, whole_change, or_spot, change_at}

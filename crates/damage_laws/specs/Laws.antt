@@ -1,7 +1,7 @@
 -- Where bytes are damaged, nothing is spelled so far: no spelling agrees with the bytes through the field that stands at
 -- the place of the damage.
 use Rattle.std.specs.Prelude.{◌≡◌, ◌<◌, ◌^◌, ℕ, ◌+◌, ◌-◌, List, length, Err}
-use Rattle.doc_values.specs.Changes.{ChangeData}
+use Rattle.document_changes.specs.Changes.{ChangeData}
 use Rattle.change_payloads.specs.Change.{Spot, change_at}
 use Rattle.change_payloads.specs.Fits.{IsChange}
 use Rattle.change_payloads.specs.Spelling.{change}

@@ -15,7 +15,7 @@ use Rattle.doc_store.specs.Store.{Row, id_of, row_at}
 use Rattle.doc_store.specs.Sound.{Increase}
 use Rattle.doc_store.specs.Sound as sound
 use Rattle.doc_store.proofs.LawLemmas.{id_of-low}
-use Rattle.doc_store.proofs.NameLemmas.{same_bytes, bytes_eq-turned}
+use Rattle.path_registry.proofs.NameLemmas.{same_bytes, bytes_eq-turned}
 use Rattle.doc_index.specs.Named.{is_named, named, stored_of, row_of}
 use Rattle.doc_index.specs.declared.named.Stored.{Stored}
 use Rattle.doc_index.proofs.SameLemmas.{some-same}

@@ -10,7 +10,7 @@ use Rattle.doc_store.specs.Store.{Row, Store, row, put, stored, all_stored, id_o
 use Rattle.doc_store.specs.Sound.{Increase}
 use Rattle.doc_store.specs.Sound as sound
 use Rattle.doc_store.proofs.LawLemmas.{given-low}
-use Rattle.doc_store.proofs.NameLemmas.{same_bytes, bytes_same, bytes_eq-turned}
+use Rattle.path_registry.proofs.NameLemmas.{same_bytes, bytes_same, bytes_eq-turned}
 use Rattle.doc_store.proofs.SoundLemmas.{IsWhole, whole-stored}
 use Rattle.row_index.specs.Documents.{IndexedDocument, has_id, AreApart, document_at, without}
 use Rattle.doc_index.specs.Documents.{indexed, document_of}

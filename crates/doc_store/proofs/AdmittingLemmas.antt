@@ -1,5 +1,5 @@
 -- Documents that are admitted in two goes.
-use Rattle.std.proofs.Common.{◌≡◌, ℕ, ◌+◌, ◌≤◌, Bool, true, false, List, [], ◌∷◌, ◌++◌, length, map, Some, refl, sym, ap, subst, ◌∙◌, arith, true≢false}
+use Rattle.std.proofs.Common.{◌≡◌, ℕ, ◌+◌, ◌≤◌, ◌<◌, Bool, true, false, List, [], ◌∷◌, ◌++◌, length, map, Some, refl, sym, ap, subst, ◌∙◌, arith, true≢false, length-append}
 use Rattle.doc_store.specs.declared.rows.StoreRow.{StoreRow}
 use Rattle.doc_store.specs.declared.admitting.Admitting.{Admitting}
 use Rattle.doc_values.specs.Walk.{paths_of}
@@ -9,11 +9,11 @@ use Rattle.doc_store.specs.declared.rows.StoreRefusal.{StoreRefusal}
 use Rattle.doc_store.specs.declared.rows.StoreRefusal.TheVariants.{PathsSpent}
 use Rattle.doc_store.specs.Admitting.{IsAdmitting, IsNoted, if_spent}
 use Rattle.doc_store.specs.Given.{AreIdsOf}
-use Rattle.doc_store.specs.Names.{Names}
-use Rattle.doc_store.specs.Paths.{registered}
+use Rattle.path_registry.specs.Names.{Names}
+use Rattle.path_registry.specs.Paths.{registered}
 use Rattle.doc_store.specs.Store.{Store, id_given, stored, all_stored, ids_given, paths_after, paths_spent}
 use Rattle.doc_store.proofs.PathLemmas.{paths_after-grows}
-use Rattle.doc_store.proofs.SpentLemmas.{refused-grows, refused-same}
+use Rattle.doc_store.proofs.SpentLemmas.{none-within, refused-above, refused-grows}
 use Rattle.doc_store.specs.StoreView.{AdmissionView, IsAdmitted}
 use Rattle.doc_store.proofs.StoreLemmas.{admitted-made}
 
@@ -59,35 +59,41 @@ spent-noted s a rows new why noted h = by new.spent refl
     by true e = noted.spent e ∙ ap if_spent (sym e) ∙ h
     by false e = absurd (let none = sym (ap if_spent e) ∙ h in cc)
 
-last-after : (rows : List StoreRow) (row : StoreRow) (d : Data) (walk known : List (List ℕ)) → row.document ≡ d → walk ≡ paths_of d → paths_after (rows ++ row ∷ []) known ≡ registered walk (paths_after rows known)
-last-after rows row d walk known same walked =
-    paths_join rows (row ∷ []) known ∙ ap (λ v. registered v (paths_after rows known)) (ap paths_of same ∙ sym walked)
+-- one document more comes by its walk
+pub row-walked : (rows : List StoreRow) (row : StoreRow) (d : Data) (walk known : List (List ℕ)) → row.document ≡ d → walk ≡ paths_of d
+    → registered walk (paths_after rows known) ≡ paths_after (rows ++ row ∷ []) known
+row-walked rows row d walk known same walked =
+    ap (λ v. registered v (paths_after rows known)) (walked ∙ sym (ap paths_of same)) ∙ sym (paths_join rows (row ∷ []) known)
 
--- one document more
-module _ (s : Store) (a : Admitting) (rows : List StoreRow) (row : StoreRow) (old new : NewPaths) (noted : IsNoted s a rows old) where
+-- documents that are admitted have no more paths than there may be
+pub not-spent-yet : (ids : Names) (s : Store) (before : List StoreRow) (a : Admitting) (new : NewPaths) → IsAdmitting ids s before a → IsNoted s a [] new → new.spent ≡ false
+not-spent-yet ids s before a new h noted = by new.spent refl
+  where
+    by : (b : Bool) → new.spent ≡ b → new.spent ≡ false
+    by true e = absurd (let none = sym (none-within 1000 (length (s.paths ++ a.added.paths)) PathsSpent (omega (arith, h.few_paths, length-append s.paths a.added.paths))) ∙ noted.spent e in cc)
+    by false e = e
+
+-- more documents, the paths of which come by a walk
+module _ (s : Store) (a : Admitting) (rows : List StoreRow) (old new : NewPaths) (noted : IsNoted s a rows old) where
   abbrev known : List (List ℕ)
   known = s.paths ++ a.added.paths
 
-  pub noted-more : (d : Data) (walk : List (List ℕ)) → row.document ≡ d → walk ≡ paths_of d → old.spent ≡ false → new.spent ≡ false
-      → known ++ new.fresh.paths ≡ registered walk (known ++ old.fresh.paths) → length s.paths + length a.added.paths + length new.fresh.paths ≤ 1000
-      → IsNoted s a (rows ++ row ∷ []) new
-  noted-more d walk same walked few still more within = record {
-    paths = λ _. more ∙ ap (registered walk) (noted.paths few) ∙ sym (last-after rows row d walk known same walked);
-    few = λ _. within;
-    spent = λ e. absurd (true≢false (sym e ∙ still));
+  pub noted-walked : (more : List StoreRow) (walk : List (List ℕ)) → registered walk (paths_after rows known) ≡ paths_after (rows ++ more) known → old.spent ≡ false
+      → (new.spent ≡ false → known ++ new.fresh.paths ≡ registered walk (known ++ old.fresh.paths))
+      → (new.spent ≡ false → length s.paths + length a.added.paths + length new.fresh.paths ≤ 1000)
+      → (new.spent ≡ true → 1000 < length (registered walk (known ++ old.fresh.paths)))
+      → IsNoted s a (rows ++ more) new
+  noted-walked more walk walked few added within spent = record {
+    paths = λ e. added e ∙ whole;
+    few = within;
+    spent = λ e. sym (ap paths_spent whole) ∙ refused-above 1000 _ PathsSpent (spent e);
   }
+    where
+      whole : registered walk (known ++ old.fresh.paths) ≡ paths_after (rows ++ more) known
+      whole = ap (registered walk) (noted.paths few) ∙ walked
 
-  pub noted-out : (d : Data) (walk : List (List ℕ)) (why : StoreRefusal) → row.document ≡ d → walk ≡ paths_of d → old.spent ≡ false → new.spent ≡ true
-      → paths_spent (registered walk (known ++ old.fresh.paths)) ≡ Some why → IsNoted s a (rows ++ row ∷ []) new
-  noted-out d walk why same walked few out h = record {
-    paths = λ e. absurd (true≢false (sym out ∙ e));
-    few = λ e. absurd (true≢false (sym out ∙ e));
-    spent = λ _. ap paths_spent (last-after rows row d walk known same walked) ∙ ap (λ v. paths_spent (registered walk v)) (sym (noted.paths few))
-        ∙ refused-same 1000 (length (registered walk (known ++ old.fresh.paths))) PathsSpent why h;
-  }
-
-  pub noted-past : old.spent ≡ true → IsNoted s a (rows ++ row ∷ []) old
-  noted-past out = record {
+  pub noted-past : (row : StoreRow) → old.spent ≡ true → IsNoted s a (rows ++ row ∷ []) old
+  noted-past row out = record {
     paths = λ e. absurd (true≢false (sym out ∙ e));
     few = λ e. absurd (true≢false (sym out ∙ e));
     spent = λ _. ap paths_spent (paths_join rows (row ∷ []) known)

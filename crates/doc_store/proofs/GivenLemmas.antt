@@ -1,14 +1,13 @@
 -- Internal ids that are given one after the other.
-use Rattle.std.proofs.Common.{◌≡◌, ℕ, ◌+◌, ◌≤◌, ◌<◌, cond, List, [], ◌∷◌, ◌++◌, length, map, drop, get_or, Some, refl, sym, ap, subst, ◌∙◌, arith, append_assoc, append-nil}
+use Rattle.std.proofs.Common.{◌≡◌, ℕ, ◌+◌, ◌≤◌, ◌<◌, cond, List, [], ◌∷◌, ◌++◌, length, map, drop, get_or, Some, refl, sym, ap, subst, ◌∙◌, arith, append_assoc}
 use Rattle.std.specs.Prelude.{bytes_eq}
 use Rattle.std.specs.Option.{is_some, unwrap_or}
-use Rattle.std.proofs.lemmas.List.{drop_all}
 use Rattle.search_base.specs.declared.DocId.{DocId}
 use Rattle.doc_store.specs.declared.rows.StoreRow.{StoreRow}
-use Rattle.doc_store.specs.Names.{Names}
+use Rattle.path_registry.specs.Names.{Names}
 use Rattle.doc_store.specs.Given.{known_id, AreIdsOf}
 use Rattle.doc_store.specs.Store.{Store, id_of, next_after, stored, all_stored, id_given, ids_given}
-use Rattle.doc_store.proofs.ReserveLemmas.{drop-item}
+use Rattle.path_registry.proofs.ReserveLemmas.{drop-item}
 use Rattle.doc_store.proofs.RowLemmas.{id_of-put, next_id-grows}
 
 -- The documents that are left make the last store of the one that those so far made, and their ids stand in all ids
@@ -18,10 +17,6 @@ pub record Reached (left : List StoreRow) (last : Store) (all : List ℕ) (ids f
   pub known : AreIdsOf ids fresh free at
   pub rest : all_stored left at ≡ last
   pub given : so_far ++ ids_given left at ≡ all
-
-pub reached_first : (rows : List StoreRow) (s : Store) (ids fresh : Names) (free : ℕ) (before : List ℕ) → AreIdsOf ids fresh free s
-    → Reached rows (all_stored rows s) (before ++ ids_given rows s) ids fresh free before
-reached_first rows s ids fresh free before h = record { at = s; known = h; rest = refl; given = refl }
 
 reached_one : (r : StoreRow) (left : List StoreRow) (last : Store) (all : List ℕ) (ids fresh fresh' : Names) (free free' : ℕ) (given : List ℕ) (id : ℕ)
     → Reached (r ∷ left) last all ids fresh free given
@@ -79,11 +74,3 @@ pub within_item : (rows : List StoreRow) (i : ℕ) (r : StoreRow) (external : Li
 within_item rows i r external last all ids fresh free given within is same h =
     subst (λ e. cond (is_some (known_id ids fresh e)) free (free + 1) ≤ last.next_id) (sym same)
     (reached_within r (drop (i + 1) rows) last all ids fresh free given (subst (λ left. Reached left last all ids fresh free given) (drop-item rows i r within is) h))
-
--- none is left
-pub reached_end : (rows : List StoreRow) (i : ℕ) (last : Store) (all : List ℕ) (ids fresh : Names) (free : ℕ) (given : List ℕ)
-    → length rows ≤ i → Reached (drop i rows) last all ids fresh free given → AreIdsOf ids fresh free last × (given ≡ all)
-reached_end rows i last all ids fresh free given past h = (
-  subst (λ s. AreIdsOf ids fresh free s) (ap (λ left. all_stored left h.at) (sym (drop_all i rows past)) ∙ h.rest) h.known,
-  sym (append-nil given) ∙ ap (λ left. given ++ ids_given left h.at) (sym (drop_all i rows past)) ∙ h.given,
-)

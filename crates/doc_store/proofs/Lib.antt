@@ -1,6 +1,3 @@
-pub mod NameLemmas
-pub mod ShelfLemmas
-pub mod ShortLemmas
 pub mod RowLemmas
 pub mod SlotLemmas
 pub mod SpentLemmas
@@ -9,11 +6,12 @@ pub mod GivenLemmas
 pub mod PutLemmas
 pub mod StoreLemmas
 pub mod AdmittingLemmas
+pub mod MetLemmas
 pub mod GoneLemmas
 pub mod SoundLemmas
 pub mod ChangeLemmas
 pub mod RestoreLemmas
 pub mod LawLemmas
-pub mod ReserveLemmas
+pub mod StagingLemmas
 pub mod CountLemmas
 pub mod ListingLemmas

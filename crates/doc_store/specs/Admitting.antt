@@ -7,7 +7,7 @@ use Rattle.doc_store.specs.declared.rows.StoreRefusal.TheVariants.{PathsSpent}
 use Rattle.doc_store.specs.declared.admitting.Admitting.{Admitting}
 use Rattle.doc_store.specs.declared.admitting.NewPaths.{NewPaths}
 use Rattle.doc_store.specs.Given.{AreIdsOf}
-use Rattle.doc_store.specs.Names.{Names}
+use Rattle.path_registry.specs.Names.{Names}
 use Rattle.doc_store.specs.Store.{Store, all_stored, ids_given, paths_after, paths_spent}
 
 -- so far these documents are admitted to a store, the internal ids of which are found by `ids`

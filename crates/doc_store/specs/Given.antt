@@ -1,6 +1,6 @@
 -- Internal ids that a change gives, while it is being prepared.
 use Rattle.std.specs.Prelude.{◌≡◌, ℕ, List, Option, None, Some}
-use Rattle.doc_store.specs.Names.{Names, number_at}
+use Rattle.path_registry.specs.Names.{Names, number_at}
 use Rattle.doc_store.specs.Store.{Store, id_of}
 
 -- the first number, or else the second

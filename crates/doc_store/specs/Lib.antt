@@ -1,7 +1,3 @@
-pub mod Names
-pub mod ShortNames
-pub mod Shelves
-pub mod Paths
 pub mod Store
 pub mod Sound
 pub mod Given

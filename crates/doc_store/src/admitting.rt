@@ -1,13 +1,14 @@
-ghost use Rattle.std.specs.Prelude.{◌≡◌, List, [], map};
-ghost use Rattle.doc_store.specs.Admitting.{IsAdmitting, IsNoted};
-ghost use Rattle.doc_store.specs.Names.{Names};
+ghost use Rattle.std.specs.Prelude.{◌≡◌, ◌+◌, ◌≤◌, ◌++◌, List, [], length, map, false, Err, OnOk, IfErr};
+ghost use Rattle.search_base.specs.Gives.{Checks};
+ghost use Rattle.doc_store.specs.Admitting.{IsAdmitting, IsNoted, if_spent};
+ghost use Rattle.path_registry.specs.Names.{Names};
 ghost use Rattle.doc_store.specs.Store.{Store};
 ghost use Rattle.doc_store.specs.StoreView.{IsAdmitted};
 ghost use Rattle.doc_store.specs.declared.rows.StoreRow.{StoreRow as Row};
 
-use crate::places::Places;
-use crate::registry::Registry;
-use search_base::{DocId, Word};
+use crate::rows::{StoreFault, StoreRefusal};
+use path_registry::{MAX_PATHS, Places, Registry};
+use search_base::{DocId, Fault, Word};
 use std::alloc::Global;
 use std::marker::Model;
 
@@ -87,4 +88,20 @@ impl Admitting {
             added: added.into_paths(),
         }
     }
+}
+
+/// Adds the paths that were noted behind those that the registry gains, unless there are too many.
+pub(crate) fn add_noted(added: &mut Registry, new: NewPaths) -> Result<(), StoreFault>
+    requires { new.spent ≡ false → length added.old.paths + length new.fresh.paths ≤ MAX_PATHS }
+    ensures added { OnOk result (added.new.paths ≡ added.old.paths ++ new.fresh.paths) }
+    ensures few { OnOk result (new.spent ≡ false) }
+    ensures spent { IfErr result (λ fault. Checks (Err fault) (if_spent new.spent)) }
+{
+    if new.spent {
+        return Err(Fault::Refused(StoreRefusal::PathsSpent));
+    }
+    for path in new.fresh.into_paths() {
+        added.add(path)?;
+    }
+    Ok(())
 }

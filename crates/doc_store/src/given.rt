@@ -4,8 +4,8 @@ ghost use Rattle.search_base.specs.Gives.{Checks};
 ghost use Rattle.doc_store.specs.Given.{known_id, AreIdsOf};
 ghost use Rattle.doc_store.specs.Store.{Store, all_stored, ids_given, ids_spent};
 
-use crate::places::Places;
 use crate::rows::{MAX_IDS, StoreFault, StoreRefusal, StoreRow};
+use path_registry::Places;
 use search_base::{DocId, Fault, Word};
 
 /// The internal ids of more documents that come one after the other, behind those that are given so far. `fresh` are

@@ -8,7 +8,8 @@
 //! Contracts see a `DocStore` as its content (paths, next internal id, rows), the documents that are staged and the
 //! room that it has for more, and a `StorePlan` as the ids of the documents that are staged and the paths that are
 //! new.
-//! Stands on `doc_values`, which has documents and their walk, on `staged_slots` and on `search_base`.
+//! Stands on `path_registry`, which numbers names and paths, on `doc_values`, which has documents and their walk, on
+//! `staged_slots` and on `search_base`.
 #![tactic(auto)]
 
 mod admitting;
@@ -17,17 +18,12 @@ mod counts;
 mod given;
 mod laws;
 mod listing;
-mod places;
-mod registry;
 mod restore;
 mod rows;
-mod shelf;
-mod short_names;
 mod slots;
 mod store;
-mod walked;
 
 pub use admitting::{Admission, Admitting, NewPaths};
 pub use laws::{documents_keep_their_ids, stores_stay_sound};
-pub use rows::{MAX_IDS, MAX_PATHS, StoreFault, StoreRefusal, StoreRow, StoredRow};
+pub use rows::{MAX_IDS, StoreFault, StoreRefusal, StoreRow, StoredRow};
 pub use store::{DocStore, StorePlan};

@@ -1,27 +1,26 @@
 ghost use Rattle.std.specs.Prelude.{◌≡◌, ◌↔◌, ◌+◌, ◌≤◌, ◌++◌, List, [], ◌∷◌, Some, Err, map, length, take, drop, position, bytes_eq, IsTrue, IfOk, OnOk, OnErr, IfErr};
 ghost use Rattle.std.specs.Option.{option_map, is_some};
 ghost use Rattle.search_base.specs.Gives.{Checks};
-ghost use Rattle.doc_store.specs.Names.{AreKept};
+ghost use Rattle.path_registry.specs.Names.{AreKept};
 ghost use Rattle.doc_store.specs.Store.{all_stored, externals, id_of, spent, row_at, removed};
 ghost use Rattle.doc_store.specs.Sound.{IsSound};
 ghost use Rattle.doc_store.specs.Restored.{restored};
 ghost use Rattle.doc_store.specs.StoreView.{IsAdmitted, IsPlanFor};
 ghost use Rattle.doc_store.specs.Admitting.{IsAdmitting, IsNoted};
+ghost use Rattle.path_registry.specs.Met.{all_registered};
 ghost use Rattle.doc_store.specs.declared.rows.StoreRow.{StoreRow as Row};
 
-use crate::admitting::{Admission, Admitting, NewPaths};
+use crate::admitting::{Admission, Admitting, NewPaths, add_noted};
 use crate::changes::{push_paths, put_rows, stage_rows, take_row};
 use crate::counts::{Counts, count_new, counts_of, no_counts, uncount};
 use crate::given::more_ids;
 use crate::listing::listed_ids;
-use crate::places::Places;
-use crate::registry::Registry;
 use crate::restore::put_back;
 use crate::rows::{StoreFault, StoreRow, StoredRow};
 use crate::slots::{Slots, document_at, external_at};
-use crate::walked::{add_noted, note_paths};
 use doc_values::{Document, DocumentText, paths};
-use search_base::{DocId, Fault, NoMemory, PathId, Steps, Word};
+use path_registry::{Places, Registry, note_walk};
+use search_base::{DocId, NoMemory, PathId, Steps, Word};
 use staged_slots::StagedSlots;
 use std::alloc::Global;
 use std::marker::Model;
@@ -266,7 +265,8 @@ impl DocStore {
         Ok(new)
     }
 
-    /// Notes the paths of a document that is to be admitted behind those whose paths are noted. Store and admission stay.
+    /// Notes the paths of a document that is to be admitted behind those whose paths are noted. Store and admission
+    /// stay.
     pub fn note(
         &self,
         alloc: Global,
@@ -283,14 +283,26 @@ impl DocStore {
             return Ok(());
         }
         let walk = paths(alloc, document)?;
-        match note_paths(&self.paths, &admitting.added, &mut new.fresh, walk) {
-            Ok(()) => Ok(()),
-            Err(Fault::NoMemory) => Err(NoMemory),
-            Err(Fault::Refused(_)) => {
-                new.spent = true;
-                Ok(())
-            }
-        }
+        new.spent = note_walk(&self.paths, &admitting.added, &mut new.fresh, walk)?;
+        Ok(())
+    }
+
+    /// The paths that the registry gains by documents that are to be admitted behind those that are, where `met` are
+    /// the paths of these documents as `MetPaths` meets them. Store and admission stay.
+    pub fn note_met(
+        &self,
+        alloc: Global,
+        admitting: &Admitting,
+        met: Vec<Word>,
+    ) -> Result<NewPaths, NoMemory>
+        requires { (before : List Row) × IsAdmitting self.now.ids self.now.content before admitting.now }
+        ensures { IfOk result (λ new. (rows : List Row)
+            → met.items ≡ all_registered (map (λ r. r.document) rows) []
+            → IsNoted self.now.content admitting.now rows new) }
+    {
+        let mut new = admitting.new_paths(alloc);
+        new.spent = note_walk(&self.paths, &admitting.added, &mut new.fresh, met)?;
+        Ok(new)
     }
 
     /// Admits more documents as `admit_more` does, which were read and whose paths were noted.

@@ -4,7 +4,6 @@ pub mod Whole
 pub mod Stored
 pub mod Ids
 pub mod Bodies
-pub mod Changes
 pub mod Texts
 pub mod Leaves
 pub mod Grouped

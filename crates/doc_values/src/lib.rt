@@ -2,12 +2,11 @@
 //!
 //! Promises the walk of a document (its paths, and what each holds), its id and primary key, the documents of a body,
 //! the merge of an update, and a canonical text that gives the document back. A refusal names its cause exactly.
-//! Contracts see a `Document` as its JSON data, a `Word` as its bytes, and a `Change` as a `ChangeData`.
+//! Contracts see a `Document` as its JSON data and a `Word` as its bytes.
 //! Stands on `search_base` for words and on `serde_json` for JSON as RFC 8259 has it.
 #![tactic(auto)]
 
 mod bodies;
-mod change;
 mod document;
 mod floats;
 mod ids;
@@ -18,7 +17,6 @@ mod stored;
 mod walk;
 
 pub use bodies::{BodyFault, BodyRefusal, documents_of};
-pub use change::{Change, ChangeKind};
 pub use document::{Document, DocumentFault, DocumentRefusal};
 pub use floats::has_float;
 pub use ids::{IdFault, IdRefusal, external_id, id_of, is_uid};

@@ -4,7 +4,7 @@ use Rattle.std.specs.Prelude.{IfOk, OnErr, OnOk, if◌then◌else◌}
 use Rattle.bucket_sort.specs.declared.log.Opening.{Opening}
 use Rattle.bucket_sort.specs.Told.{and_then}
 use Rattle.bucket_sort.specs.Opens.{LogState, Opens}
-use Rattle.doc_values.specs.Changes.{ChangeData}
+use Rattle.document_changes.specs.Changes.{ChangeData}
 use Rattle.http_wire.specs.Sent.{IsSentAs}
 use Rattle.http_wire.specs.Stream.{Request}
 use Rattle.http_wire.specs.declared.reply.Reply.{Reply}

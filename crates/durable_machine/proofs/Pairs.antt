@@ -5,7 +5,7 @@ use Rattle.index_image.specs.Image.{state_at}
 use Rattle.index_image.specs.Rows.{ImageData}
 use Rattle.change_journal.specs.Format.{Walk, shut, broken, entry, payloads, Spot, Stored, stored, Pair, pair_in, stored_pair}
 use Rattle.change_journal.specs.Fits.{grown, image_pair}
-use Rattle.doc_values.specs.Changes.{ChangeData}
+use Rattle.document_changes.specs.Changes.{ChangeData}
 use Rattle.task_queue.specs.declared.task.Task.{Task}
 use Rattle.queued_changes.specs.State.{accepted}
 use Rattle.queued_changes.specs.Machine.{run, run_each, run_out}

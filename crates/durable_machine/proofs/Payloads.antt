@@ -1,7 +1,7 @@
 -- The tasks that wait, as payloads behind an image.
 use Rattle.std.proofs.Common.{◌≡◌, ℕ, suc, zero, ◌+◌, ◌<◌, List, [], ◌∷◌, ◌++◌, length, get_or, take, refl, sym, ◌∙◌, ap, subst, arith, Ok}
 use Rattle.std.specs.List.{AllByRecursion}
-use Rattle.doc_values.specs.Changes.{ChangeData}
+use Rattle.document_changes.specs.Changes.{ChangeData}
 use Rattle.task_queue.specs.declared.task.Task.{Task}
 use Rattle.task_queue.specs.Queue.{AreNumbered}
 use Rattle.named_indexes.specs.Payloads.{Records}

@@ -11,7 +11,7 @@ use Rattle.change_journal.specs.declared.opening.Opened.{Opened}
 use Rattle.change_journal.specs.declared.opening.StoredChange.{StoredChange}
 use Rattle.change_journal.specs.declared.opening.JournalFault.{JournalFault}
 use Rattle.change_journal.specs.declared.opening.JournalFault.TheVariants.{Damaged}
-use Rattle.doc_values.specs.Changes.{ChangeData}
+use Rattle.document_changes.specs.Changes.{ChangeData}
 use Rattle.task_queue.specs.declared.task.Task.{Task}
 use Rattle.queued_changes.specs.State.{accepted}
 use Rattle.queued_changes.specs.Machine.{behind as waits_behind, make_room, run_out}

@@ -1,7 +1,7 @@
 -- What stands in what two disks store, and where a payload is damaged.
 use Rattle.std.proofs.Common.{◌≡◌, ℕ, zero, suc, ◌+◌, ◌≤◌, Bool, true, false, cond, List, [], ◌∷◌, length, drop, refl, sym, ◌∙◌, ap, subst, arith, Option, Some, Result, Ok, Err}
 use Rattle.std.specs.Prelude.{nat_eq, nat_lt, if◌then◌else◌}
-use Rattle.doc_values.specs.Changes.{ChangeData}
+use Rattle.document_changes.specs.Changes.{ChangeData}
 use Rattle.change_payloads.specs.Change.{Spot as PayloadSpot, spot, whole_change, or_spot}
 use Rattle.index_image.specs.Image.{state_at}
 use Rattle.index_image.specs.Rows.{ImageData}

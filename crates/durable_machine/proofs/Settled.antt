@@ -3,7 +3,7 @@ use Rattle.std.proofs.Common.{◌≡◌, ℕ, ◌+◌, List, [], ◌∷◌, leng
 use Rattle.std.specs.Prelude.{nat_lt}
 use Rattle.std.proofs.lemmas.Bool.{lt-ltb}
 use Rattle.change_payloads.specs.Change.{Spot as PayloadSpot}
-use Rattle.doc_values.specs.Changes.{ChangeData}
+use Rattle.document_changes.specs.Changes.{ChangeData}
 use Rattle.task_queue.specs.declared.task.Task.{Task}
 use Rattle.queued_changes.specs.State.{accepted}
 use Rattle.queued_changes.specs.Machine.{run, run_first, run_out, run_each, make_room, behind}

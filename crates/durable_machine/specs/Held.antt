@@ -3,7 +3,7 @@
 use Rattle.std.specs.Prelude.{ℕ, ◌+◌, List, [], ◌∷◌, Option, Some, None, Result, Ok, Err}
 use Rattle.change_payloads.specs.Change.{Spot as PayloadSpot}
 use Rattle.change_journal.specs.Format.{Walk, shut, broken, entry, Spot, Stored, stored}
-use Rattle.doc_values.specs.Changes.{ChangeData}
+use Rattle.document_changes.specs.Changes.{ChangeData}
 use Rattle.task_queue.specs.declared.task.Task.{Task}
 use Rattle.queued_changes.specs.Needs.{fill_need}
 use Rattle.named_indexes.specs.Changes.{changed}

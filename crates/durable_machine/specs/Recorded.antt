@@ -1,6 +1,6 @@
 -- Payloads that record tasks, as they stand behind an image.
 use Rattle.std.specs.Prelude.{◌≡◌, ℕ, ◌+◌, List, [], ◌∷◌, Ok}
-use Rattle.doc_values.specs.Changes.{ChangeData}
+use Rattle.document_changes.specs.Changes.{ChangeData}
 use Rattle.task_queue.specs.declared.task.Task.{Task}
 use Rattle.search_routes.specs.Redo.{task_again}
 

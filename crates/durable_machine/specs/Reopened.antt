@@ -5,7 +5,7 @@ use Rattle.change_journal.specs.Format.{Walk, shut, broken, entry, Spot}
 use Rattle.change_journal.specs.declared.opening.Opened.{Opened}
 use Rattle.change_journal.specs.declared.opening.JournalFault.{JournalFault}
 use Rattle.change_journal.specs.declared.opening.JournalFault.TheVariants.{DiskFault, Damaged, NoMemory}
-use Rattle.doc_values.specs.Changes.{ChangeData}
+use Rattle.document_changes.specs.Changes.{ChangeData}
 use Rattle.task_queue.specs.declared.task.Task.{Task}
 use Rattle.search_routes.specs.Needs.{room_need}
 use Rattle.search_routes.specs.State.{State}

@@ -2,7 +2,7 @@ ghost use Rattle.std.specs.Prelude.{◌≡◌, ◌≢◌, ◌+◌, ◌<◌, ◌�
 ghost use Rattle.change_journal.specs.Format.{shut, stored};
 ghost use Rattle.change_journal.specs.declared.opening.JournalFault.TheVariants.{DiskFault};
 ghost use Rattle.change_journal.specs.Opens.{behind, IsReady, Stands};
-ghost use Rattle.doc_values.specs.Changes.{ChangeData};
+ghost use Rattle.document_changes.specs.Changes.{ChangeData};
 ghost use Rattle.index_image.specs.Rows.{image_view};
 ghost use Rattle.index_image.specs.State.{IsState};
 ghost use Rattle.task_queue.specs.declared.task.Task.{Task as TaskIn};

@@ -3,7 +3,7 @@ use Rattle.std.proofs.Common.{◌≡◌, List, None, map, refl}
 use Rattle.doc_store.specs.declared.rows.StoreRow.{StoreRow}
 use Rattle.doc_store.specs.declared.admitting.Admitting.{Admitting}
 use Rattle.doc_store.specs.Admitting.{IsAdmitting}
-use Rattle.doc_store.specs.Names.{Names}
+use Rattle.path_registry.specs.Names.{Names}
 use Rattle.doc_store.specs.Store.{Store, all_stored, spent}
 use Rattle.doc_store.proofs.AdmittingLemmas.{admitted_whole}
 

@@ -4,7 +4,7 @@ use Rattle.std.specs.Prelude.{bytes_eq}
 use Rattle.std.specs.Option.{is_some, unwrap_or}
 use Rattle.search_base.specs.Trying.{first_of}
 use Rattle.doc_store.specs.declared.rows.StoreRow.{StoreRow}
-use Rattle.doc_store.specs.Paths.{registered}
+use Rattle.path_registry.specs.Paths.{registered}
 use Rattle.doc_store.specs.Sound.{IsSound}
 use Rattle.doc_store.specs.Store.{Store, id_of, ids_given, ids_spent, paths_spent, stored, all_stored, externals, spent}
 use Rattle.doc_store.specs.StoreView.{AdmissionView, IsAdmitted}

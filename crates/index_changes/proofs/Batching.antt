@@ -7,7 +7,7 @@ use Rattle.std.proofs.lemmas.Bool.{cond_both}
 use Rattle.std.proofs.lemmas.List.Folds.{list_any-append}
 use Rattle.serde_json.specs.Data.{Data}
 use Rattle.serde_json.specs.Find.{get}
-use Rattle.doc_values.specs.Changes.{KindData, create, drop_index, replace, update, remove, clear, patch, reset}
+use Rattle.document_changes.specs.Changes.{KindData, create, drop_index, replace, update, remove, clear, patch, reset}
 use Rattle.doc_store.specs.Sound.{IsSound}
 use Rattle.doc_store.specs.Store.{Row}
 use Rattle.doc_store.proofs.StoreLemmas.{not_spent}

@@ -10,7 +10,7 @@ use Rattle.search_base.specs.Trying.{◌>>=◌, refused_as}
 use Rattle.search_base.specs.declared.fault.Fault.{Fault}
 use Rattle.search_base.specs.declared.fault.Fault.TheVariants.{Refused as Turned, NoMemory as Memory}
 use Rattle.serde_json.specs.Data.{Data}
-use Rattle.doc_values.specs.Changes.{KindData, create, drop_index, replace, update, remove, clear, patch, reset}
+use Rattle.document_changes.specs.Changes.{KindData, create, drop_index, replace, update, remove, clear, patch, reset}
 use Rattle.doc_values.specs.Ids.{external_id_of}
 use Rattle.doc_values.specs.declared.ids.IdRefusal.{IdRefusal}
 use Rattle.doc_store.specs.declared.rows.StoreRow.{StoreRow}

@@ -9,11 +9,11 @@ use Rattle.search_base.specs.declared.document.DocId.{DocId}
 use Rattle.doc_values.specs.declared.ids.IdRefusal.{IdRefusal}
 use Rattle.doc_values.specs.Ids.{external_id_of, is_uid}
 use Rattle.doc_values.specs.Walk.{paths_of}
-use Rattle.doc_store.specs.Paths.{has_path}
+use Rattle.path_registry.specs.Paths.{has_path}
 use Rattle.doc_store.specs.Store.{Row, Store, id_of, row_at}
 use Rattle.doc_store.specs.Sound.{Increase, AreApart, StandOnce, AreRegistered, CoverRows, IsSound}
-use Rattle.doc_store.proofs.NameLemmas.{bytes_eq-turned}
-use Rattle.doc_store.proofs.PathLemmas.{has-append}
+use Rattle.path_registry.proofs.NameLemmas.{bytes_eq-turned}
+use Rattle.path_registry.proofs.PathLemmas.{has-append}
 use Rattle.doc_store.proofs.SoundLemmas.{increase-low}
 use Rattle.index_settings.specs.View.{SettingsView}
 use Rattle.index_image.specs.declared.rows.ImageDocument.{ImageDocument}

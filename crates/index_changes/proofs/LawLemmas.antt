@@ -3,12 +3,12 @@ use Rattle.std.proofs.Common.{◌≡◌, ℕ, ◌<◌, ◌≤◌, ◌==◌, Bool
 use Rattle.std.specs.Prelude.{not}
 use Rattle.std.proofs.lemmas.Bool.{cond-true, cond-false, cond_both}
 use Rattle.serde_json.specs.Data.{Data}
-use Rattle.doc_values.specs.Changes.{KindData}
-use Rattle.doc_values.specs.Changes as kind
+use Rattle.document_changes.specs.Changes.{KindData}
+use Rattle.document_changes.specs.Changes as kind
 use Rattle.doc_values.specs.Walk.{paths_of}
 use Rattle.doc_store.specs.declared.rows.StoreRow.{StoreRow}
 use Rattle.doc_store.specs.declared.rows.StoreRefusal.{StoreRefusal}
-use Rattle.doc_store.specs.Paths.{has_path, with_path, registered}
+use Rattle.path_registry.specs.Paths.{has_path, with_path, registered}
 use Rattle.doc_store.specs.Store.{Row, Store, row_at, stored, all_stored, spent}
 use Rattle.doc_store.proofs.LawLemmas.{never_given_again}
 use Rattle.doc_store.proofs.RowLemmas.{next_id-grows}

@@ -1,10 +1,10 @@
 -- Documents over others: which paths come with them, and in which order they may be put together.
-use Rattle.std.proofs.Common.{◌≡◌, ℕ, List, [], ◌∷◌, ◌++◌, map, Ordering, Less, Equal, Greater, true, None, refl, sym, ap, ap₂, subst, ◌∙◌, nat_cmp}
+use Rattle.std.proofs.Common.{◌≡◌, ℕ, List, Ordering, Less, Equal, Greater, refl, sym, ap, ◌∙◌}
 use Rattle.std.proofs.lemmas.Cmp.{nat_list_cmp_total, tied_itself}
 use Rattle.std.specs.Ordering.{match_ordering, ordering_reverse}
 use Rattle.serde_json.specs.Data.{Data, object, Members, no_members, member, put}
 use Rattle.doc_values.specs.Stored.{put_all, merge}
-use Rattle.doc_values.specs.Walk.{Visit, members_in, walk_of_members, walk_inside, visited, paths_of}
+use Rattle.doc_values.specs.Walk.{members_in}
 use Rattle.index_changes.proofs.Rising.{order, IsBelow, Rise, NamesRise, below-lower, turned, rise-put, equal}
 
 -- ---- one name put among others

@@ -2,9 +2,9 @@
 use Rattle.std.proofs.Common.{◌≡◌, ℕ, List, [], ◌∷◌, ◌++◌, map, Ordering, Less, Equal, Greater, None, true, refl, sym, ap, subst, ◌∙◌}
 use Rattle.std.proofs.lemmas.Cmp.{nat_list_cmp_total}
 use Rattle.serde_json.specs.Data.{Data, Members, no_members, member, put}
-use Rattle.doc_store.proofs.PathLemmas.{with_path-known}
-use Rattle.doc_store.proofs.SoundLemmas.{stays-registered}
-use Rattle.doc_store.specs.Paths.{with_path, registered}
+use Rattle.path_registry.proofs.PathLemmas.{with_path-known}
+use Rattle.path_registry.proofs.PathLemmas.{stays-registered}
+use Rattle.path_registry.specs.Paths.{with_path, registered}
 use Rattle.doc_store.specs.Sound.{AreRegistered}
 use Rattle.doc_values.specs.Stored.{put_all, merge}
 use Rattle.doc_values.specs.Walk.{Visit, members_in, walk_of_members, walk_inside, visited, paths_of}

@@ -11,7 +11,7 @@ use Rattle.doc_index.specs.Named.{is_named, named, stored_of, row_of, AreRead}
 use Rattle.doc_store.specs.Store.{Row, Store, id_of, row_at}
 use Rattle.doc_store.specs.Sound.{Increase, IsSound}
 use Rattle.doc_store.proofs.LawLemmas.{id_of-low}
-use Rattle.doc_store.proofs.NameLemmas.{same_bytes}
+use Rattle.path_registry.proofs.NameLemmas.{same_bytes}
 use Rattle.index_changes.specs.Index.{document_under}
 use Rattle.index_changes.specs.Updating.{IsRead}
 

@@ -5,10 +5,10 @@ use Rattle.std.specs.Option.{is_some}
 use Rattle.std.proofs.lemmas.Bool.{cond-true, cond-false, cond_both}
 use Rattle.serde_json.specs.Data.{Data}
 use Rattle.doc_store.specs.declared.rows.StoreRow.{StoreRow}
-use Rattle.doc_store.specs.Paths.{has_path, registered}
+use Rattle.path_registry.specs.Paths.{has_path, registered}
 use Rattle.doc_store.specs.Sound.{AreRegistered, CoverRows, IsSound}
 use Rattle.doc_store.specs.Store.{Row, Store, row, put, id_of, next_after, stored, all_stored, externals}
-use Rattle.doc_store.proofs.NameLemmas.{same_bytes, bytes_same, bytes_eq-turned}
+use Rattle.path_registry.proofs.NameLemmas.{same_bytes, bytes_same, bytes_eq-turned}
 use Rattle.doc_store.proofs.SoundLemmas.{IsWhole, whole-stored}
 use Rattle.doc_values.specs.Walk.{paths_of}
 use Rattle.index_changes.specs.Index.{document_under}

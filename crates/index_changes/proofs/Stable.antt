@@ -10,8 +10,8 @@ use Rattle.doc_rows.specs.declared.path_use.PathUse.{PathUse}
 use Rattle.doc_rows.specs.Rows.{no_rows, and_rows, path_rows, rows_from, rows_of}
 use Rattle.index_settings.specs.View.{SettingsView}
 use Rattle.search_settings.specs.Uses.{use_of, uses_from}
-use Rattle.doc_store.proofs.NameLemmas.{same_bytes, bytes_eq-turned}
-use Rattle.doc_store.specs.Paths.{has_path}
+use Rattle.path_registry.proofs.NameLemmas.{same_bytes, bytes_eq-turned}
+use Rattle.path_registry.specs.Paths.{has_path}
 use Rattle.doc_store.specs.Store.{Row}
 use Rattle.doc_store.specs.Sound.{StandOnce, AreRegistered, CoverRows}
 use Rattle.doc_index.specs.Documents.{documents_of}

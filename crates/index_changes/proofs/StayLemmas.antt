@@ -4,12 +4,12 @@ use Rattle.std.specs.Prelude.{not}
 use Rattle.std.specs.List.{list_any}
 use Rattle.std.proofs.lemmas.Bool.{cond-true, cond-false, cond_both}
 use Rattle.serde_json.specs.Data.{Data}
-use Rattle.doc_values.specs.Changes.{KindData}
-use Rattle.doc_values.specs.Changes as kind
+use Rattle.document_changes.specs.Changes.{KindData}
+use Rattle.document_changes.specs.Changes as kind
 use Rattle.doc_store.specs.declared.rows.StoreRow.{StoreRow}
 use Rattle.doc_store.specs.Store.{Row, Store, id_of}
 use Rattle.doc_store.proofs.LawLemmas.{ids_stay}
-use Rattle.doc_store.proofs.NameLemmas.{same_bytes}
+use Rattle.path_registry.proofs.NameLemmas.{same_bytes}
 use Rattle.index_settings.specs.declared.fault.SettingsRefusal.{SettingsRefusal}
 use Rattle.index_settings.specs.Table.{patch_fault}
 use Rattle.search_base.specs.Trying.{◌>>=◌}

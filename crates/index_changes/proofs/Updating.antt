@@ -9,10 +9,10 @@ use Rattle.std.proofs.lemmas.Map.Text.{is_eq-slice_cmp}
 use Rattle.std.proofs.lemmas.Bool.{cond-true, cond-false, cond_both, eq-eqb, ne_eqb, eqb-true, eqb-false}
 use Rattle.serde_json.specs.Data.{Data}
 use Rattle.doc_store.specs.declared.rows.StoreRow.{StoreRow}
-use Rattle.doc_store.specs.Paths.{has_path, last_place, place_or}
+use Rattle.path_registry.specs.Paths.{has_path, last_place, place_or}
 use Rattle.doc_store.specs.Store.{Row, Store, put, stored, all_stored, externals}
-use Rattle.doc_store.proofs.NameLemmas.{same_bytes, bytes_same, bytes_eq-turned}
-use Rattle.doc_store.proofs.PathLemmas.{last_place-append, place-has}
+use Rattle.path_registry.proofs.NameLemmas.{same_bytes, bytes_same, bytes_eq-turned}
+use Rattle.path_registry.proofs.PathLemmas.{last_place-append, place-has}
 use Rattle.doc_index.specs.declared.named.Stored.{Stored}
 use Rattle.doc_index.specs.Named.{named, AreRead}
 use Rattle.index_changes.specs.Index.{document_under}

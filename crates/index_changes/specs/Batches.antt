@@ -7,7 +7,7 @@ use Rattle.std.specs.Result.{result_err, result_ok, result_unwrap_or}
 use Rattle.serde_json.specs.Data.{Data}
 use Rattle.serde_json.specs.Find.{get}
 use Rattle.search_base.specs.Trying.{◌>>=◌}
-use Rattle.doc_values.specs.Changes.{KindData, replace, update, remove, patch, reset}
+use Rattle.document_changes.specs.Changes.{KindData, replace, update, remove, patch, reset}
 use Rattle.doc_values.specs.Ids.{external_id_of}
 use Rattle.index_changes.specs.declared.batch.BatchKind.{BatchKind}
 use Rattle.index_changes.specs.declared.batch.BatchKind.TheVariants as batch

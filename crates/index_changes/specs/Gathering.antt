@@ -2,7 +2,7 @@
 use Rattle.std.specs.Prelude.{◌≡◌, ◌≤◌, ℕ, List, [], ◌++◌, Option, Some, None, Result, Ok, Err}
 use Rattle.search_base.specs.Trying.{◌>>=◌}
 use Rattle.serde_json.specs.Data.{Data}
-use Rattle.doc_values.specs.Changes.{KindData, replace, update}
+use Rattle.document_changes.specs.Changes.{KindData, replace, update}
 use Rattle.doc_store.specs.declared.rows.StoreRow.{StoreRow}
 use Rattle.doc_store.specs.declared.rows.StoreRefusal.{StoreRefusal}
 use Rattle.doc_store.specs.Store.{Store, all_stored, externals, spent}

@@ -2,7 +2,7 @@
 use Rattle.std.specs.Prelude.{◌≡◌, ◌<◌, ◌≤◌, ℕ, List, ◌++◌, length, bytes_eq, false, Some, None, Ok}
 use Rattle.std.specs.List.{list_any}
 use Rattle.serde_json.specs.Data.{Data}
-use Rattle.doc_values.specs.Changes.{KindData, remove, clear}
+use Rattle.document_changes.specs.Changes.{KindData, remove, clear}
 use Rattle.doc_store.specs.Store.{row_at, id_of}
 use Rattle.index_changes.specs.Fetches.{needed}
 use Rattle.index_changes.specs.Index.{Index, documents}

@@ -1,8 +1,8 @@
 -- What a change does to an index.
 use Rattle.std.specs.Prelude.{◌≡◌, ℕ, ◌+◌, List, [], ◌∷◌, Option, Some, None, Result, Ok, Err, bytes_eq, if◌then◌else◌}
 use Rattle.serde_json.specs.Data.{Data}
-use Rattle.doc_values.specs.Changes.{KindData}
-use Rattle.doc_values.specs.Changes as kind
+use Rattle.document_changes.specs.Changes.{KindData}
+use Rattle.document_changes.specs.Changes as kind
 use Rattle.doc_values.specs.Ids.{external_id_of, key_of}
 use Rattle.doc_values.specs.Stored.{merge}
 use Rattle.doc_store.specs.declared.rows.StoreRow.{StoreRow}

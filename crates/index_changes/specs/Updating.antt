@@ -8,7 +8,7 @@ use Rattle.serde_json.specs.Data.{Data}
 use Rattle.doc_index.specs.declared.named.Stored.{Stored}
 use Rattle.doc_index.specs.Named.{named, AreRead}
 use Rattle.doc_store.specs.declared.rows.StoreRow.{StoreRow}
-use Rattle.doc_store.specs.Paths.{has_path, last_place}
+use Rattle.path_registry.specs.Paths.{has_path, last_place}
 use Rattle.doc_store.specs.Store.{Store, stored, externals}
 use Rattle.index_changes.specs.Plans.{updating}
 

@@ -1,9 +1,9 @@
 ghost use Rattle.std.specs.Prelude.{◌≡◌, ◌++◌, None, map, flat_map, replicate, IfOk, OnOk};
-ghost use Rattle.doc_values.specs.Changes.{kind_view};
+ghost use Rattle.document_changes.specs.Changes.{kind_view};
 ghost use Rattle.index_changes.specs.Batches.{first_kind, names_in};
 
 use crate::refusal::CoreRefusal;
-use doc_values::ChangeKind;
+use document_changes::ChangeKind;
 use search_base::{NoMemory, Word};
 use std::alloc::Global;
 

@@ -1,8 +1,10 @@
-ghost use Rattle.std.specs.Prelude.{◌≡◌, List, IfOk};
+ghost use Rattle.std.specs.Prelude.{◌≡◌, ℕ, List, [], Ok, IfOk};
 ghost use Rattle.std.specs.Option.{option_copied};
 ghost use Rattle.search_base.specs.Gives.{Gives};
 ghost use Rattle.search_base.specs.Trying.{refused_as};
 ghost use Rattle.doc_store.specs.Admitting.{IsAdmitting, IsNoted};
+ghost use Rattle.path_registry.specs.Met.{all_registered};
+ghost use Rattle.document_changes.specs.Notes.{AreIdsUnder};
 ghost use Rattle.doc_store.specs.Store.{externals};
 ghost use Rattle.doc_store.specs.declared.rows.StoreRow.{StoreRow as Row};
 ghost use Rattle.doc_values.specs.Ids.{external_id_of};
@@ -13,6 +15,7 @@ ghost use Rattle.index_changes.specs.Plans.{rows_for as rows_of_change, rows_und
 use crate::refusal::{CoreFault, CoreRefusal};
 use doc_store::{Admitting, DocStore, NewPaths, StoreRow};
 use doc_values::{Document, DocumentText, IdRefusal, external_id};
+use document_changes::{Documents, NotedDocuments};
 use search_base::{Fault, NoMemory, Word};
 use std::alloc::Global;
 
@@ -54,23 +57,53 @@ fn rows_under(
     Ok(rows)
 }
 
-/// The same documents, each read once, with the paths that the store gains by them behind those that were admitted.
+/// The same documents, with the paths that the store gains by them behind those that were admitted. Each is read once,
+/// unless ids under this key were noted when they came.
 pub(crate) fn rows_noted(
     alloc: Global,
     store: &DocStore,
     admitting: &Admitting,
     key: Option<&Word>,
-    documents: Vec<DocumentText>,
+    documents: Documents,
 ) -> Result<(Vec<StoreRow>, NewPaths), CoreFault>
     requires { (before : List Row) × IsAdmitting store.now.ids store.now.content before admitting.now }
-    ensures rows { Gives (λ read. read.0.items) result (rows_of_change (option_copied key.entry) documents.items) }
+    ensures rows { Gives (λ read. read.0.items) result (rows_of_change (option_copied key.entry) documents) }
     ensures back { IfOk result (λ read. AreReadBack read.0.items) }
     ensures noted { IfOk result (λ read. IsNoted store.now.content admitting.now read.0.items read.1) }
 {
     match key {
-        Some(key) => rows_noted_under(alloc, store, admitting, key.as_str(), documents),
+        Some(key) => match documents.noted_under(key.as_str()) {
+            Ok(noted) => Ok(rows_as_noted(alloc, store, admitting, noted)?),
+            Err(texts) => rows_noted_under(alloc, store, admitting, key.as_str(), texts),
+        },
         None => Ok((Vec::new(alloc), admitting.new_paths(alloc))),
     }
+}
+
+// Documents under the ids that were noted of them. None is read.
+fn rows_as_noted(
+    alloc: Global,
+    store: &DocStore,
+    admitting: &Admitting,
+    noted: NotedDocuments,
+) -> Result<(Vec<StoreRow>, NewPaths), NoMemory>
+    requires admitting { (before : List Row) × IsAdmitting store.now.ids store.now.content before admitting.now }
+    requires ids { (key : List ℕ) × AreIdsUnder key noted.texts.items noted.ids.items }
+    requires paths { noted.paths.items ≡ all_registered noted.texts.items [] }
+    ensures rows { IfOk result (λ read. (key : List ℕ) → AreIdsUnder key noted.texts.items noted.ids.items
+        → rows_from key 1 noted.texts.items ≡ Ok read.0.items) }
+    ensures back { IfOk result (λ read. AreReadBack read.0.items) }
+    ensures noted { IfOk result (λ read. IsNoted store.now.content admitting.now read.0.items read.1) }
+{
+    let NotedDocuments { texts, ids, paths } = noted;
+    let mut rows = Vec::with_capacity(alloc, texts.len())?;
+    for (external, document) in ids.into_iter().zip(texts) {
+        // A document is read back from its text, so that each name stands in it once.
+        let _text = document.text();
+        rows.push(StoreRow { external, document })?;
+    }
+    let new = store.note_met(alloc, admitting, paths)?;
+    Ok((rows, new))
 }
 
 fn rows_noted_under(

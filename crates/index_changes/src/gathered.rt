@@ -3,7 +3,7 @@ ghost use Rattle.std.specs.List.{AllByRecursion};
 ghost use Rattle.std.specs.Option.{option_copied, option_map};
 ghost use Rattle.std.specs.Result.{result_err, result_unwrap_or};
 ghost use Rattle.search_base.specs.Gives.{Gives};
-ghost use Rattle.doc_values.specs.Changes.{kind_view};
+ghost use Rattle.document_changes.specs.Changes.{kind_view};
 ghost use Rattle.doc_store.specs.Admitting.{IsAdmitting, IsNoted};
 ghost use Rattle.doc_store.specs.Sound.{IsSound};
 ghost use Rattle.index_changes.specs.Batches.{AreOf};
@@ -16,7 +16,7 @@ use crate::external_ids::rows_noted;
 use crate::key::{copy_of, key_for};
 use crate::refusal::{CoreFault, CoreRefusal, of_store, refusal_in};
 use doc_store::{Admission, Admitting, DocStore, NewPaths, StoreRow};
-use doc_values::{ChangeKind, DocumentText};
+use document_changes::{ChangeKind, Documents};
 use search_base::{NoMemory, Word};
 use std::alloc::Global;
 
@@ -124,14 +124,14 @@ fn take_documents(
     store: &DocStore,
     gathering: &mut Gathering,
     given: Option<Word>,
-    documents: Vec<DocumentText>,
+    documents: Documents,
 ) -> Result<Option<CoreRefusal>, NoMemory>
     requires { IsAdmitting store.now.ids store.now.content gathering.old.rows.items gathering.old.admitting }
     ensures fault { IfOk result (λ fault. fault ≡ result_err
-        (with_change (rows_in gathering.old) given documents.items store.now.content)) }
+        (with_change (rows_in gathering.old) given documents store.now.content)) }
     ensures taken { OnOk result (rows_in gathering.new ≡ result_unwrap_or
-        (with_change (rows_in gathering.old) given documents.items store.now.content) (rows_in gathering.old)) }
-    ensures back { OnOk result (WouldReadBack (rows_in gathering.old) given documents.items) }
+        (with_change (rows_in gathering.old) given documents store.now.content) (rows_in gathering.old)) }
+    ensures back { OnOk result (WouldReadBack (rows_in gathering.old) given documents) }
     ensures admitting { OnOk result
         (IsAdmitting store.now.ids store.now.content gathering.new.rows.items gathering.new.admitting) }
 {
@@ -147,15 +147,15 @@ fn plan_documents(
     store: &DocStore,
     gathering: &Gathering,
     given: Option<Word>,
-    documents: Vec<DocumentText>,
+    documents: Documents,
 ) -> Result<Planned, CoreFault>
     requires { IsAdmitting store.now.ids store.now.content gathering.now.rows.items gathering.now.admitting }
-    ensures planned { Gives planned_rows result (rows_planned gathering.now.key given documents.items) }
+    ensures planned { Gives planned_rows result (rows_planned gathering.now.key given documents) }
     ensures back { IfOk result (λ planned. AreReadBack planned.rows.items) }
     ensures noted { IfOk result (λ planned. IsNoted store.now.content gathering.now.admitting
         planned.rows.items planned.paths) }
 {
-    let key = key_for(alloc, gathering.key.as_ref(), given, documents.as_slice())?;
+    let key = key_for(alloc, gathering.key.as_ref(), given, &documents)?;
     let (rows, paths) = rows_noted(alloc, store, &gathering.admitting, key.as_ref(), documents)?;
     Ok(Planned { key, rows, paths })
 }

@@ -1,4 +1,4 @@
-ghost use Rattle.std.specs.Prelude.{◌≡◌, [], Ok, Some, IfOk, unwrap_or};
+ghost use Rattle.std.specs.Prelude.{◌≡◌, [], Ok, Some, None, IfOk, unwrap_or};
 ghost use Rattle.std.specs.Option.{option_copied};
 ghost use Rattle.search_base.specs.Gives.{Gives};
 ghost use Rattle.search_base.specs.Trying.{refused_as};
@@ -8,6 +8,7 @@ ghost use Rattle.index_changes.specs.Plans.{key_for as key_of_change};
 
 use crate::refusal::{CoreFault, CoreRefusal};
 use doc_values::{DocumentText, KeyRefusal, infer_key};
+use document_changes::Documents;
 use search_base::{Fault, NoMemory, Word};
 use std::alloc::Global;
 
@@ -16,7 +17,7 @@ pub(crate) fn key_for(
     alloc: Global,
     own: Option<&Word>,
     given: Option<Word>,
-    documents: &[DocumentText],
+    documents: &Documents,
 ) -> Result<Option<Word>, CoreFault>
     ensures { Gives (λ key. key) result (key_of_change (option_copied own.entry) given documents.now) }
 {
@@ -28,10 +29,20 @@ pub(crate) fn key_for(
         },
         (Some(own), None) => Ok(Some(own.clone()?)),
         (None, Some(given)) => Ok(Some(given)),
-        (None, None) => match documents.first() {
-            Some(document) => Ok(Some(inferred(alloc, document)?)),
-            None => Ok(None),
-        },
+        (None, None) => first_key(alloc, documents),
+    }
+}
+
+// The key that the first document gives, as it was noted, or else as it is read back from its text.
+fn first_key(alloc: Global, documents: &Documents) -> Result<Option<Word>, CoreFault>
+    ensures { Gives (λ key. key) result (key_of_change None None documents.now) }
+{
+    if let Some(key) = documents.first_key() {
+        return Ok(Some(key.clone()?));
+    }
+    match documents.texts().first() {
+        Some(document) => Ok(Some(inferred(alloc, document)?)),
+        None => Ok(None),
     }
 }
 

@@ -13,7 +13,7 @@ use crate::external_ids::rows_for;
 use crate::key::{copy_of, key_for};
 use crate::refusal::{CoreFault, CoreRefusal};
 use doc_store::StoreRow;
-use doc_values::DocumentText;
+use document_changes::Documents;
 use index_settings::check_patch;
 use search_base::{Fault, NoMemory, Word};
 use serde_json::Value;
@@ -62,15 +62,15 @@ pub fn planned_replace(
     alloc: Global,
     own: Option<&Word>,
     given: Option<Word>,
-    documents: Vec<DocumentText>,
+    documents: Documents,
 ) -> Result<Plan, CoreFault>
     requires own { IsPrimaryKey (option_copied own) }
     requires given { IfSome given (λ text. 0 < length text) }
     ensures { Gives (λ plan. plan) result (documents_planned
-        (option_copied own.entry) given documents.items replace_rows) }
+        (option_copied own.entry) given documents replace_rows) }
 {
-    let key = key_for(alloc, own, given, documents.as_slice())?;
-    let rows = rows_for(alloc, key.as_ref(), documents)?;
+    let key = key_for(alloc, own, given, &documents)?;
+    let rows = rows_for(alloc, key.as_ref(), documents.into_texts())?;
     Ok(Plan {
         key,
         work: Work::Replace { rows },
@@ -82,15 +82,15 @@ pub fn planned_update(
     alloc: Global,
     own: Option<&Word>,
     given: Option<Word>,
-    documents: Vec<DocumentText>,
+    documents: Documents,
 ) -> Result<Plan, CoreFault>
     requires own { IsPrimaryKey (option_copied own) }
     requires given { IfSome given (λ text. 0 < length text) }
     ensures { Gives (λ plan. plan) result (documents_planned
-        (option_copied own.entry) given documents.items update_rows) }
+        (option_copied own.entry) given documents update_rows) }
 {
-    let key = key_for(alloc, own, given, documents.as_slice())?;
-    let rows = rows_for(alloc, key.as_ref(), documents)?;
+    let key = key_for(alloc, own, given, &documents)?;
+    let rows = rows_for(alloc, key.as_ref(), documents.into_texts())?;
     Ok(Plan {
         key,
         work: Work::Update { rows },

@@ -4,7 +4,7 @@ ghost use Rattle.std.specs.BTreeMap.{get};
 ghost use Rattle.std.specs.Cmp.Lexicographic.{slice_cmp};
 ghost use Rattle.std.specs.Ordering.{nat_cmp};
 ghost use Rattle.doc_index.specs.Named.{named, AreRead};
-ghost use Rattle.doc_store.specs.Paths.{last_place};
+ghost use Rattle.path_registry.specs.Paths.{last_place};
 ghost use Rattle.doc_store.specs.Sound.{IsSound};
 ghost use Rattle.doc_store.specs.Store.{externals};
 ghost use Rattle.index_changes.specs.Index.{document_under};

@@ -1,7 +1,7 @@
 -- What holds of each search, and what a patch leaves of it.
 use Rattle.std.specs.Prelude.{◌≡◌, List, [], take, drop, map, true, Ok, None}
 use Rattle.std.specs.List.{list_all}
-use Rattle.doc_values.specs.Changes.{patch}
+use Rattle.document_changes.specs.Changes.{patch}
 use Rattle.serde_json.specs.Data.{Data}
 use Rattle.doc_store.specs.Sound.{IsSound}
 use Rattle.search_base.specs.declared.rule.Rule.{Rule}

@@ -3,7 +3,7 @@ ghost use Rattle.std.specs.List.{AllByRecursion, filter_map};
 ghost use Rattle.std.specs.Option.{option_copied, option_map, is_some, IfSome};
 ghost use Rattle.std.specs.Result.{result_err, result_unwrap_or};
 ghost use Rattle.search_base.specs.Gives.{Gives, Checks};
-ghost use Rattle.doc_values.specs.Changes.{kind_view};
+ghost use Rattle.document_changes.specs.Changes.{kind_view};
 ghost use Rattle.doc_values.specs.Ids.{is_uid};
 ghost use Rattle.doc_store.specs.Sound.{IsSound};
 ghost use Rattle.doc_store.specs.Store.{spent};
@@ -51,7 +51,8 @@ use doc_search::{
     search_distinct, search_documents,
 };
 use doc_store::DocStore;
-use doc_values::{ChangeKind, DocumentText};
+use doc_values::DocumentText;
+use document_changes::ChangeKind;
 use facet_counts::CountRow;
 use index_changes::{
     BatchKind, CoreFault, CoreRefusal, Gathered, KeptRows, Plan, ReadDocuments, Work, batch_kind,

@@ -4,7 +4,7 @@ use Rattle.std.specs.Prelude.{IfOk, OnOk, OnErr, replicate}
 use Rattle.std.specs.List.{AllByRecursion, list_any}
 use Rattle.std.specs.Option.{is_none}
 use Rattle.std.proofs.lemmas.Bool.{le-leb, lt-leb}
-use Rattle.doc_values.specs.Changes.{KindData}
+use Rattle.document_changes.specs.Changes.{KindData}
 use Rattle.index_changes.specs.Batches.{after_each, batch_needed, faults_of}
 use Rattle.index_changes.specs.Index.{Index, empty_index}
 use Rattle.index_changes.specs.declared.refusal.CoreRefusal.{CoreRefusal}

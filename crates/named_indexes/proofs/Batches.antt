@@ -8,7 +8,7 @@ use Rattle.std.specs.Map.{keys_of}
 use Rattle.std.specs.Ordering.{nat_cmp}
 use Rattle.std.specs.Result.{result_err, result_unwrap_or}
 use Rattle.search_base.specs.Trying.{◌>>=◌, ◌>>◌, refuse_if, or_refuse, refused_as}
-use Rattle.doc_values.specs.Changes.{KindData, create, drop_index, replace, update, remove, clear, patch, reset}
+use Rattle.document_changes.specs.Changes.{KindData, create, drop_index, replace, update, remove, clear, patch, reset}
 use Rattle.index_changes.specs.Batches.{changed_by, after_each, faults_of}
 use Rattle.index_changes.specs.Index.{Index, empty_index}
 use Rattle.index_changes.specs.PlanView.{PlanView}

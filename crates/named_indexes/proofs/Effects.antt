@@ -2,8 +2,8 @@
 use Rattle.std.proofs.Common.{◌≡◌, ◌≤◌, List, [], ◌∷◌, length, map, Some, sym, subst, arith}
 use Rattle.std.specs.Prelude.{slice_get}
 use Rattle.std.specs.List.{AllByRecursion}
-use Rattle.doc_values.specs.Changes.{kind_view}
-use Rattle.doc_values.specs.declared.change.ChangeKind.{ChangeKind}
+use Rattle.document_changes.specs.Changes.{kind_view}
+use Rattle.document_changes.specs.declared.change.ChangeKind.{ChangeKind}
 use Rattle.index_changes.specs.Batches.{IsOneBatch}
 use Rattle.named_indexes.specs.Inside.{Names, Fills, Empties}
 use Rattle.named_indexes.proofs.Alike.{all_fill, all_empty, all_name}

@@ -1,7 +1,7 @@
 -- Changes, and the payloads that record them.
 use Rattle.std.proofs.Common.{◌≡◌, ℕ, List, true, false, Ok, Err, refl, sym, ap, subst, ◌∙◌}
 use Rattle.std.specs.List.{slice_get}
-use Rattle.doc_values.specs.Changes.{ChangeData, change_view}
+use Rattle.document_changes.specs.Changes.{ChangeData, change_view}
 use Rattle.change_payloads.specs.declared.fault.ImageFault.{ImageFault}
 use Rattle.change_payloads.specs.declared.fault.ImageFault.TheVariants.{Damaged, NoMemory}
 use Rattle.change_payloads.specs.Answers.{Decodes}

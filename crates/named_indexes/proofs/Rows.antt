@@ -2,7 +2,7 @@
 use Rattle.std.proofs.Common.{◌≡◌, ℕ, ◌+◌, ◌<◌, List, [], ◌∷◌, ◌++◌, length, map, take, slice_index_or, refl, sym, ap, ap₂, ◌∙◌, arith}
 use Rattle.std.specs.Result.{result_unwrap_or}
 use Rattle.std.proofs.lemmas.List.{take_more, map-append, append_assoc}
-use Rattle.doc_values.specs.Changes.{KindData}
+use Rattle.document_changes.specs.Changes.{KindData}
 use Rattle.index_changes.specs.Batches.{changed_by, faults_of}
 use Rattle.index_changes.specs.Index.{Index}
 

@@ -8,7 +8,7 @@ use Rattle.std.specs.List.Sorted.{IsStrictlySortedBy}
 use Rattle.std.specs.Map.{keys_of, set_value}
 use Rattle.std.specs.Ordering.{nat_cmp}
 use Rattle.std.proofs.lemmas.Map.Steps.{set_value_same}
-use Rattle.doc_values.specs.Changes.{KindData}
+use Rattle.document_changes.specs.Changes.{KindData}
 use Rattle.index_changes.specs.Batches.{after_each, batch_needed, faults_of}
 use Rattle.index_changes.specs.Index.{Index, empty_index}
 use Rattle.named_indexes.specs.Indexes.{Indexes, index_at, index_or_empty, with_index}

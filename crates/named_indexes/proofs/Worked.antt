@@ -3,7 +3,7 @@ use Rattle.std.proofs.Common.{◌≡◌, ◌≤◌, ℕ, List, [], ◌∷◌, le
 use Rattle.std.specs.Prelude.{IfOk, OnOk, OnErr}
 use Rattle.std.specs.List.{AllByRecursion}
 use Rattle.std.specs.Map.{keys_of}
-use Rattle.doc_values.specs.Changes.{KindData, ChangeData}
+use Rattle.document_changes.specs.Changes.{KindData, ChangeData}
 use Rattle.index_changes.specs.Batches.{IsOneBatch, batch_needed}
 use Rattle.index_changes.specs.Keyed.{HasKey}
 use Rattle.task_queue.specs.declared.task.Task.{Task}

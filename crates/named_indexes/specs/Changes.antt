@@ -1,6 +1,6 @@
 -- What a change of the index of a uid leaves, or the number of the refusal that refuses it.
 use Rattle.std.specs.Prelude.{ℕ, List, Bool, false, Option, is_none, is_some, ◌&&◌, Result, Ok}
-use Rattle.doc_values.specs.Changes.{KindData, create, drop_index, replace, update, remove, clear, patch, reset, ChangeData}
+use Rattle.document_changes.specs.Changes.{KindData, create, drop_index, replace, update, remove, clear, patch, reset, ChangeData}
 use Rattle.index_changes.specs.Index.{Index, empty_index}
 use Rattle.index_changes.specs.Plans.{planned, applied}
 use Rattle.index_changes.specs.declared.refusal.CoreRefusal.{CoreRefusal}

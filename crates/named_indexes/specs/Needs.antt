@@ -1,6 +1,6 @@
 -- How many stored documents a batch of changes reads at most.
 use Rattle.std.specs.Prelude.{ℕ, List, [], ◌∷◌, map}
-use Rattle.doc_values.specs.Changes.{ChangeData}
+use Rattle.document_changes.specs.Changes.{ChangeData}
 use Rattle.index_changes.specs.Batches.{batch_needed}
 use Rattle.task_queue.specs.declared.task.Task.{Task}
 use Rattle.named_indexes.specs.Indexes.{Indexes, index_or_empty}

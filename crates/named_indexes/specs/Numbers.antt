@@ -4,7 +4,7 @@ use Rattle.std.specs.Prelude.{◌&&◌, IfErr, is_none, is_some, bytes_eq, unwra
 use Rattle.std.proofs.lemmas.Bool.{and_parts}
 use Rattle.search_base.specs.Trying.{◌>>=◌, ◌>>◌, refuse_if, or_refuse, refused_as}
 use Rattle.serde_json.specs.Data.{Data}
-use Rattle.doc_values.specs.Changes.{KindData, create, drop_index, replace, update, remove, clear, patch, reset, ChangeData}
+use Rattle.document_changes.specs.Changes.{KindData, create, drop_index, replace, update, remove, clear, patch, reset, ChangeData}
 use Rattle.doc_values.specs.Ids.{is_uid, external_id_of, key_of}
 use Rattle.doc_values.specs.declared.ids.IdRefusal.{IdRefusal}
 use Rattle.doc_values.specs.declared.ids.IdRefusal.TheVariants as id

@@ -1,6 +1,6 @@
 -- The payloads that record changes, and which changes they may be.
 use Rattle.std.specs.Prelude.{◌≡◌, ◌<◌, ◌^◌, ◌&&◌, ℕ, List, length, nat_lt, slice_get, Bool, true, Option, Some, None, is_none, Result, Ok, Err, if◌then◌else◌}
-use Rattle.doc_values.specs.Changes.{KindData, create, drop_index, replace, update, remove, clear, patch, reset, ChangeData}
+use Rattle.document_changes.specs.Changes.{KindData, create, drop_index, replace, update, remove, clear, patch, reset, ChangeData}
 use Rattle.doc_values.specs.Ids.{is_uid}
 use Rattle.index_settings.specs.Table.{patch_fault}
 use Rattle.change_payloads.specs.Change.{Spot, change_at}

@@ -3,7 +3,7 @@ ghost use Rattle.std.specs.Prelude.{◌≡◌, ◌+◌, ◌<◌, ◌≤◌, ◌+
 ghost use Rattle.std.specs.List.{AllByRecursion, list_any};
 ghost use Rattle.std.specs.Option.{is_none, option_copied};
 ghost use Rattle.std.specs.Vec.{vec_capacity};
-ghost use Rattle.doc_values.specs.Changes.{kind_view, create};
+ghost use Rattle.document_changes.specs.Changes.{kind_view, create};
 ghost use Rattle.index_changes.specs.Batches.{IsOneBatch, after_each, batch_needed, faults_of};
 ghost use Rattle.index_changes.specs.Index.{empty_index};
 ghost use Rattle.index_changes.specs.Keyed.{HasKey};
@@ -16,7 +16,7 @@ ghost use Rattle.named_indexes.specs.Indexes.{index_or_empty, with_index};
 ghost use Rattle.named_indexes.specs.Inside.{kinds_in, after_kinds, rows_of_kinds, IsAbsent, Names, Fills, Empties, HasEffect, fault_row, full_row, plan_row, put_new};
 
 use crate::payload::Payload;
-use doc_values::ChangeKind;
+use document_changes::{ChangeKind, Documents};
 use index_core::{CoreRefusal, IndexCore};
 use request_refusals::TaskRefusal;
 use search_base::{Fault, NoMemory, Steps, Word};
@@ -182,7 +182,7 @@ fn new_index<F>(
     let mut index = IndexCore::new(alloc)?;
     let change = ChangeKind::Replace {
         key,
-        documents: Vec::new(alloc),
+        documents: Documents::none(alloc),
     };
     // A change of no documents gives the index its key. Memory alone can be wanting.
     let Ok(plan) = index.plan(alloc, change) else {

@@ -1,8 +1,8 @@
 // Copies of changes. The texts of documents are shared, and JSON values are copied.
 ghost use Rattle.std.specs.Prelude.{◌≡◌, IfOk};
-ghost use Rattle.doc_values.specs.Changes.{change_view, kind_view};
+ghost use Rattle.document_changes.specs.Changes.{change_view, kind_view};
 
-use doc_values::{Change, ChangeKind};
+use document_changes::{Change, ChangeKind};
 use search_base::NoMemory;
 
 /// A copy of a change.

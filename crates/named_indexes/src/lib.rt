@@ -7,7 +7,7 @@
 //! the uids' bytes, and a `Payload` as the change that it records. Stands on `index_core`, which is one index, on
 //! `index_changes`, which says what a change does to it, on `queued_changes` and `task_queue`, which hand it batches, on
 //! `change_payloads` and `index_image` for payloads and images, on `request_refusals` for why a task fails, on
-//! `doc_values` for changes, and on `index_settings` for patches.
+//! `document_changes` for changes, on `doc_values` for uids, and on `index_settings` for patches.
 #![tactic(auto)]
 
 mod changes;

@@ -6,12 +6,13 @@ ghost use Rattle.change_payloads.specs.Answers.{Decodes};
 ghost use Rattle.change_payloads.specs.Change.{change_at};
 ghost use Rattle.change_payloads.specs.Spelling.{kind_byte as byte_of};
 ghost use Rattle.change_payloads.specs.declared.fault.ImageFault.TheVariants.{Damaged};
-ghost use Rattle.doc_values.specs.Changes.{change_view, kind_view, patch};
+ghost use Rattle.document_changes.specs.Changes.{change_view, kind_view, patch};
 ghost use Rattle.named_indexes.specs.Payloads.{Accepts, IsRecordable, Records, first_byte as first_spot, is_good as is_good_change, is_good_kind as is_good_of, is_key as is_key_of, recorded_in};
 
 use crate::copies::copy_of;
 use change_payloads::{ImageFault, damage, decode_change, encode_change};
-use doc_values::{Change, ChangeKind, is_uid};
+use doc_values::is_uid;
+use document_changes::{Change, ChangeKind};
 use index_settings::check_patch;
 use search_base::{Fault, NoMemory, Word};
 use serde_json::Value;
@@ -29,7 +30,7 @@ pub struct Payload {
 impl Model for Payload {
     ghost use Rattle.std.specs.Prelude.{◌≡◌, true};
     ghost use Rattle.std.specs.Coded.{codes};
-    ghost use Rattle.doc_values.specs.Changes.{ChangeData, change_view};
+    ghost use Rattle.document_changes.specs.Changes.{ChangeData, change_view};
     ghost use Rattle.doc_values.specs.DataCode.{data_code};
     ghost use Rattle.named_indexes.specs.Payloads.{Records, is_good};
 

@@ -1,7 +1,7 @@
 -- What a request asks for, as contracts see it: each vector is a list.
 use Rattle.std.specs.Prelude.{ℕ, List}
 use Rattle.search_call.specs.SearchView.{SearchView, FacetCallView}
-use Rattle.doc_values.specs.Changes.{ChangeData}
+use Rattle.document_changes.specs.Changes.{ChangeData}
 use Rattle.search_bodies.specs.MultiData.{MultiData}
 use Rattle.request_calls.specs.declared.call.ReadCall.{ReadCall}
 use Rattle.request_calls.specs.declared.call.ReadCall.TheVariants as called

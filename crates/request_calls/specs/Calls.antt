@@ -4,7 +4,7 @@ use Rattle.serde_json.specs.Data.{Data, depth}
 use Rattle.serde_json.specs.Written.{has_float}
 use Rattle.serde_json.specs.Read.{max_depth}
 use Rattle.index_settings.specs.Table.{patch_fault}
-use Rattle.doc_values.specs.Changes.{KindData, ChangeData, change_view, create, drop_index, replace, update, remove, clear, patch, reset}
+use Rattle.document_changes.specs.Changes.{KindData, ChangeData, change_view, create, drop_index, replace, update, remove, clear, patch, reset}
 use Rattle.doc_values.specs.Ids.{is_uid}
 use Rattle.http_wire.specs.Stream.{Request}
 use Rattle.http_wire.specs.Sent.{IsSentAs}

@@ -1,6 +1,6 @@
 -- What the code holds of a call, as the definitions have it.
 use Rattle.std.specs.Prelude.{ℕ, List, Option}
-use Rattle.doc_values.specs.Changes.{change_view}
+use Rattle.document_changes.specs.Changes.{change_view}
 use Rattle.request_calls.specs.declared.body.NewIndex.{NewIndex as HeldIndex}
 use Rattle.request_calls.specs.declared.call.Request.{Request as HeldCall}
 use Rattle.request_calls.specs.declared.call.Request.TheVariants as asked

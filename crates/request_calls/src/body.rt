@@ -5,7 +5,8 @@ ghost use Rattle.request_calls.specs.Held.{new_index};
 ghost use Rattle.request_calls.specs.Bodies.{body_refusal as refusal_of_body, documents_in as documents_of_body, index_in, index_from, index_member_fault, index_members_fault, is_key_or_null as key_or_null, is_uid_text, ids_in, ids_from};
 ghost use Rattle.search_bodies.specs.Json.{as_text};
 
-use doc_values::{DocumentText, id_of, is_uid};
+use doc_values::{id_of, is_uid};
+use document_changes::Documents;
 use document_stream::BodyRefusal;
 use request_refusals::Refusal;
 use search_base::{Fault, Word};
@@ -19,14 +20,15 @@ pub(crate) struct NewIndex {
     pub key: Option<Word>,
 }
 
-/// The documents of a body, read one by one.
+/// The documents of a body, read one by one, each noted with its id under a key, or under the one that the first gives.
 pub(crate) fn read_documents(
     alloc: Global,
     body: &[u8],
-) -> Result<Vec<DocumentText>, Fault<Refusal>>
-    ensures { Gives (λ documents. documents.items) result (documents_of_body body.now) }
+    key: Option<Word>,
+) -> Result<Documents, Fault<Refusal>>
+    ensures { Gives (λ documents. documents) result (documents_of_body body.now) }
 {
-    match document_stream::read_documents(alloc, body) {
+    match document_stream::read_documents(alloc, body, key) {
         Ok(documents) => Ok(documents),
         Err(Fault::Refused(refusal)) => Err(Fault::Refused(body_refusal(refusal))),
         Err(Fault::NoMemory) => Err(Fault::NoMemory),

@@ -1,5 +1,5 @@
 ghost use Rattle.std.specs.Prelude.{◌≡◌, [], IfOk, map, Ok};
-ghost use Rattle.doc_values.specs.Changes.{kind_view};
+ghost use Rattle.document_changes.specs.Changes.{kind_view};
 ghost use Rattle.http_wire.specs.Wire.{request_of};
 ghost use Rattle.search_base.specs.Gives.{Gives};
 ghost use Rattle.request_routes.specs.Held.{pair_of};
@@ -11,7 +11,7 @@ ghost use Rattle.request_calls.specs.Held.{call_data};
 use crate::body::{NewIndex, read_documents, read_ids, read_index};
 use crate::reply::refusal_reply;
 use crate::settings::read_patch;
-use doc_values::{Change, ChangeKind};
+use document_changes::{Change, ChangeKind};
 use http_wire::{Reply, Wire};
 use request_refusals::Refusal;
 use request_routes::{
@@ -204,8 +204,8 @@ fn add_documents(
 ) -> Result<Request, Fault<Refusal>>
     ensures { Gives call_data result (call_at AddDocuments uid.now [] (map pair_of pairs.now) body.now) }
 {
-    let documents = read_documents(alloc, body)?;
     let key = text_in(pairs, "primaryKey")?;
+    let documents = read_documents(alloc, body, key.clone()?)?;
     changed(alloc, uid, ChangeKind::Replace { key, documents })
 }
 
@@ -217,8 +217,8 @@ fn update_documents(
 ) -> Result<Request, Fault<Refusal>>
     ensures { Gives call_data result (call_at UpdateDocuments uid.now [] (map pair_of pairs.now) body.now) }
 {
-    let documents = read_documents(alloc, body)?;
     let key = text_in(pairs, "primaryKey")?;
+    let documents = read_documents(alloc, body, key.clone()?)?;
     changed(alloc, uid, ChangeKind::Update { key, documents })
 }
 

@@ -5,8 +5,8 @@
 //! Contracts see a `Call` as a `CallData`, a change or a read whose vectors are lists. Stands on http_wire for requests
 //! and replies, on request_refusals for why a request is refused, on request_routes for routes and query strings, on
 //! search_bodies for the searches that bodies and query strings ask for, on search_call for what these are, on
-//! doc_values for ids and changes, on document_stream for documents, on index_settings for what a patch of settings may
-//! say, and on serde_json for other bodies.
+//! doc_values for ids, on document_changes for changes, on document_stream for documents, on index_settings for what a
+//! patch of settings may say, and on serde_json for other bodies.
 #![tactic(auto)]
 
 mod body;

@@ -3,7 +3,7 @@ use Rattle.std.proofs.Common.{◌≡◌, ℕ, suc, zero, ◌-◌, ◌<◌, ◌�
 use Rattle.std.specs.Prelude.{IfErr, OnErr, OnOk, nat_le, if◌then◌else◌}
 use Rattle.std.specs.List.{AllByRecursion}
 use Rattle.std.proofs.lemmas.Bool.{and_parts}
-use Rattle.doc_values.specs.Changes.{KindData, create, drop_index, replace, update, remove, clear, patch, reset, ChangeData}
+use Rattle.document_changes.specs.Changes.{KindData, create, drop_index, replace, update, remove, clear, patch, reset, ChangeData}
 use Rattle.doc_values.specs.Ids.{is_uid}
 use Rattle.change_payloads.specs.Spelling.{kind_byte}
 use Rattle.search_base.specs.declared.outcome.OutcomeRow.{OutcomeRow}

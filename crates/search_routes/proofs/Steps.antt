@@ -3,7 +3,7 @@ use Rattle.std.proofs.Common.{◌≡◌, true, false, List, [], Result, Ok, Err,
 use Rattle.bucket_sort.specs.declared.log.Opening.{Opening}
 use Rattle.bucket_sort.specs.Opens.{LogState, Opens, is_starved}
 use Rattle.index_core.proofs.Opening.{opens-none, opens-some}
-use Rattle.doc_values.specs.Changes.{change_view}
+use Rattle.document_changes.specs.Changes.{change_view}
 use Rattle.http_wire.specs.Stream.{Request}
 use Rattle.http_wire.specs.Sent.{IsSentAs}
 use Rattle.http_wire.specs.declared.reply.Reply.{Reply}

@@ -3,7 +3,7 @@ use Rattle.std.proofs.Common.{◌≡◌, ℕ, suc, zero, ◌+◌, ◌<◌, ◌�
 use Rattle.std.specs.Prelude.{nat_lt}
 use Rattle.std.specs.List.{AllByRecursion}
 use Rattle.std.proofs.lemmas.Bool.{lt-ltb, lt-leb, le-leb}
-use Rattle.doc_values.specs.Changes.{KindData, create, drop_index, replace, update, remove, clear, patch, reset, ChangeData}
+use Rattle.document_changes.specs.Changes.{KindData, create, drop_index, replace, update, remove, clear, patch, reset, ChangeData}
 use Rattle.change_payloads.specs.Change.{Spot}
 use Rattle.change_payloads.specs.Spelling.{HasText, kind_byte}
 use Rattle.change_payloads.specs.Answers.{Decodes}

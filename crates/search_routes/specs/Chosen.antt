@@ -6,7 +6,7 @@ use Rattle.search_routes.specs.State.{State}
 use Rattle.queued_changes.specs.Run.{Step as Stepped, Event as EventOf, followed as followed_by, after as after_all, EndsIn as EndsBy}
 use Rattle.named_indexes.specs.Indexes.{Indexes}
 use Rattle.named_indexes.specs.Changes.{changed}
-use Rattle.doc_values.specs.Changes.{ChangeData}
+use Rattle.document_changes.specs.Changes.{ChangeData}
 use Rattle.search_routes.specs.Machine.{Step, step}
 
 abbrev pub or_memory : Answer → Bool → Answer

@@ -1,7 +1,7 @@
 -- What the code does, beside the steps of the machine.
 use Rattle.std.specs.Prelude.{◌≡◌, ◌<◌, ◌≤◌, ℕ, Bool, List, [], Result, Ok, Err}
 use Rattle.bucket_sort.specs.declared.log.Opening.{Opening}
-use Rattle.doc_values.specs.Changes.{ChangeData, change_view}
+use Rattle.document_changes.specs.Changes.{ChangeData, change_view}
 use Rattle.change_payloads.specs.Spelling.{kind_byte}
 use Rattle.http_wire.specs.Reply.{Answer}
 use Rattle.http_wire.specs.Stream.{Request}

@@ -2,7 +2,7 @@
 use Rattle.std.specs.Prelude.{ℕ, List, [], ◌∷◌, length, map, take, drop, nat_le, Result, Ok, Err}
 use Rattle.serde_json.specs.Data.{Data}
 use Rattle.index_settings.specs.View.{SettingsView}
-use Rattle.doc_values.specs.Changes.{ChangeData}
+use Rattle.document_changes.specs.Changes.{ChangeData}
 use Rattle.change_payloads.specs.Spelling.{kind_byte}
 use Rattle.http_wire.specs.Stream.{Request}
 use Rattle.http_wire.specs.Reply.{Answer}

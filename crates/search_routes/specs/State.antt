@@ -1,6 +1,6 @@
 -- What the machine holds.
 use Rattle.std.specs.Prelude.{ℕ, []}
-use Rattle.doc_values.specs.Changes.{ChangeData}
+use Rattle.document_changes.specs.Changes.{ChangeData}
 use Rattle.queued_changes.specs.State.{State as Waiting, idle}
 use Rattle.named_indexes.specs.Indexes.{Indexes}
 

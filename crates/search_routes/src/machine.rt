@@ -2,7 +2,7 @@ ghost use Rattle.std.specs.Prelude.{◌≡◌, ◌≢◌, ◌+◌, ◌<◌, ◌�
 ghost use Rattle.std.specs.Prelude.{IfErr, IfOk, OnErr, OnOk};
 ghost use Rattle.std.specs.List.{AllByRecursion};
 ghost use Rattle.bucket_sort.specs.Opens.{log_state};
-ghost use Rattle.doc_values.specs.Changes.{change_view};
+ghost use Rattle.document_changes.specs.Changes.{change_view};
 ghost use Rattle.http_wire.specs.Stream.{Request};
 ghost use Rattle.index_image.specs.Image.{state_at};
 ghost use Rattle.index_image.specs.Rows.{image_view};
@@ -29,7 +29,7 @@ use crate::reads::read_queued;
 use crate::tasks::{PreparedTask, prepare};
 use bucket_sort::BucketLog;
 use change_payloads::ImageFault;
-use doc_values::Change;
+use document_changes::Change;
 use http_wire::Reply;
 use index_image::{ImageRows, decode, encode};
 use named_indexes::{Indexes, Payload};

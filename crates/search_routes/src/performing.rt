@@ -1,6 +1,6 @@
 ghost use Rattle.std.specs.Prelude.{◌≡◌, ◌+◌, ◌≤◌, Bool};
 ghost use Rattle.bucket_sort.specs.Opens.{log_state};
-ghost use Rattle.doc_values.specs.Changes.{change_view};
+ghost use Rattle.document_changes.specs.Changes.{change_view};
 ghost use Rattle.http_wire.specs.Sent.{IsSentAs, status_of};
 ghost use Rattle.http_wire.specs.Stream.{Request};
 ghost use Rattle.http_wire.specs.Wire.{request_of};
@@ -17,7 +17,7 @@ ghost use Rattle.search_routes.specs.State.{State};
 use crate::asking::ask;
 use crate::machine::Machine;
 use bucket_sort::BucketLog;
-use doc_values::Change;
+use document_changes::Change;
 use http_wire::{Reply, Wire};
 use request_calls::{Call, refusal_reply};
 use request_refusals::Refusal;

@@ -1,7 +1,7 @@
 // Changes as tasks: a new one, and one that was recorded.
 ghost use Rattle.std.specs.Prelude.{◌≡◌, ◌<◌, IfOk};
 ghost use Rattle.change_payloads.specs.declared.fault.ImageFault.TheVariants.{Damaged};
-ghost use Rattle.doc_values.specs.Changes.{change_view};
+ghost use Rattle.document_changes.specs.Changes.{change_view};
 ghost use Rattle.request_calls.specs.Calls.{IsAccepted};
 ghost use Rattle.named_indexes.specs.Payloads.{Accepts, first_byte};
 ghost use Rattle.search_routes.specs.Done.{IsPrepared, Prepares};
@@ -9,7 +9,7 @@ ghost use Rattle.search_routes.specs.Redo.{ReadsTask, task_again as task_of_byte
 ghost use Rattle.search_routes.specs.State.{most_changes};
 
 use change_payloads::{ImageFault, damage};
-use doc_values::Change;
+use document_changes::Change;
 use http_wire::Reply;
 use named_indexes::{Payload, Recorded, recorded_change};
 use request_refusals::Refusal;

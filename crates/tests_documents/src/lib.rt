@@ -1,11 +1,13 @@
-//! Tests of documents: their values, streams, settings, rows, slots and stores.
+//! Tests of documents: their values, streams, readings, settings, rows, slots and stores.
 //!
-//! They use what these crates offer to others, and stand in a crate of their own, so that the crates they try are proved
-//! once and not twice. The crate has nothing but tests, and promises nothing.
+//! They use what these crates offer to others, and stand in a crate of their own, so that the crates they try are
+//! proved once and not twice. The crate has nothing but tests, and promises nothing.
 #![tactic(auto)]
 
 #[cfg(test)]
 mod checks;
+#[cfg(test)]
+mod readings;
 #[cfg(test)]
 mod rows;
 #[cfg(test)]

@@ -3,6 +3,7 @@ ghost use Rattle.std.specs.Prelude.{◌≡◌};
 use crate::checks::{check, check_text, word};
 use doc_store::{Admission, DocStore, StoreFault, StoreRefusal, StoreRow};
 use doc_values::{Document, DocumentText, documents_of};
+use path_registry::MetPaths;
 use search_base::{DocId, Fault, PathId, Steps};
 use serde_json::Value;
 use std::alloc::Global;
@@ -316,4 +317,56 @@ fn paths_are_noted_before_documents_are_admitted(rt: HostRuntime) {
         check_noted(&rt, alloc, &store, document, wanted);
     }
     check_noted(&rt, alloc, &store, &wide(&rt, alloc, 1_000), "paths");
+}
+
+// What a store admits of documents, the paths of which are met before it is known to which store they come.
+fn met(
+    rt: &impl Abort,
+    alloc: Global,
+    store: &DocStore,
+    documents: &[Document],
+) -> Result<Admission, StoreFault> {
+    let mut met = MetPaths::new(alloc);
+    let mut rows = Vec::new(alloc);
+    for document in documents {
+        met.meet(alloc, document)?;
+        let row = row(rt, alloc, "w", document);
+        rows.push(row)?;
+    }
+    let Some(paths) = met.into_paths() else {
+        return Err(Fault::Refused(StoreRefusal::PathsSpent));
+    };
+    let mut admitting = store.start_admitting(alloc);
+    let new = store.note_met(alloc, &admitting, paths)?;
+    store.admit_noted(&mut admitting, rows.as_slice(), new)?;
+    Ok(admitting.finish())
+}
+
+// Documents that all have one external id are admitted as they are where each is read for itself.
+fn check_met(rt: &impl Abort, alloc: Global, store: &DocStore, body: &str, wanted: &str) {
+    let admitted = met(rt, alloc, store, &documents(rt, alloc, body));
+    check_text(rt, &admission_text(rt, alloc, &admitted), wanted, "met");
+    let rows = rows(rt, alloc, "w w", body);
+    let admitted = store.admit(alloc, rows.as_slice());
+    check_text(rt, &admission_text(rt, alloc, &admitted), wanted, "read");
+}
+
+// Documents behind one that has the path `a`, with the internal id of each and the paths that are new.
+const MET: [(&str, &str); 3] = [
+    ("[{},{}]", "1 1 "),
+    (r#"[{"c":1,"a":0}]"#, "1 c "),
+    (r#"[{"c":1,"a":0},{"b":2,"c":{"a":3}}]"#, "1 1 c b c.a "),
+];
+
+#[test]
+fn paths_are_met_before_it_is_known_to_which_store(rt: HostRuntime) {
+    let alloc = rt.alloc();
+    let mut store = new_store(&rt, alloc);
+    let stored = store_all(&rt, alloc, &mut store, "1", "[{\"a\":0}]");
+    check_text(&rt, &stored, "0 +1", "stored");
+    for (documents, wanted) in &MET {
+        check_met(&rt, alloc, &store, documents, wanted);
+    }
+    check_met(&rt, alloc, &store, &wide(&rt, alloc, 1_000), "paths");
+    check_met(&rt, alloc, &store, &wide(&rt, alloc, 1_001), "paths");
 }

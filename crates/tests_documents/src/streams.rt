@@ -21,9 +21,9 @@ fn tell_fault(rt: &impl Abort, fault: &BodyFault, text: &mut String) {
 // The documents' texts with a blank behind each, or the fault.
 fn shown_body(rt: &impl Abort, alloc: Global, body: &[u8]) -> String {
     let mut text = String::new(alloc);
-    match &read_documents(alloc, body) {
+    match &read_documents(alloc, body, None) {
         Ok(documents) => {
-            for document in documents {
+            for document in documents.texts() {
                 add(rt, &mut text, document.text());
                 add(rt, &mut text, " ");
             }
@@ -110,8 +110,8 @@ fn nested(rt: &impl Abort, alloc: Global, first: &str, levels: usize, last: &str
 
 // How many documents a body has, or none where it is not JSON.
 fn count(alloc: Global, body: &str) -> Option<usize> {
-    match &read_documents(alloc, body.as_bytes()) {
-        Ok(documents) => Some(documents.len()),
+    match &read_documents(alloc, body.as_bytes(), None) {
+        Ok(documents) => Some(documents.texts().len()),
         Err(Fault::Refused(BodyRefusal::NotJson)) => None,
         Err(_) => Some(99),
     }

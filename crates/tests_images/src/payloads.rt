@@ -5,7 +5,7 @@ use change_payloads::{
     damage, decode_change, encode_change, optional, put_length, put_optional, put_word, text,
     u8_at, u32_at,
 };
-use doc_values::{Change, ChangeKind};
+use document_changes::{Change, ChangeKind};
 use search_base::Word;
 use std::alloc::Global;
 use std::process::Abort;

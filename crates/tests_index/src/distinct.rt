@@ -1,7 +1,7 @@
 use crate::checks::{check_text, word};
 use crate::index::{FILMS, Fetch, Opened, call, change, filled};
 use bucket_sort::{BucketLog, RecordLog};
-use doc_values::ChangeKind;
+use document_changes::ChangeKind;
 use index_core::IndexCore;
 use search_base::Steps;
 use search_result::Hit;

@@ -1,9 +1,10 @@
-ghost use Rattle.doc_values.specs.Changes.{kind_view};
+ghost use Rattle.document_changes.specs.Changes.{kind_view};
 ghost use Rattle.index_changes.specs.Keyed.{HasKey};
 
 use crate::checks::{check, check_text, word};
 use bucket_sort::{BucketLog, Opening, RecordLog};
-use doc_values::{ChangeKind, DocumentText, documents_of};
+use doc_values::{DocumentText, documents_of};
+use document_changes::{ChangeKind, Documents};
 use filter_tree::Filter;
 use index_core::IndexCore;
 use search_base::{CostKey, Steps, Strategy};
@@ -44,7 +45,7 @@ pub(crate) fn change(rt: &impl Abort, alloc: Global, index: &mut IndexCore, kind
 // An index with the documents of a body.
 pub(crate) fn filled(rt: &impl Abort, alloc: Global, body: &str) -> IndexCore {
     let mut index = IndexCore::new(alloc).expect(rt, "memory");
-    let documents = documents(rt, alloc, body);
+    let documents = Documents::unread(documents(rt, alloc, body));
     let key = None;
     change(
         rt,

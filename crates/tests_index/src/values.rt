@@ -1,6 +1,6 @@
 use crate::checks::{check_text, word};
 use crate::index::{FILMS, change, filled};
-use doc_values::ChangeKind;
+use document_changes::ChangeKind;
 use facet_counts::CountRow;
 use filter_tree::{Filter, Test};
 use index_core::IndexCore;

@@ -1,7 +1,7 @@
 use crate::checks::{check, set, word};
+use crate::shelf::Shelf;
 use doc_sets::DocSet;
 use facet_counts::{CountRow, FacetCounts, FacetPath, FacetReply, in_order};
-use facet_shelf::Shelf;
 use list_facets::{FacetQuery, counts, counts_from};
 use search_base::{DocId, FacetValue, Leaf, PathId};
 use std::alloc::Global;

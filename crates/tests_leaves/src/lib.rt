@@ -12,3 +12,5 @@ mod columns;
 mod counts;
 #[cfg(test)]
 mod shared_leaves;
+#[cfg(test)]
+mod shelf;

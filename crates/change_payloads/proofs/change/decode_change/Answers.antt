@@ -1,5 +1,5 @@
 use Rattle.std.proofs.Common.{ap, subst, ◌∙◌, arith}
-use Rattle.doc_values.specs.Changes.{change_view}
+use Rattle.document_changes.specs.Changes.{change_view}
 use Rattle.change_payloads.specs.Answers.{Decodes}
 use Rattle.change_payloads.specs.Change.{change_at}
 use Rattle.change_payloads.proofs.Again.{change_again}

@@ -1,5 +1,5 @@
 use Rattle.std.proofs.Common.{ap, ◌∙◌}
-use Rattle.doc_values.specs.Changes.{change_view}
+use Rattle.document_changes.specs.Changes.{change_view}
 use Rattle.change_payloads.specs.Change.{change_at}
 use Rattle.change_payloads.proofs.Again.{change_again}
 use Rattle.change_payloads.proofs.writing.encode_change.Goals as goal

@@ -1,6 +1,6 @@
 use Rattle.std.proofs.Common.{◌≡◌, ◌++◌, map, None}
 use Rattle.std.specs.Prelude.{flat_map}
-use Rattle.doc_values.specs.Changes.{kind_view}
+use Rattle.document_changes.specs.Changes.{kind_view}
 use Rattle.index_changes.specs.Batches.{names_in}
 use Rattle.index_changes.proofs.batch.removed_ids.Given as goal
 

@@ -4,7 +4,6 @@ use Rattle.std.specs.Option.{option_map}
 use Rattle.search_base.specs.Gives.{Checks}
 use Rattle.doc_index.specs.Named.{named, AreRead}
 use Rattle.doc_store.specs.Store.{all_stored, externals, spent}
-use Rattle.index_changes.specs.Plans.{all_updated}
 use Rattle.index_changes.specs.Refusals.{store_refusal}
 use Rattle.index_changes.proofs.Replaced.{updated-ids, updated-stored}
 use Rattle.index_changes.proofs.change.update_documents.Goals as goal

@@ -1,4 +1,4 @@
-use Rattle.std.proofs.Common.{List, [], sym, subst}
+use Rattle.std.proofs.Common.{List, sym, subst}
 use Rattle.doc_store.specs.Admitting.{IsNoted}
 use Rattle.doc_store.specs.declared.rows.StoreRow.{StoreRow as Row}
 use Rattle.index_changes.proofs.external_ids.rows_noted.Goals as goal

@@ -1,7 +1,7 @@
 use Rattle.std.proofs.Common.{map, sym, ap, ◌∙◌}
 use Rattle.std.proofs.lemmas.List.{nil_from_length}
 use Rattle.std.specs.Option.{option_copied}
-use Rattle.doc_values.specs.Changes.{kind_view}
+use Rattle.document_changes.specs.Changes.{kind_view}
 use Rattle.index_changes.specs.Gathering.{rows_in}
 use Rattle.index_changes.proofs.Gathering.{looks-one, looks-end}
 use Rattle.index_changes.proofs.gathered.gather.Goals as goal

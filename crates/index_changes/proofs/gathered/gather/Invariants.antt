@@ -1,6 +1,6 @@
 use Rattle.std.proofs.Common.{map}
 use Rattle.std.specs.Option.{option_copied}
-use Rattle.doc_values.specs.Changes.{kind_view}
+use Rattle.document_changes.specs.Changes.{kind_view}
 use Rattle.doc_store.specs.Admitting.{IsAdmitting}
 use Rattle.index_changes.specs.Gathering.{rows_in}
 use Rattle.index_changes.proofs.Gathering.{Looks}

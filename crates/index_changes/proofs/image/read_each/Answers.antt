@@ -1,8 +1,7 @@
-use Rattle.std.proofs.Common.{◌≡◌, ◌++◌, ◌∷◌, [], refl, sym, ap, ◌∙◌, map, length, subst, arith, append-nil}
+use Rattle.std.proofs.Common.{[], sym, ap, ◌∙◌, map, subst}
 use Rattle.std.proofs.lemmas.List.{nil_from_length}
-use Rattle.doc_store.specs.Restored.{restored_row}
 use Rattle.row_index.specs.Changes.{IsChangeOf}
-use Rattle.doc_index.specs.Documents.{indexed, rising}
+use Rattle.doc_index.specs.Documents.{rising}
 use Rattle.index_changes.specs.Images.{row_under}
 use Rattle.index_changes.proofs.image.read_each.Goals as goal
 

@@ -1,4 +1,4 @@
-use Rattle.std.proofs.Common.{◌≡◌, ◌+◌, ◌++◌, [], ◌∷◌, take, length, rules, arith, ◌∙◌}
+use Rattle.std.proofs.Common.{◌≡◌, ◌+◌, ◌++◌, [], ◌∷◌, take, length, rules, arith}
 use Rattle.std.proofs.lemmas.List.{take_more, length-take}
 use Rattle.index_changes.proofs.Updating.{places-behind}
 use Rattle.index_changes.proofs.update.last_places.Goals as goal

@@ -1,5 +1,5 @@
 use Rattle.std.proofs.Common.{◌<◌, length, ap, ◌∙◌, arith}
-use Rattle.doc_values.specs.Changes.{kind_view}
+use Rattle.document_changes.specs.Changes.{kind_view}
 use Rattle.named_indexes.proofs.Rows.{row_more}
 use Rattle.named_indexes.proofs.changes.changes_of.Goals as goal
 

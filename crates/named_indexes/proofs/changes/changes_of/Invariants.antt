@@ -1,5 +1,5 @@
 use Rattle.std.proofs.Common.{◌≡◌, map, take}
-use Rattle.doc_values.specs.Changes.{kind_view}
+use Rattle.document_changes.specs.Changes.{kind_view}
 use Rattle.named_indexes.specs.Inside.{kinds_in}
 use Rattle.named_indexes.proofs.changes.changes_of.Given as goal
 

@@ -1,6 +1,6 @@
 use Rattle.std.proofs.Common.{◌≡◌, length, map, sym, ap, arith, rules, ◌∙◌}
 use Rattle.std.proofs.lemmas.List.{length-map}
-use Rattle.doc_values.specs.Changes.{kind_view}
+use Rattle.document_changes.specs.Changes.{kind_view}
 use Rattle.task_queue.specs.Queue.{row_of}
 use Rattle.named_indexes.proofs.Absent.{none_applied, none_rows}
 use Rattle.named_indexes.proofs.There.{there_applied, there_stays, there_rows, need_there, empty_takes}

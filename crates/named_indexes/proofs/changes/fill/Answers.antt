@@ -4,7 +4,7 @@ use Rattle.std.specs.Cmp.Lexicographic.{slice_cmp}
 use Rattle.std.specs.List.Sorted.{IsStrictlySortedBy}
 use Rattle.std.specs.Map.{keys_of}
 use Rattle.std.specs.Ordering.{nat_cmp}
-use Rattle.doc_values.specs.Changes.{kind_view}
+use Rattle.document_changes.specs.Changes.{kind_view}
 use Rattle.task_queue.specs.Queue.{row_of}
 use Rattle.named_indexes.specs.Indexes.{index_at}
 use Rattle.named_indexes.specs.Inside.{after_kinds, rows_of_kinds}

@@ -1,5 +1,5 @@
 use Rattle.std.proofs.Common.{map, arith, ◌≤◌, ◌<◌, length}
-use Rattle.doc_values.specs.Changes.{kind_view}
+use Rattle.document_changes.specs.Changes.{kind_view}
 use Rattle.task_queue.specs.Queue.{row_of}
 use Rattle.named_indexes.proofs.Absent.{new_applied, new_rows, full_applied, full_rows}
 use Rattle.named_indexes.proofs.There.{need_new}

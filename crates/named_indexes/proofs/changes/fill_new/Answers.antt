@@ -1,6 +1,6 @@
 use Rattle.std.proofs.Common.{◌≡◌, length, map, ap, rules, arith, ◌∙◌}
 use Rattle.std.proofs.lemmas.List.{length-map}
-use Rattle.doc_values.specs.Changes.{kind_view}
+use Rattle.document_changes.specs.Changes.{kind_view}
 use Rattle.task_queue.specs.Queue.{row_of}
 use Rattle.named_indexes.proofs.Rows.{many_faults}
 use Rattle.named_indexes.proofs.Absent.{new_put, fault_rows, need_of_new}

@@ -1,6 +1,6 @@
 use Rattle.std.proofs.Common.{List, ap, ◌∙◌}
 use Rattle.std.specs.Prelude.{slice_get}
-use Rattle.doc_values.specs.declared.change.ChangeKind.{ChangeKind}
+use Rattle.document_changes.specs.declared.change.ChangeKind.{ChangeKind}
 use Rattle.named_indexes.proofs.Effects.{each_fills, each_empties, each_names, names_alone}
 use Rattle.named_indexes.proofs.changes.make.Goals as goal
 

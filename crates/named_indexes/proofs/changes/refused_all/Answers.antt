@@ -1,6 +1,6 @@
 use Rattle.std.proofs.Common.{◌≡◌, List, map, ap, subst, ◌++◌, ◌∙◌}
 use Rattle.std.specs.List.{AllByRecursion}
-use Rattle.doc_values.specs.Changes.{KindData, kind_view}
+use Rattle.document_changes.specs.Changes.{KindData, kind_view}
 use Rattle.index_changes.specs.Index.{Index}
 use Rattle.index_changes.specs.Keyed.{HasKey}
 use Rattle.index_changes.specs.Plans.{planned}

@@ -1,6 +1,6 @@
 use Rattle.std.proofs.Common.{◌≡◌, ◌++◌, map}
 use Rattle.std.specs.List.{AllByRecursion}
-use Rattle.doc_values.specs.Changes.{kind_view}
+use Rattle.document_changes.specs.Changes.{kind_view}
 use Rattle.index_changes.specs.Keyed.{HasKey}
 use Rattle.task_queue.specs.Queue.{row_of}
 use Rattle.named_indexes.specs.Inside.{full_row}

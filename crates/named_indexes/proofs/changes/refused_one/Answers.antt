@@ -1,7 +1,7 @@
 use Rattle.std.proofs.Common.{sym, ap, subst, ◌∙◌}
 use Rattle.search_base.specs.Gives.{Fails}
 use Rattle.search_base.specs.declared.fault.Fault.{Fault}
-use Rattle.doc_values.specs.Changes.{kind_view}
+use Rattle.document_changes.specs.Changes.{kind_view}
 use Rattle.index_changes.specs.Plans.{planned}
 use Rattle.index_changes.specs.declared.refusal.CoreRefusal.{CoreRefusal}
 use Rattle.named_indexes.specs.Inside.{plan_row}

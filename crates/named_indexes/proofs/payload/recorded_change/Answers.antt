@@ -1,6 +1,6 @@
 use Rattle.std.proofs.Common.{◌≡◌, Ok, Err, false, sym, ap, subst, ◌∙◌}
 use Rattle.std.proofs.lemmas.Result.{err_from_is_err_and}
-use Rattle.doc_values.specs.Changes.{ChangeData, change_view}
+use Rattle.document_changes.specs.Changes.{ChangeData, change_view}
 use Rattle.change_payloads.specs.Answers.{Decodes}
 use Rattle.change_payloads.specs.Change.{change_at}
 use Rattle.named_indexes.specs.Payloads.{is_good}

@@ -1,4 +1,4 @@
-use Rattle.doc_values.specs.Changes.{change_view}
+use Rattle.document_changes.specs.Changes.{change_view}
 use Rattle.http_wire.specs.Wire.{request_of}
 use Rattle.request_calls.specs.Asked.{write}
 use Rattle.request_calls.proofs.Accepted.{accepted_call}

@@ -1,6 +1,6 @@
 use Rattle.std.proofs.Common.{refl, arith}
 use Rattle.bucket_sort.specs.Opens.{log_state}
-use Rattle.doc_values.specs.Changes.{change_view}
+use Rattle.document_changes.specs.Changes.{change_view}
 use Rattle.request_calls.specs.Asked.{write}
 use Rattle.search_routes.specs.Done.{noted}
 use Rattle.search_routes.specs.Machine.{performed}

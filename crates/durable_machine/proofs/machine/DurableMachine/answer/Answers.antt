@@ -2,7 +2,7 @@ use Rattle.std.proofs.Common.{refl, sym, subst, true, false}
 use Rattle.http_wire.specs.Reply.{memory_answer}
 use Rattle.http_wire.specs.Sent.{IsSentAs}
 use Rattle.http_wire.specs.Wire.{request_of}
-use Rattle.doc_values.specs.Changes.{change_view}
+use Rattle.document_changes.specs.Changes.{change_view}
 use Rattle.request_calls.specs.Calls.{IsCall, call_of}
 use Rattle.search_routes.specs.Chosen.{answer_of}
 use Rattle.durable_machine.proofs.Answering.{opens_nothing, refused_opens, refused_replied, write_opens}

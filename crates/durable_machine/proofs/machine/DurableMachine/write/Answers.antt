@@ -1,5 +1,5 @@
 use Rattle.std.proofs.Common.{◌∙◌, refl, true, false, sym, ap, subst, arith}
-use Rattle.doc_values.specs.Changes.{change_view}
+use Rattle.document_changes.specs.Changes.{change_view}
 use Rattle.http_wire.specs.Reply.{memory_answer}
 use Rattle.http_wire.specs.Sent.{IsSentAs}
 use Rattle.queued_changes.specs.Machine.{run_out}

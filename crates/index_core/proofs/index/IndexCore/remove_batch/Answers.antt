@@ -1,7 +1,7 @@
 use Rattle.std.proofs.Common.{◌≡◌, ◌≤◌, length, map, None, sym, ap, subst, ◌∙◌, arith, rules}
 use Rattle.std.specs.Prelude.{flat_map, replicate}
 use Rattle.std.proofs.lemmas.List.{length-map}
-use Rattle.doc_values.specs.Changes.{kind_view}
+use Rattle.document_changes.specs.Changes.{kind_view}
 use Rattle.doc_index.specs.Left.{without_named}
 use Rattle.doc_index.specs.Named.{named}
 use Rattle.doc_store.specs.Store.{Store}

@@ -1,5 +1,5 @@
 use Rattle.std.proofs.Common.{map, refl, sym, ap, ◌∙◌}
-use Rattle.doc_values.specs.Changes.{kind_view}
+use Rattle.document_changes.specs.Changes.{kind_view}
 use Rattle.doc_store.specs.Store.{Store}
 use Rattle.index_changes.specs.Batches.{after_each, faults_of}
 use Rattle.index_changes.specs.Index.{Index}

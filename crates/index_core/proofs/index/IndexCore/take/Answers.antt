@@ -1,5 +1,5 @@
 use Rattle.std.proofs.Common.{arith}
-use Rattle.doc_values.specs.Changes.{kind_view}
+use Rattle.document_changes.specs.Changes.{kind_view}
 use Rattle.index_changes.proofs.Batching.{single-needed}
 use Rattle.index_core.proofs.index.IndexCore.take.Goals as goal
 

@@ -1,5 +1,5 @@
 use Rattle.std.proofs.Common.{map, arith}
-use Rattle.doc_values.specs.Changes.{kind_view}
+use Rattle.document_changes.specs.Changes.{kind_view}
 use Rattle.task_queue.specs.Queue.{row_of}
 use Rattle.named_indexes.proofs.Worked.{behind, split_first, worked_applied, worked_rows, worked_uids, worked_batch, worked_keys, worked_need}
 use Rattle.named_indexes.proofs.worker.IndexesWorkerPayload.apply.Goals as goal

@@ -1,7 +1,0 @@
-use Rattle.std.proofs.Common.{◌≡◌, drop, length}
-use Rattle.search_base.specs.Heads.{head_from}
-use Rattle.doc_store.proofs.ShortLemmas.{number_behind}
-use Rattle.doc_store.proofs.short_names.number_of.Given as goal
-
-abbrev pub invariant-loop-byte : goal.invariant-loop-byte
-invariant-loop-byte l = number_behind l.number (drop l.byte-index l.name) ≡ head_from (length l.name) l.name
