@@ -10,8 +10,7 @@ the same search beside no other path, and of several programs each has behind it
 that differ are told. Nothing tests these numbers.
 """
 import argparse
-import os
-import tempfile
+import sys
 
 import catalogue
 
@@ -21,7 +20,6 @@ SEARCHES = 20
 
 def filled(binary, others, documents):
     """A program in a folder of its own, with an index of these documents, and one with other paths before them."""
-    os.chdir(tempfile.mkdtemp(dir=".."))
     program, made = catalogue.Program(binary), catalogue.Catalogue()
     bodies = [[{"id": documents, **{f"other{number}": "x" for number in range(others)}}]]
     for first in range(0, documents, catalogue.BATCH):
@@ -46,8 +44,11 @@ def queries():
 def spent(program, texts):
     """The microseconds of a search, and what they were answered."""
     begun = program.cpu()
-    replies = [program.ask("POST", "/indexes/c/search", {"q": text})[1] for text in texts]
-    return (program.cpu() - begun) / len(texts) * 1e6, replies
+    replies = [program.ask("POST", "/indexes/c/search", {"q": text}) for text in texts]
+    spent = (program.cpu() - begun) / len(texts) * 1e6
+    if any(b" 200 " not in status for status, *_ in replies):
+        sys.exit("attributes.py: a search was refused")
+    return spent, [reply for _, reply, _ in replies]
 
 
 def measured(binaries, others, asked):
@@ -74,17 +75,14 @@ def main():
     made.add_argument("--documents", type=int, default=20_000)
     made.add_argument("--rounds", type=int, default=3)
     asked = made.parse_args()
-    binaries = [os.path.abspath(binary) for binary in asked.binaries]
     alone = None
-    with tempfile.TemporaryDirectory() as folder:
-        os.chdir(tempfile.mkdtemp(dir=folder))
-        for others in COUNTS:
-            found = measured(binaries, others, asked)
-            alone = alone or found
-            for name, times in found.items():
-                cells = "  ".join(f"{time:9.0f} ({time / least:.2f}) {time / times[0]:.3f}"
-                                  for time, least in zip(times, alone[name]))
-                print(f"{others:4} other paths, {name}: {cells}", flush=True)
+    for others in COUNTS:
+        found = measured(asked.binaries, others, asked)
+        alone = alone or found
+        for name, times in found.items():
+            cells = "  ".join(f"{time:9.0f} ({time / least:.2f}) {time / times[0]:.3f}"
+                              for time, least in zip(times, alone[name]))
+            print(f"{others:4} other paths, {name}: {cells}", flush=True)
 
 
 main()

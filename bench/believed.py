@@ -104,8 +104,7 @@ def main():
         crate, rest = start.split("/", 1)
         module, name = rest.rsplit(".", 1)
         if (crate, module, name) not in definitions:
-            print(f"{start}: not found")
-            continue
+            sys.exit(f"{start}: not found")
         seen = closure([(crate, module, name)], definitions, imports, files)
         lines = sum(len(definitions[it]) for it in seen)
         inside, crates = {it[:2] for it in seen}, {it[0] for it in seen}

@@ -9,10 +9,8 @@ have all of them. SQLite runs inside this script, on a database in memory, and n
 `rank_server` counts the processor time of the program, with the reading of the request and the writing of the reply. The
 twenty hits are their ids. It needs Python's sqlite3 with FTS5. Nothing tests these numbers.
 """
-import os
 import sqlite3
 import sys
-import tempfile
 import time
 
 import catalogue
@@ -25,6 +23,7 @@ def fill(program, many):
         "searchableAttributes": ["title", "text"],
         "filterableAttributes": ["brand", "price"],
         "sortableAttributes": ["price"],
+        "pagination": {"maxTotalHits": 1_000_000},
     })
     program.settle()
     base = sqlite3.connect(":memory:")
@@ -86,11 +85,7 @@ def measure(binary, many):
 
 
 def main():
-    binary = os.path.abspath(sys.argv[1])
-    many = int(sys.argv[2]) if len(sys.argv) > 2 else 100_000
-    with tempfile.TemporaryDirectory() as folder:
-        os.chdir(folder)
-        measure(binary, many)
+    measure(sys.argv[1], int(sys.argv[2]) if len(sys.argv) > 2 else 100_000)
 
 
 main()

@@ -10,11 +10,12 @@ drawn so that the k-th is about k times rarer than the first. Nothing here is a 
 it.
 """
 import json
-import os
 import random
 import subprocess
 import sys
 import time
+
+import load
 
 BATCH = 1000
 QUERIES = 100
@@ -63,7 +64,7 @@ class Program:
     """The program behind two pipes."""
 
     def __init__(self, path):
-        self.process = subprocess.Popen([path, "pipe"], stdin=subprocess.PIPE, stdout=subprocess.PIPE)
+        self.process = load.started(path, "pipe", stdin=subprocess.PIPE, stdout=subprocess.PIPE)
         self.out = self.process.stdout
         self.task = None
 

@@ -65,11 +65,12 @@ def main():
     with tempfile.TemporaryDirectory(prefix="closed-") as name:
         folder = pathlib.Path(name)
         answer = kill.answers([binary, "pipe"], folder, CHANGE + load.SETTLED[0] + QUESTION)[-1]
-        before = kill.contents(folder)
+        before = kill.read_disk.contents_of(folder)
         for word, ask in (("pipe", over_pipe), ("serve", over_serve)):
             for closed in itertools.chain(*(itertools.combinations(range(3), count) for count in range(4))):
                 status, back = ask(binary, folder, closed)
-                is_right = (status, back) == wanted(word, closed, answer) and kill.contents(folder) == before
+                is_right = ((status, back) == wanted(word, closed, answer)
+                            and kill.read_disk.contents_of(folder) == before)
                 wrong += not is_right
                 print(f"{word}, closed: {', '.join(STREAMS[number] for number in closed) or 'none'}: "
                       f"status {status}, {'as it must be' if is_right else 'NOT AS IT MUST BE'}")

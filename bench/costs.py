@@ -41,6 +41,8 @@ def seconds(binary, requests):
         piece = os.read(server.stdout.fileno(), 1 << 16)
         if not piece:
             sys.exit("costs.py: the server ended early")
+        if b"HTTP/1.1 4" in piece or b"HTTP/1.1 5" in piece:
+            sys.exit("costs.py: a request was refused")
         count += piece.count(b"HTTP/1.1 ")
     spent = time.monotonic() - begun
     writer.join()

@@ -8,19 +8,17 @@ once. Their numbers lie around zero, at the ends of what a number may be, and be
 texts, nulls, lists of several values and nested members, and in some sessions some fifty paths. Documents are replaced,
 updated and taken out one by one and by thousands, so that in the end few documents may have high internal ids. Searches
 ask for filters, sorts, counts, costs, pages and either strategy, under random orders of the rules. Each request is one
-of `pipe` to both programs, and all but the time of a search has to be the same. It prints the requests that differ and
-how many were compared, and ends with status 1 if one differs.
+of `pipe` to both programs, and the replies have to be the same. It prints the requests that differ and how many were
+compared, and ends with status 1 if one differs.
 """
 import argparse
 import json
 import random
-import re
 import subprocess
 import sys
 
 import load
 
-TIME = re.compile(rb'"processingTimeMs":\d+')
 NUMBERS = [2**63, 2**63 - 1, -(2**63), -(2**63) + 1, 2**64 - 1, 10**12, -(10**12), 127, 128, -129, 16384, 0]
 TEXTS = ["Red", "red", "BLUE", "5", "-3", "", "Grün", "a b"]
 ORDERS = [
@@ -190,7 +188,7 @@ def compare(programs, requests):
         payload = b"" if body is None else json.dumps(body, separators=(",", ":")).encode()
         replies = [program.ask(method, path, payload) for program in programs]
         asked += 1
-        if len({(status, TIME.sub(b"", text)) for status, text in replies}) > 1:
+        if len(set(replies)) > 1:
             other.append((method, path, payload[:200], replies))
     return asked, other
 

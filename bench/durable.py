@@ -81,8 +81,7 @@ def bodies(make, count):
     draw = random.Random(7)
     for first in range(1, count + 1, BATCH):
         rows = [make(draw, number) for number in range(first, first + BATCH)]
-        body = ("[" + ",".join(rows) + "]").encode()
-        yield b"POST /indexes/shop/documents HTTP/1.1\r\ncontent-length: %d\r\n\r\n" % len(body) + body
+        yield load.request(("[" + ",".join(rows) + "]").encode())
 
 
 def opening(binary, make, count):

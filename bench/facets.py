@@ -13,10 +13,7 @@ by turns, and their replies compared. Nothing here is a test: it prints, and not
 """
 import argparse
 import array
-import contextlib
-import os
 import sys
-import tempfile
 import time
 
 from catalogue import BATCH, Program
@@ -96,31 +93,24 @@ def main():
     parser.add_argument("binaries", nargs="+")
     parser.add_argument("--thousands", type=int, default=100)
     told = parser.parse_args()
-    paths = [os.path.abspath(path) for path in told.binaries]
     many = told.thousands * 1000
     plain = scan(many)
-    with contextlib.ExitStack() as folders:
-        programs = []
-        for path in paths:
-            os.chdir(folders.enter_context(tempfile.TemporaryDirectory()))
-            programs.append(loaded(path, many))
-        for what, (body, without, most) in QUESTIONS.items():
-            replies = []
-            for path, program in zip(paths, programs):
-                program.change("PATCH", "/indexes/c/settings", {"faceting": {"maxValuesPerFacet": most}})
-                program.settle()
-                rest = min(asked(program, without)[0] for _ in range(2))
-                spent, reply = min(asked(program, body) for _ in range(2))
-                spent = max(spent - rest, 0)
-                print(f"{what:8} {spent:10.1f} µs a question ({spent / plain:.3f} of a plain scan), {path}",
-                      flush=True)
-                replies.append(reply)
-            if any(reply != replies[0] for reply in replies):
-                print("the replies differ")
-        for program in programs:
-            program.process.stdin.close()
-            program.process.wait()
-        os.chdir("/")
+    programs = [loaded(path, many) for path in told.binaries]
+    for what, (body, without, most) in QUESTIONS.items():
+        replies = []
+        for path, program in zip(told.binaries, programs):
+            program.change("PATCH", "/indexes/c/settings", {"faceting": {"maxValuesPerFacet": most}})
+            program.settle()
+            rest = min(asked(program, without)[0] for _ in range(2))
+            spent, reply = min(asked(program, body) for _ in range(2))
+            spent = max(spent - rest, 0)
+            print(f"{what:8} {spent:10.1f} µs a question ({spent / plain:.3f} of a plain scan), {path}", flush=True)
+            replies.append(reply)
+        if any(reply != replies[0] for reply in replies):
+            print("the replies differ")
+    for program in programs:
+        program.process.stdin.close()
+        program.process.wait()
 
 
 if __name__ == "__main__":

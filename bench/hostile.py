@@ -270,6 +270,8 @@ def main():
     parser.add_argument("--rounds", type=int, default=1)
     asked = parser.parse_args()
     shapes = [shape for shape in SHAPES if any(part in shape.name for part in asked.only.split(","))]
+    if not shapes:
+        parser.error("no shape has such a name")
     programs, rows, begun = Programs(asked.binaries, asked.serve), [], time.monotonic()
     ratio = f" {'ratio':>8}" if len(asked.binaries) > 1 else ""
     head = f"{'shape':>46} {'bytes':>10} {'seconds':>9}{ratio} {'ns/byte':>9} {'grown':>6} {'MB':>9}{ratio} {'MB/MB':>8}"

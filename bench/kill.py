@@ -72,19 +72,14 @@ def change(draw):
 def questions():
     asked = [b"GET /indexes HTTP/1.1\r\n\r\n"]
     for uid in UIDS:
-        for rest in ("/documents?limit=1000", "/settings", "/search?q=amber"):
+        for rest in ("/documents?limit=1000000", "/settings", "/search?q=amber"):
             asked.append(f"GET /indexes/{uid}{rest} HTTP/1.1\r\n\r\n".encode())
     return asked
 
 
-def contents(folder):
-    """The bytes of the two files."""
-    return [(folder / name).read_bytes() if (folder / name).exists() else b"" for name in read_disk.FILES]
-
-
 def held(folder):
     """How many changes the two files hold, those that waited too."""
-    disks = contents(folder)
+    disks = read_disk.contents_of(folder)
     found = read_disk.active(disks)
     if found is None:
         return 0

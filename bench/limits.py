@@ -10,6 +10,7 @@ first limit under which the same two files were opened, as a multiple of the fir
 was acknowledged.
 """
 import argparse
+import atexit
 import json
 import pathlib
 import resource
@@ -35,6 +36,7 @@ def started(binary, folder, most):
     port = serve.free_port()
     words = [binary, "serve", str(port), "1000000"]
     server = subprocess.Popen(words, cwd=folder, stdout=subprocess.DEVNULL, preexec_fn=limited(most))
+    atexit.register(server.kill)
     for _ in range(1200):
         try:
             status = server.wait(0.05)

@@ -36,7 +36,9 @@ def started(binary, *words, place=IN_MEMORY, **streams):
     """A process of the program in a new folder, which goes when the script ends; in memory, where a sync costs nothing."""
     folder = tempfile.TemporaryDirectory(prefix="rank-", dir=place)
     atexit.register(folder.cleanup)
-    return subprocess.Popen([os.path.abspath(binary), *words], cwd=folder.name, **streams)
+    process = subprocess.Popen([os.path.abspath(binary), *words], cwd=folder.name, **streams)
+    atexit.register(process.kill)
+    return process
 
 
 def words(draw, count):

@@ -4,8 +4,9 @@
     bench/long.py [BIN] [--rounds N]
 
 BIN is crates/rank_server/out/rank_server, which `rt run` in crates/rank_server makes. The document has one word again
-and again, two words in turn, or words of which none comes twice. Each search is asked N times by one process with
-`pipe`, which hands out no hits, and what a process takes that asks for none is taken off. Counted is the time of the
+and again, two words in turn, or words of which none comes twice. Each search is asked N times of the longest
+document, and of a shorter one as many times more as it is shorter, by one process with `pipe`, which hands out no hits;
+what a process takes that asks for none is taken off. Counted is the time of the
 processor, the best of three runs. In brackets stands the time a word of the document against that of the shortest
 one: 1 where a search takes time in proportion to the words. Nothing tests these numbers.
 """

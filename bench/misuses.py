@@ -125,7 +125,6 @@ def copied(folder):
     for name in ("crates.txt", "HANDLES"):
         shutil.copy(REPOSITORY / name, folder)
     subprocess.run(["git", "init", "-q", folder], check=True)
-    replace(folder / "crates.txt", f"\n{CRATE}: ", f"\n{CRATE}: rule_buckets ")
     crate = folder / "crates" / CRATE
     shelves = crate / "src" / "shelves.rt"
     replace(shelves, "use row_index::{RowChange, RowIndex};", "use row_index::{PreparedRows, RowChange, RowIndex};")

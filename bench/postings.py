@@ -6,32 +6,26 @@
 BIN is crates/bench_parts/out/bench_parts, which `rt run` in crates/bench_parts makes. There are N thousand
 documents (100). Each thing is done many times by one process, and what a process takes that does it no time is taken
 off. Counted is the time of the processor, the best of two runs, and beside it stands the ratio to a plain scan of as
-many numbers of eight bytes as there are places, which this script does in the same run. Memory is that of the process
-at its peak, without that of one that keeps nothing. Nothing tests these numbers.
+many numbers of eight bytes as there are places, which this script does in the same run. Memory is that of the whole
+process at its peak. Nothing tests these numbers.
 """
 import argparse
 import array
-import resource
+import os
 import subprocess
 import time
 
 WORDS = 46
 
 
-def processor_time():
-    used = resource.getrusage(resource.RUSAGE_CHILDREN)
-    return used.ru_utime + used.ru_stime
-
-
 def run(binary, what, thousands, rounds):
     """Seconds of the processor, and the peak in kilobytes."""
-    begun = processor_time()
     with subprocess.Popen([binary, "lists", what, str(thousands), str(rounds)], stdout=subprocess.DEVNULL) as process:
-        _pid, status, used = __import__("os").wait4(process.pid, 0)
+        _pid, status, used = os.wait4(process.pid, 0)
         process.returncode = status
     if status:
         raise SystemExit(f"{binary} {what} ended with {status}")
-    return used.ru_utime + used.ru_stime if used else processor_time() - begun, used.ru_maxrss
+    return used.ru_utime + used.ru_stime, used.ru_maxrss
 
 
 def scan(places):

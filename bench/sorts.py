@@ -8,10 +8,8 @@ number of both and each direction it prints the mean processor time of a page of
 microseconds, and in brackets the ratio to the first page. Several programs are asked by turns, and their replies
 compared. Nothing here is a test: it prints, and nothing depends on it.
 """
-import os
 import random
 import sys
-import tempfile
 
 from catalogue import BATCH, Program
 
@@ -52,17 +50,16 @@ def page(program, offset, way):
 
 
 def main():
-    paths = [os.path.abspath(path) for path in sys.argv[1:]]
+    paths = sys.argv[1:]
+    if not paths:
+        sys.exit(__doc__)
     for matching, many, which, way in CASES:
         replies = []
         for path in paths:
-            with tempfile.TemporaryDirectory() as folder:
-                os.chdir(folder)
-                program = loaded(path, matching, many, which)
-                pages = [page(program, offset, way) for offset in OFFSETS if offset < matching]
-                program.process.stdin.close()
-                program.process.wait()
-                os.chdir("/")
+            program = loaded(path, matching, many, which)
+            pages = [page(program, offset, way) for offset in OFFSETS if offset < matching]
+            program.process.stdin.close()
+            program.process.wait()
             replies.append([reply for _, reply in pages])
             row = ", ".join(f"{offset}: {time:.0f} ({time / pages[0][0]:.1f})"
                             for offset, (time, _) in zip(OFFSETS, pages))

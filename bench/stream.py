@@ -61,6 +61,8 @@ def main():
     rows = pathlib.Path(sys.argv[2]).read_text().splitlines() if sys.argv[2:] else []
     stdin = with_rows((CRATE / "stdin").read_bytes(), [row for row in rows if row])
     stdout, status = answered(sys.argv[1], stdin)
+    if not stdout:
+        sys.exit(f"stream.py: the command wrote nothing and ended with {status}")
     before = replies((CRATE / "stdout").read_bytes())
     for place, reply in enumerate(replies(stdout)):
         if place >= len(before) or reply != before[place]:

@@ -9,6 +9,7 @@ the first is killed with SIGKILL, and the third is started as soon as it has end
 acknowledged, of this round and of all before it.
 """
 import argparse
+import atexit
 import itertools
 import json
 import os
@@ -32,6 +33,7 @@ class Program:
         self.port = serve.free_port() if word == "serve" else None
         words = [binary, word] if self.port is None else [binary, word, str(self.port), "1000"]
         self.process = subprocess.Popen(words, cwd=folder, stdin=subprocess.PIPE, stdout=subprocess.PIPE)
+        atexit.register(self.process.kill)
 
     def ask(self, sent):
         if self.port is not None:
@@ -47,7 +49,7 @@ class Program:
 
     def numbers(self):
         """The ids of all documents."""
-        _, body = self.ask(b"GET /indexes/shop/documents?limit=1000 HTTP/1.1\r\n\r\n")
+        _, body = self.ask(b"GET /indexes/shop/documents?limit=1000000 HTTP/1.1\r\n\r\n")
         return [document["id"] for document in json.loads(body)["results"]]
 
     def killed(self):
@@ -57,12 +59,12 @@ class Program:
 
 def refused(binary, folder, word):
     """Starts a second program, which may not begin."""
-    before = kill.contents(folder)
+    before = kill.read_disk.contents_of(folder)
     second = Program(binary, folder, word)
     written, _ = second.process.communicate()
     if (second.process.returncode, written) != (6, b""):
         sys.exit(f"a second `{word}` ended with {second.process.returncode} and wrote {written}")
-    if kill.contents(folder) != before:
+    if kill.read_disk.contents_of(folder) != before:
         sys.exit(f"a second `{word}` changed the files")
 
 

@@ -4,8 +4,8 @@
     bench/words.py [BIN] [--rounds N]
 
 BIN is crates/bench_parts/out/bench_parts, which `rt run` in crates/bench_parts makes. The texts are a megabyte of ASCII
-prose and a megabyte of prose in six scripts. Each is cut N times and scanned N times by one process each, and what a
-process takes that does neither is taken off. Nothing tests these numbers.
+prose and a megabyte of prose in six scripts. Each is cut N times by one process and scanned 20 N times by another,
+and what a process takes that does neither is taken off. Nothing tests these numbers.
 """
 import argparse
 import random

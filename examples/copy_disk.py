@@ -38,11 +38,21 @@ def is_open(header):
     return len(header) == HEADER and header[0] != 0
 
 
+def generation(file):
+    """That of the file, or 0 where it cannot be the one that counts: the file of the greater one counts."""
+    with open(file, "rb") as read:
+        header = read.read(HEADER)
+    return int.from_bytes(header[8:16], "little") if is_open(header) else 0
+
+
 def copy_file(source, target):
-    """Copies from the front to the end, up to where the file ends then."""
-    with open(source, "rb", buffering=0) as read, open(target, "wb", buffering=0) as written:
-        while piece := read.read(PIECE):
-            written.write(piece)
+    """Copies from the front to the end, up to where the file ends then; a file that is not there as an empty one."""
+    with open(target, "wb") as written:
+        if source.exists():
+            with open(source, "rb", buffering=0) as read:
+                while piece := read.read(PIECE):
+                    written.write(piece)
+        written.flush()
         os.fsync(written.fileno())
 
 
@@ -64,7 +74,8 @@ def copy(held, kept):
     while time.monotonic() < end:
         times += 1
         if copied(held, kept):
-            for name in FILES:
+            # The file that counts comes first, so that what stands there meanwhile is the copy before or this one.
+            for name in sorted(FILES, key=lambda name: generation(kept / (name + ".part")), reverse=True):
                 os.replace(kept / (name + ".part"), kept / name)
             return times
         time.sleep(0.05)

@@ -397,7 +397,10 @@ def contents_of(folder):
 
 def main():
     words = [word for word in sys.argv[1:] if word != "--documents"]
-    indexes = held(contents_of(pathlib.Path(words[0] if words else ".")), print)
+    folder = pathlib.Path(words[0] if words else ".")
+    if len(words) > 1 or not folder.is_dir():
+        sys.exit(__doc__.strip() if len(words) > 1 else f"read_disk: {folder} is no folder")
+    indexes = held(contents_of(folder), print)
     if "--documents" in sys.argv:
         for uid, index in sorted(indexes.items()):
             print(f"documents of {uid}:")

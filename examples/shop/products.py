@@ -163,6 +163,8 @@ KINDS = [
      ["A narrow frame for a print or a photograph.", "Stands on a shelf or hangs, upright or across."]),
 ]
 
+# There are so many lines, and each has one product at least.
+MOST = len(SERIES) * len(KINDS)
 CLOSINGS = ["Made in small batches.", "Spare parts are kept for ten years.", "A customer favourite.",
             "New this season.", "Designed to be repaired.", "", "", "", ""]
 
@@ -232,6 +234,8 @@ def main():
     parser.add_argument("--count", type=int, default=500)
     parser.add_argument("--seed", type=int, default=2024)
     asked = parser.parse_args()
+    if not (0 <= asked.count <= MOST and 1 <= asked.seed < MODULUS):
+        parser.error(f"--count is 0 to {MOST}, --seed 1 to {MODULUS - 1}")
     rows = [json.dumps(row, ensure_ascii=False) for row in products(asked.count, asked.seed)]
     print("[" + ",\n ".join(rows) + "]")
 
