@@ -139,9 +139,9 @@ fn two_edges_between_two_nodes(rt: HostRuntime) {
 
 // The costs of a word by the rank of its path, of which there are so many.
 fn rank_costs(rt: &impl Abort, alloc: Global, ranks: u16) -> Result<PathCosts<TwoSets>, NoMemory> {
-    let dark = Vec::from_array(alloc, [word(rt, alloc, "dark")])?;
+    let dark = Vec::from_array(alloc, [word(rt, alloc, "dark")]).expect(rt, "memory");
     let query = one_item(rt, alloc, dark, Kind::Plain);
-    let graph = conditions(alloc, &query, Rule::Field, 0, ranks)?;
+    let graph = conditions(alloc, &query, Rule::Field, 0, ranks).expect(rt, "memory");
     let sets = TwoSets {
         first: set(rt, alloc, &[2]),
         second: set(rt, alloc, &[1, 2]),
