@@ -1,6 +1,5 @@
 ghost use Rattle.std.specs.Prelude.{◌≡◌, [], map, IfOk};
 ghost use Rattle.search_base.specs.SortKeys.{leaves_under};
-ghost use Rattle.std.specs.Rc.{rc_value};
 ghost use Rattle.doc_search.specs.Valued.{values_under};
 
 use crate::documents::IndexedDocuments;
@@ -8,7 +7,6 @@ use distinct_hits::Values;
 use search_base::{DocId, FacetValue, Leaf, NoMemory, PathId};
 use std::alloc::Global;
 use std::marker::Model;
-use std::rc::Rc;
 
 /// The values of documents under a path whose leaves the index keeps, and whose values were asked for. No document is
 /// read for them.
@@ -74,25 +72,18 @@ fn values_of(
 ) -> Result<Vec<FacetValue>, NoMemory>
     ensures { IfOk result (λ values. values.items ≡ values_under documents.now.documents path.0 id.0) }
 {
-    let table = documents.leaves();
-    values_among(alloc, table.leaves(id), path)
+    let mut leaves = Vec::new(alloc);
+    documents.leaves().copy_under(id, path, &mut leaves)?;
+    values_in(alloc, leaves)
 }
 
-// The values of those of the leaves that stand under a path.
-fn values_among(
-    alloc: Global,
-    leaves: &[Rc<Leaf>],
-    path: PathId,
-) -> Result<Vec<FacetValue>, NoMemory>
-    ensures { IfOk result (λ values.
-        values.items ≡ map (λ leaf. leaf.value) (leaves_under path.0 (map rc_value leaves.now))) }
+// The values of some leaves.
+fn values_in(alloc: Global, leaves: Vec<Leaf>) -> Result<Vec<FacetValue>, NoMemory>
+    ensures { IfOk result (λ values. values.items ≡ map (λ leaf. leaf.value) leaves.items) }
 {
-    let mut values = Vec::new(alloc);
+    let mut values = Vec::with_capacity(alloc, leaves.len())?;
     for leaf in leaves {
-        let leaf = leaf.as_ref();
-        if leaf.path == path {
-            values.push(leaf.value.clone()?)?;
-        }
+        values.push(leaf.value)?;
     }
     Ok(values)
 }

@@ -1,5 +1,5 @@
 -- The rows of a table of leaves, and how they change.
-use Rattle.std.proofs.Common.{◌≡◌, ℕ, zero, suc, ◌+◌, ◌-◌, ◌<◌, ◌≤◌, Bool, true, false, not, ◌==◌, ◌||◌, cond, List, [], ◌∷◌, ◌++◌, Option, None, Some, unwrap_or, map, reverse, length, take, get_or, set, refl, sym, ap, subst, ◌∙◌, arith}
+use Rattle.std.proofs.Common.{◌≡◌, ℕ, zero, suc, ◌+◌, ◌-◌, ◌<◌, ◌≤◌, Bool, true, false, not, ◌==◌, ◌||◌, cond, List, [], ◌∷◌, ◌++◌, Option, None, Some, map, reverse, length, take, get_or, set, refl, sym, ap, subst, ◌∙◌, arith}
 use borrow.Author.Count.{below_more}
 use Rattle.std.specs.Option.{option_map}
 use Rattle.std.proofs.lemmas.Bool.{eqb-true}
@@ -10,7 +10,7 @@ use Rattle.search_base.specs.declared.document.Leaf.{Leaf}
 use Rattle.doc_sets.specs.Sets.{has}
 use Rattle.facet_index.specs.LeavesView.{LeavesView}
 use Rattle.facet_index.specs.Batches.{has_id, document_at, without, after}
-use Rattle.leaf_table.specs.Changes.{RowView, numbers, row_of, come_at, left_at}
+use Rattle.leaf_table.specs.Changes.{RowView, numbers, row_of, leaf_count, come_at, left_at}
 
 -- what stands in the rows under an id
 abbrev pub kept_in : ℕ → List (Option (List Leaf)) → Option (List Leaf)
@@ -180,23 +180,37 @@ pub record IsSetting (start rows : List (Option (List Leaf))) (come left : List 
   pub each : (id : ℕ) → come_at id (reverse come) (kept_in id start) ≡ come_at id (reverse left) (kept_in id rows)
   pub within : (k : ℕ) (d : RowView) → k < length left → (get_or left k d).id < length rows
 
-one_set : (start rows : List (Option (List Leaf))) (come left : List RowView) (row : RowView)
-    → IsSetting start rows come (row ∷ left) → IsSetting start (set rows row.id (Some row.leaves)) come left
-one_set start rows come left row setting = record {
-  each = λ id. setting.each id ∙ one_comes id row left rows (setting.within 0 row (omega arith));
-  within = λ k d less. subst (λ n. (get_or left k d).id < n) (sym (length-set rows row.id (Some row.leaves))) (setting.within (suc k) d (omega arith));
-}
-
-module _ (start rows : List (Option (List Leaf))) (come left rest : List RowView) (row : RowView) (id : ℕ) (kept : Option (List Leaf))
-    (first : left ≡ row ∷ rest) (is : record { id = id; leaves = unwrap_or kept [] } ≡ row) (setting : IsSetting start rows come left) where
+module _ (start rows : List (Option (List Leaf))) (come left : List RowView) (row : RowView) (setting : IsSetting start rows come (row ∷ left)) where
   -- one row is set
-  pub sets_one : kept ≡ Some (unwrap_or kept []) → IsSetting start (set rows id kept) come rest
-  sets_one some =
-      subst (λ row. IsSetting start (set rows id row) come rest) (sym (some ∙ ap (λ (r : RowView). Some r.leaves) is))
-      (subst (λ at. IsSetting start (set rows at (Some row.leaves)) come rest) (sym (ap (λ (r : RowView). r.id) is))
-      (one_set start rows come rest row (subst (IsSetting start rows come) first setting)))
+  pub one_set : IsSetting start (set rows row.id (Some row.leaves)) come left
+  one_set = record {
+    each = λ id. setting.each id ∙ one_comes id row left rows (setting.within 0 row (omega arith));
+    within = λ k d less. subst (λ n. (get_or left k d).id < n) (sym (length-set rows row.id (Some row.leaves))) (setting.within (suc k) d (omega arith));
+  }
 
   -- the row that comes next has its place
-  pub next_within : id < length rows
-  next_within =
-      subst (λ n. n < length rows) (sym (ap (λ (r : RowView). r.id) is)) ((subst (IsSetting start rows come) first setting).within 0 row (omega arith))
+  pub next_within : row.id < length rows
+  next_within = setting.within 0 row (omega arith)
+
+-- ---- how many leaves come
+
+count_append : (xs ys : List RowView) → leaf_count (xs ++ ys) ≡ leaf_count xs + leaf_count ys
+count_append [] ys = omega arith
+count_append (x ∷ xs) ys = let e = count_append xs ys in omega arith
+
+-- the leaves of one row more
+pub count_more : (rows : List RowView) (i : ℕ) (row : RowView) → i < length rows → row ≡ get_or rows i row
+    → leaf_count (take (i + 1) rows) ≡ leaf_count (take i rows) + length row.leaves
+count_more rows i row within is =
+    ap leaf_count (take_more rows i row within)
+    ∙ count_append (take i rows) (get_or rows i row ∷ [])
+    ∙ ap (λ (r : RowView). leaf_count (take i rows) + leaf_count (r ∷ [])) (sym is)
+    ∙ (omega arith)
+
+-- the rows in the other order
+pub count_reversed : (rows : List RowView) → leaf_count (reverse rows) ≡ leaf_count rows
+count_reversed [] = refl
+count_reversed (row ∷ rows) =
+    ap leaf_count (reverse-append (row ∷ []) rows)
+    ∙ count_append (reverse rows) (row ∷ [])
+    ∙ (let e = count_reversed rows in omega arith)

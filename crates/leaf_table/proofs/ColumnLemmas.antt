@@ -1,11 +1,11 @@
 -- Cells, and columns of them.
-use Rattle.std.proofs.Common.{◌≡◌, ℕ, ◌+◌, ◌<◌, ◌≤◌, Bool, true, false, ◌==◌, cond, ℤ, List, [], ◌∷◌, ◌++◌, Option, None, Vec, map, length, take, get_or, set, unwrap_or, ltb, refl, sym, ap, subst, ◌∙◌, arith}
+use Rattle.std.proofs.Common.{◌≡◌, ℕ, ◌+◌, ◌<◌, ◌≤◌, Bool, true, false, ◌==◌, cond, ℤ, List, [], ◌∷◌, ◌++◌, Option, Vec, length, get_or, set, unwrap_or, ltb, refl, sym, ap, subst, ◌∙◌, arith}
 use borrow.Author.Count.{below_more}
 use Rattle.std.specs.Global.{Global}
 use Rattle.std.specs.Vec.{with_items}
 use Rattle.std.proofs.lemmas.Bool.{eqb-true, false≢true}
 use Rattle.std.proofs.lemmas.Bool.Decides.{nat_tests}
-use Rattle.std.proofs.lemmas.List.{with_items_is, get_or-set_same, get_or-set_other, get_or_past, get_or_default, get_or-map, map-set, take_more, length-map, length-append, append-nil}
+use Rattle.std.proofs.lemmas.List.{with_items_is, get_or-set_same, get_or-set_other, get_or_past, get_or_default, get_or-map, map-set, length-map, length-append, append-nil}
 use Rattle.std.proofs.lemmas.List.Elements.{filter-append}
 use Rattle.std.proofs.Math.Seq.{get_or-append_seam}
 use Rattle.std.proofs.Math.ListN.{get_or-append}
@@ -55,46 +55,6 @@ cell_pushed path column rows v is told id = by (id == length column) refl
 -- what a value makes of what was told
 abbrev pub AddsTo : ℤ → ℤ → FacetValue → Type 0
 AddsTo cell next value = (leaves : List Leaf) (leaf : Leaf) → leaf.value ≡ value → Tells cell leaves → Tells next (leaves ++ leaf ∷ [])
-
-under_more : (path : ℕ) (leaves : List Leaf) (i : ℕ) (leaf : Leaf) → i < length leaves → leaf ≡ get_or leaves i leaf
-    → leaves_under path (take (i + 1) leaves) ≡ leaves_under path (take i leaves) ++ leaves_under path (leaf ∷ [])
-under_more path leaves i leaf within is =
-    ap (leaves_under path) (take_more leaves i leaf within)
-    ∙ filter-append (λ (x : Leaf). x.path.0 == path) (take i leaves) (get_or leaves i leaf ∷ [])
-    ∙ ap (λ x. leaves_under path (take i leaves) ++ leaves_under path (x ∷ [])) (sym is)
-
-module _ (path : ℕ) (leaves : List Leaf) (i : ℕ) (leaf : Leaf) (within : i < length leaves) (is : leaf ≡ get_or leaves i leaf) where
-  -- a leaf under the path is one more there
-  pub under_one : (leaf.path.0 == path) ≡ true → leaves_under path (take (i + 1) leaves) ≡ leaves_under path (take i leaves) ++ leaf ∷ []
-  under_one under = under_more path leaves i leaf within is ∙ ap (λ b. leaves_under path (take i leaves) ++ cond b (leaf ∷ []) []) under
-
-  -- a leaf elsewhere is not
-  pub under_none : (leaf.path.0 == path) ≡ false → leaves_under path (take (i + 1) leaves) ≡ leaves_under path (take i leaves)
-  under_none off =
-      under_more path leaves i leaf within is ∙ ap (λ b. leaves_under path (take i leaves) ++ cond b (leaf ∷ []) []) off
-      ∙ append-nil (leaves_under path (take i leaves))
-
-  -- what a cell tells then
-  pub told_more : (cell next : ℤ) → (leaf.path.0 == path) ≡ true → AddsTo cell next leaf.value → Tells cell (leaves_under path (take i leaves))
-      → Tells next (leaves_under path (take (i + 1) leaves))
-  told_more cell next under adds told = subst (Tells next) (sym (under_one under)) (adds (leaves_under path (take i leaves)) leaf refl told)
-
-  pub told_still : (cell : ℤ) → (leaf.path.0 == path) ≡ false → Tells cell (leaves_under path (take i leaves))
-      → Tells cell (leaves_under path (take (i + 1) leaves))
-  told_still cell off told = subst (Tells cell) (sym (under_none off)) told
-
--- a leaf that an item of a list stands for
-module _ {X : Type 0} (value : X → Leaf) (items : List X) (i : ℕ) (item : X) (leaf : Leaf) (within : i < length items)
-    (is : item ≡ get_or items i item) (same : leaf ≡ value item) where
-  pub item_within : i < length (map value items)
-  item_within = let n = length-map items value in omega (arith, within)
-
-  pub item_is : leaf ≡ get_or (map value items) i leaf
-  item_is = same ∙ ap value is ∙ sym (get_or-map value items i item leaf within)
-
-  -- the items up to one more
-  pub item_more : take (i + 1) (map value items) ≡ take i (map value items) ++ leaf ∷ []
-  item_more = take_more (map value items) i leaf item_within ∙ ap (λ x. take i (map value items) ++ x ∷ []) (sym item_is)
 
 -- ---- all columns
 
@@ -204,12 +164,6 @@ column_filled columns rows at column within are is path = by (at == path) refl
     by false h = subst (λ list. IsColumn path list rows) (sym (column_set_other columns at path column h)) (are path)
 
 -- ---- columns beside rows
-
--- rows that tell the same
-pub same_rows : (columns : List (Vec ℤ Global)) (rows new : List (Option (List Leaf)))
-    → ((id : ℕ) → get_or new id None ≡ get_or rows id None) → AreColumns columns rows → AreColumns columns new
-same_rows columns rows new same are path id =
-    subst (λ kept. Tells (cell_at path id columns) (leaves_under path (unwrap_or kept []))) (sym (same id)) (are path id)
 
 -- a row is set once the columns tell of it
 pub row_set : (columns new : List (Vec ℤ Global)) (rows : List (Option (List Leaf))) (at : ℕ) (row : Option (List Leaf)) → at < length rows

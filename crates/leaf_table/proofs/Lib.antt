@@ -1,4 +1,5 @@
 pub mod TableLemmas
 pub mod ChangeLemmas
 pub mod ColumnLemmas
+pub mod RowLemmas
 pub mod NumberLemmas

@@ -1,5 +1,5 @@
 -- Documents with their numbers, while a universe is gone over.
-use Rattle.std.proofs.Common.{◌≡◌, ℕ, ◌<◌, Bool, true, false, ◌==◌, ◌&&◌, ◌||◌, cond, ℤ, List, [], ◌∷◌, ◌++◌, map, int_lt, refl, sym, ap, subst, ◌∙◌}
+use Rattle.std.proofs.Common.{◌≡◌, ℕ, ◌<◌, Bool, true, false, ◌==◌, ◌&&◌, ◌||◌, cond, ℤ, List, [], ◌∷◌, ◌++◌, map, int_lt, refl, sym, ap, ap₂, subst, ◌∙◌}
 use Rattle.std.specs.List.{filter, list_any, AllByRecursion}
 use Rattle.std.proofs.lemmas.List.{map-append, append-nil}
 use Rattle.search_base.specs.declared.document.DocId.{DocId}
@@ -18,11 +18,34 @@ use Rattle.leaf_table.specs.Numbers.{has_between, AreNumbersOf}
 
 -- ---- whether a number is inside
 
--- whether some item stands for a leaf that passes
-pub any_of_items : {X : Type 0} (value : X → Leaf) (passes : Leaf → Bool) (items : List X)
-    → list_any (λ item. passes (value item)) items ≡ list_any passes (map value items)
-any_of_items value passes [] = refl
-any_of_items value passes (x ∷ xs) = ap (λ b. passes (value x) || b) (any_of_items value passes xs)
+-- whether the value of a leaf is a number from the one to the other
+abbrev pub is_in : ℤ → ℤ → Leaf → Bool
+is_in low high leaf = is_number_that (is_between low high) leaf.value
+
+any_append : (p : Leaf → Bool) (xs ys : List Leaf) → list_any p (xs ++ ys) ≡ (list_any p xs || list_any p ys)
+any_append p [] ys = refl
+any_append p (x ∷ xs) ys = by (p x) (any_append p xs ys)
+  where
+    by : (b : Bool) → list_any p (xs ++ ys) ≡ (list_any p xs || list_any p ys) → (b || list_any p (xs ++ ys)) ≡ ((b || list_any p xs) || list_any p ys)
+    by true later = refl
+    by false later = later
+
+-- a leaf more, which is one of them
+pub last_in : (low high : ℤ) (leaves rest : List Leaf) (leaf : Leaf) → is_in low high leaf ≡ true
+    → list_any (is_in low high) ((leaves ++ leaf ∷ []) ++ rest) ≡ true
+last_in low high [] rest leaf is = ap (λ b. b || list_any (is_in low high) rest) is
+last_in low high (x ∷ xs) rest leaf is = by (is_in low high x) (last_in low high xs rest leaf is)
+  where
+    by : (b : Bool) → list_any (is_in low high) ((xs ++ leaf ∷ []) ++ rest) ≡ true → (b || list_any (is_in low high) ((xs ++ leaf ∷ []) ++ rest)) ≡ true
+    by true later = refl
+    by false later = later
+
+-- and which is none
+pub last_out : (low high : ℤ) (leaves : List Leaf) (leaf : Leaf) → list_any (is_in low high) leaves ≡ false → is_in low high leaf ≡ false
+    → list_any (is_in low high) (leaves ++ leaf ∷ []) ≡ false
+last_out low high leaves leaf none out =
+    any_append (is_in low high) leaves (leaf ∷ [])
+    ∙ ap₂ (λ b c. b || (c || false)) none out
 
 any_under : (p : FacetValue → Bool) (path : ℕ) (leaves : List Leaf)
     → list_any (λ (x : Leaf). (x.path.0 == path) && p x.value) leaves ≡ list_any p (values_under path leaves)
@@ -129,3 +152,13 @@ module _ (path : ℕ) (table : TableView) (universe : List ℕ) where
         ∙ one_before (map (λ (pair : ℤ × DocId). pair.1.0) pairs) left id.0 ∙ yet.ids;
     only = all_push (λ (pair : ℤ × DocId). values_under path (kept_at pair.1.0 table) ≡ facet.Number pair.0 ∷ []) pairs (n, id) yet.only is;
   }
+
+-- the leaves under a path decide whether some leaf there is a number inside
+pub in_under : (path : ℕ) (low high : ℤ) (leaves : List Leaf) → list_any (is_in low high) (leaves_under path leaves) ≡ has_between path low high leaves
+in_under path low high [] = refl
+in_under path low high (x ∷ xs) = by (x.path.0 == path) (in_under path low high xs)
+  where
+    by : (b : Bool) → list_any (is_in low high) (leaves_under path xs) ≡ has_between path low high xs
+        → list_any (is_in low high) (cond b (x ∷ leaves_under path xs) (leaves_under path xs)) ≡ ((b && is_in low high x) || has_between path low high xs)
+    by true later = ap (λ b. is_in low high x || b) later
+    by false later = later

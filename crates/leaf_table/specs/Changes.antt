@@ -1,5 +1,5 @@
 -- Rows that go from a table of leaves, and rows that come.
-use Rattle.std.specs.Prelude.{◌≡◌, ℕ, ◌<◌, ◌==◌, List, [], ◌∷◌, map, length, Option, None, Some, if◌then◌else◌}
+use Rattle.std.specs.Prelude.{◌≡◌, ℕ, ◌+◌, ◌<◌, ◌≤◌, ◌==◌, List, [], ◌∷◌, map, length, Option, None, Some, if◌then◌else◌}
 use Rattle.std.specs.List.{All}
 use Rattle.search_base.specs.declared.document.DocId.{DocId}
 use Rattle.search_base.specs.declared.document.Leaf.{Leaf}
@@ -28,9 +28,15 @@ pub record IsLeafChangeOf (change : ChangeView) (gone come : List LeavesView) : 
   pub goes : change.gone ≡ map (λ document. document.id) gone
   pub comes : change.come ≡ map row_of come
 
--- the table has a row for each that comes
-abbrev pub HasRows : TableView → ChangeView → Type 0
-HasRows table change = All (λ row. row.id < length table.rows) change.come
+-- how many leaves some rows have
+abbrev pub leaf_count : List RowView → ℕ
+leaf_count [] = 0
+leaf_count (row ∷ rows) = length row.leaves + leaf_count rows
+
+-- the table has a row for each that comes, and room for its leaves
+pub record HasRows (table : TableView) (change : ChangeView) : Type 0 where
+  pub rows : All (λ row. row.id < length table.rows) change.come
+  pub room : leaf_count change.come ≤ table.room
 
 -- the row of an id once rows came: the first of them that is of the id, or else the row that stood there
 abbrev pub come_at : ℕ → List RowView → Option (List Leaf) → Option (List Leaf)

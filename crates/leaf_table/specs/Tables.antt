@@ -5,9 +5,11 @@ use Rattle.search_base.specs.declared.document.Leaf.{Leaf}
 use Rattle.facet_index.specs.LeavesView.{LeavesView}
 use Rattle.facet_index.specs.Batches.{document_at}
 
--- by their internal ids, what documents have, and none under an id of no document
+-- by their internal ids, what documents have, and none under an id of no document; and for how many leaves more there
+-- is room
 pub record TableView : Type 0 where
   pub rows : List (Option (List Leaf))
+  pub room : ℕ
 
 -- the row of an id, where it has one
 abbrev pub row_at : ℕ → TableView → Option (List Leaf)

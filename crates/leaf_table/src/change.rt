@@ -1,10 +1,9 @@
-ghost use Rattle.std.specs.Prelude.{◌≡◌, ◌<◌, List, [], ◌∷◌, IfOk, OnOk};
+ghost use Rattle.std.specs.Prelude.{◌≡◌, ◌<◌, ◌≤◌, List, [], ◌∷◌, IfOk, OnOk, IfSome};
 ghost use Rattle.std.specs.List.{All};
 ghost use Rattle.facet_index.specs.LeavesView.{LeavesView, leaves_at};
-ghost use Rattle.leaf_table.specs.Changes.{IsLeafChangeOf};
+ghost use Rattle.leaf_table.specs.Changes.{IsLeafChangeOf, leaf_count};
 
 use crate::leaf_row::LeafRow;
-use crate::shared::SharedLeaves;
 use search_base::{DocId, Leaf, NoMemory};
 use std::alloc::Global;
 use std::marker::Model;
@@ -24,22 +23,23 @@ impl Model for Row {
     ghost view = { λ row. record { id = row.id.0; leaves = row.leaves.items } };
 }
 
-/// A document that comes, with the row that it will have.
+/// A document that comes, with its leaves, and the row in which their numbers are to stand.
 #[derive(Drop)]
 pub(crate) struct PreparedRow {
     pub(crate) id: DocId,
-    pub(crate) kept: LeafRow,
+    pub(crate) leaves: Vec<Leaf>,
+    pub(crate) numbers: LeafRow,
 }
 
 impl Model for PreparedRow {
-    ghost use Rattle.std.specs.Prelude.{◌≡◌, [], Some, unwrap_or};
+    ghost use Rattle.std.specs.Prelude.{◌≡◌, [], length, IsSome, unwrap_or};
     ghost use Rattle.leaf_table.specs.Changes.{RowView};
 
     ghost Value = { RowView };
 
-    ghost view = { λ row. record { id = row.id.0; leaves = unwrap_or row.kept [] } };
+    ghost view = { λ row. record { id = row.id.0; leaves = row.leaves.items } };
 
-    ghost invariant = { λ row. row.kept ≡ Some (unwrap_or row.kept []) };
+    ghost invariant = { λ row. IsSome row.numbers × (length (unwrap_or row.numbers []) ≡ length row.leaves.items) };
 }
 
 /// Whole documents that go from a table of leaves, and others that come. One that is replaced goes and comes.
@@ -124,28 +124,38 @@ fn copy_of(alloc: Global, leaves: &[Leaf]) -> Result<Vec<Leaf>, NoMemory>
     Ok(copy)
 }
 
-// The rows of those that come, whose leaves are shared with those that are known.
-pub(crate) fn prepared_rows(
-    alloc: Global,
-    known: &mut SharedLeaves,
-    come: Vec<Row>,
-) -> Result<Vec<PreparedRow>, NoMemory>
+// The rows of those that come, with memory for the numbers of their leaves.
+pub(crate) fn prepared_rows(alloc: Global, come: Vec<Row>) -> Result<Vec<PreparedRow>, NoMemory>
     ensures { IfOk result (λ rows. rows.items ≡ come.items) }
 {
     let mut rows = Vec::with_capacity(alloc, come.len())?;
     for row in come {
-        rows.push(prepared_row(alloc, known, row)?)?;
+        rows.push(prepared_row(alloc, row)?)?;
     }
     Ok(rows)
 }
 
 // The row of one that comes.
-fn prepared_row(alloc: Global, known: &mut SharedLeaves, come: Row) -> Result<PreparedRow, NoMemory>
+fn prepared_row(alloc: Global, come: Row) -> Result<PreparedRow, NoMemory>
     ensures { IfOk result (λ row. row ≡ come) }
 {
-    let leaves = known.share_all(alloc, come.leaves)?;
-    let kept = LeafRow::of(alloc, leaves)?;
-    Ok(PreparedRow { id: come.id, kept })
+    let numbers = LeafRow::of_len(alloc, come.leaves.len())?;
+    Ok(PreparedRow {
+        id: come.id,
+        leaves: come.leaves,
+        numbers,
+    })
+}
+
+// How many leaves those that come have, where it is a number of so many bits.
+pub(crate) fn leaf_count(come: &[Row]) -> Option<usize>
+    ensures { IfSome result (λ count. leaf_count come.now ≤ count) }
+{
+    let mut count: usize = 0;
+    for row in come {
+        count = count.checked_add(row.leaves.len())?;
+    }
+    Some(count)
 }
 
 // How many rows a table needs for those that come.

@@ -1,15 +1,15 @@
 ghost use Rattle.std.specs.Prelude.{◌≡◌, ◌==◌, ◌≤◌, ℕ, true, false, int_lt, OnOk};
-ghost use Rattle.std.specs.Prelude.{List, [], ◌∷◌, ◌++◌, map, length, slice_index_or};
+ghost use Rattle.std.specs.Prelude.{List, [], ◌∷◌, ◌++◌, length, slice_index_or, vec_capacity};
 ghost use Rattle.search_base.specs.declared.document.Leaf.{Leaf};
 ghost use Rattle.search_base.specs.SortKeys.{leaves_under};
-ghost use Rattle.std.specs.Rc.{rc_value};
-ghost use Rattle.leaf_table.specs.Columns.{leaves_in, Tells, IsColumn, AreColumns, cell_in, cell_at, columns_of};
+ghost use Rattle.leaf_table.specs.Rows.{leaves_named};
+ghost use Rattle.leaf_table.specs.Columns.{Tells, IsColumn, AreColumns, cell_in, cell_at, columns_of};
 
 use crate::change::Row;
-use crate::leaf_row::LeafRow;
+use crate::leaf_rows::LeafRows;
+use crate::pool::leaf_under;
 use search_base::{DocId, FacetValue, Leaf, NoMemory, PathId};
 use std::alloc::Global;
-use std::rc::Rc;
 
 /// What a cell says where the document may have several leaves under the path, or one that is no number of 64 bits
 /// above it. A number above it is the only leaf, and below it there is none.
@@ -17,16 +17,6 @@ pub(crate) const OTHER: i64 = i64::MIN + 1;
 
 // What a cell says where the document has no leaf under the path.
 const NOTHING: i64 = i64::MIN;
-
-// The leaves of the document at this place, and none where it has no row.
-pub(crate) fn leaves_of(rows: &[LeafRow], at: usize) -> &[Rc<Leaf>]
-    ensures { map rc_value result.now ≡ leaves_in at rows.now }
-{
-    match rows.get(at) {
-        Some(row) => row.leaves(),
-        None => &[],
-    }
-}
 
 // The column of a path; an empty one where there is none.
 pub(crate) fn column_of(columns: &[Vec<i64>], path: PathId) -> &[i64]
@@ -47,8 +37,8 @@ pub(crate) fn cell_of(column: &[i64], id: DocId) -> i64
 }
 
 // Makes each column tell what the leaves of one document are.
-pub(crate) fn set_leaves(columns: &mut [Vec<i64>], id: DocId, leaves: &[Rc<Leaf>])
-    ensures told { (path : ℕ) → Tells (cell_at path id.0 columns.new) (leaves_under path (map rc_value leaves.now)) }
+pub(crate) fn set_leaves(columns: &mut [Vec<i64>], id: DocId, leaves: &[Leaf])
+    ensures told { (path : ℕ) → Tells (cell_at path id.0 columns.new) (leaves_under path leaves.now) }
     ensures others { (path d : ℕ) → (id.0 == d) ≡ false → cell_at path d columns.new ≡ cell_at path d columns.old }
 {
     unset_leaves(columns, id);
@@ -139,11 +129,11 @@ pub(crate) fn widen(
     alloc: Global,
     columns: &mut Vec<Vec<i64>>,
     counts: &mut Vec<usize>,
-    rows: &[LeafRow],
+    rows: &LeafRows,
     come: &[Row],
 ) -> Result<(), NoMemory>
-    requires { AreColumns columns.old.items rows.now }
-    ensures { AreColumns columns.new.items rows.now }
+    requires { AreColumns columns.old.items rows.now.rows }
+    ensures { AreColumns columns.new.items rows.now.rows }
 {
     for row in come {
         for leaf in &row.leaves {
@@ -171,11 +161,11 @@ fn counted(counts: &mut Vec<usize>, path: PathId) -> Result<usize, NoMemory> {
 fn widen_at(
     alloc: Global,
     columns: &mut Vec<Vec<i64>>,
-    rows: &[LeafRow],
+    rows: &LeafRows,
     path: PathId,
 ) -> Result<(), NoMemory>
-    requires { AreColumns columns.old.items rows.now }
-    ensures { AreColumns columns.new.items rows.now }
+    requires { AreColumns columns.old.items rows.now.rows }
+    ensures { AreColumns columns.new.items rows.now.rows }
 {
     let at = usize::from(path.0);
     add_columns(alloc, columns, at + 1)?;
@@ -195,13 +185,13 @@ fn add_columns(alloc: Global, columns: &mut Vec<Vec<i64>>, len: usize) -> Result
 }
 
 // Makes a column as long as the rows.
-fn fill(column: &mut Vec<i64>, path: PathId, rows: &[LeafRow]) -> Result<(), NoMemory>
-    requires { IsColumn path.0 column.old.items rows.now }
-    ensures { IsColumn path.0 column.new.items rows.now }
+fn fill(column: &mut Vec<i64>, path: PathId, rows: &LeafRows) -> Result<(), NoMemory>
+    requires { IsColumn path.0 column.old.items rows.now.rows }
+    ensures { IsColumn path.0 column.new.items rows.now.rows }
 {
     make_room(column, rows.len())?;
     while column.len() < rows.len() {
-        let cell = told(leaves_of(rows, column.len()), path);
+        let cell = rows.told(column.len(), path);
         column.push(cell)?;
     }
     Ok(())
@@ -209,7 +199,8 @@ fn fill(column: &mut Vec<i64>, path: PathId, rows: &[LeafRow]) -> Result<(), NoM
 
 // Makes room for so many items in all, and for an eighth more where there is none. They stay as they are.
 pub(crate) fn make_room<T>(items: &mut Vec<T>, len: usize) -> Result<(), NoMemory>
-    ensures { items.new.items ≡ items.old.items }
+    ensures items { items.new.items ≡ items.old.items }
+    ensures room { OnOk result (len ≤ vec_capacity items.new) }
 {
     if items.capacity() < len {
         items.reserve_exact((len - items.len()).saturating_add(len / 8))?;
@@ -217,14 +208,13 @@ pub(crate) fn make_room<T>(items: &mut Vec<T>, len: usize) -> Result<(), NoMemor
     Ok(())
 }
 
-// What the leaves are under a path.
-fn told(leaves: &[Rc<Leaf>], path: PathId) -> i64
-    ensures { Tells result (leaves_under path.0 (map rc_value leaves.now)) }
+// What the leaves of these numbers are under a path.
+pub(crate) fn told(leaves: &[Option<Leaf>], numbers: &[u32], path: PathId) -> i64
+    ensures { Tells result (leaves_under path.0 (leaves_named leaves.now numbers.now)) }
 {
     let mut cell = NOTHING;
-    for leaf in leaves {
-        let leaf = leaf.as_ref();
-        if leaf.path == path {
+    for number in numbers {
+        if let Some(leaf) = leaf_under(leaves, *number, path) {
             cell = with_value(cell, &leaf.value);
         }
     }

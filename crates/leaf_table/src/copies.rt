@@ -1,22 +1,22 @@
-ghost use Rattle.std.specs.Prelude.{◌≡◌, map, OnOk};
+ghost use Rattle.std.specs.Prelude.{◌≡◌, OnOk};
 ghost use Rattle.search_base.specs.SortKeys.{leaves_under};
-ghost use Rattle.std.specs.Rc.{rc_value};
+ghost use Rattle.leaf_table.specs.Rows.{leaves_named};
 
+use crate::pool::leaf_under;
 use search_base::{Leaf, NoMemory, PathId};
-use std::rc::Rc;
 
-// Puts copies of the leaves under a path in place of what stands in a list.
+// Puts copies of the leaves of these numbers under a path in place of what stands in a list.
 pub(crate) fn copy_under(
-    leaves: &[Rc<Leaf>],
+    leaves: &[Option<Leaf>],
+    numbers: &[u32],
     path: PathId,
     copies: &mut Vec<Leaf>,
 ) -> Result<(), NoMemory>
-    ensures { OnOk result (copies.new.items ≡ leaves_under path.0 (map rc_value leaves.now)) }
+    ensures { OnOk result (copies.new.items ≡ leaves_under path.0 (leaves_named leaves.now numbers.now)) }
 {
     copies.clear();
-    for leaf in leaves {
-        let leaf = leaf.as_ref();
-        if leaf.path == path {
+    for number in numbers {
+        if let Some(leaf) = leaf_under(leaves, *number, path) {
             copies.push(leaf.clone()?)?;
         }
     }

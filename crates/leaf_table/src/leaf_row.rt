@@ -1,35 +1,30 @@
-ghost use Rattle.std.specs.Prelude.{◌≡◌, [], map, None, Some, unwrap_or, IfOk};
-ghost use Rattle.std.specs.Rc.{rc_value};
+ghost use Rattle.std.specs.Prelude.{◌≡◌, ◌<◌, [], length, set, unwrap_or, None, IfOk, IsSome};
 
-use search_base::{Leaf, NoMemory};
+use crate::few_numbers::{FEW, FewNumbers};
+use search_base::NoMemory;
 use std::alloc::Global;
 use std::marker::Model;
-use std::rc::Rc;
 
-/// What the table has under an id: nothing, or the leaves of a document.
+/// What stands under an id: nothing, or the numbers of a document's leaves.
 #[derive(Drop)]
 pub(crate) struct LeafRow {
     kept: Kept,
 }
 
-// Leaves, each shared with the other rows that have the same. One or two stand in place.
 #[derive(Drop)]
 enum Kept {
     Nothing,
-    None,
-    One([Rc<Leaf>; 1]),
-    Two([Rc<Leaf>; 2]),
-    More(Box<Vec<Rc<Leaf>>>),
+    Few(FewNumbers),
+    More(Box<Vec<u32>>),
 }
 
 impl Model for LeafRow {
-    ghost use Rattle.std.specs.Prelude.{List, Option};
-    ghost use Rattle.search_base.specs.declared.document.Leaf.{Leaf};
-    ghost use Rattle.leaf_table.specs.Rows.{row_leaves};
+    ghost use Rattle.std.specs.Prelude.{ℕ, List, Option};
+    ghost use Rattle.leaf_table.specs.Rows.{row_numbers};
 
-    ghost Value = { Option (List Leaf) };
+    ghost Value = { Option (List ℕ) };
 
-    ghost view = { λ row. row_leaves row.kept };
+    ghost view = { λ row. row_numbers row.kept };
 }
 
 impl LeafRow {
@@ -42,39 +37,42 @@ impl LeafRow {
         }
     }
 
-    /// The row of a document with these leaves. Memory is taken for more than two.
-    pub(crate) fn of(alloc: Global, leaves: Vec<Rc<Leaf>>) -> Result<LeafRow, NoMemory>
-        ensures { IfOk result (λ row. row ≡ Some (map rc_value leaves.items)) }
+    /// A row of so many numbers, which are to be set. Memory is taken for more than five.
+    pub(crate) fn of_len(alloc: Global, len: usize) -> Result<LeafRow, NoMemory>
+        ensures some { IfOk result (λ row. IsSome row) }
+        ensures len { IfOk result (λ row. length (unwrap_or row []) ≡ len) }
     {
-        let mut leaves = leaves;
-        let kept = match leaves.len() {
-            0 => Kept::None,
-            1 => Kept::One([leaves.swap_remove(0)]),
-            2 => {
-                let second = leaves.swap_remove(1);
-                Kept::Two([leaves.swap_remove(0), second])
-            }
-            _ => Kept::More(Box::new(alloc, leaves)?),
+        let kept = if len <= FEW {
+            Kept::Few(FewNumbers::of_len(len))
+        } else {
+            let mut numbers = Vec::new(alloc);
+            numbers.resize(len, 0)?;
+            Kept::More(Box::new(alloc, numbers)?)
         };
         Ok(LeafRow { kept })
     }
 
-    /// Puts another row in the place of this one.
-    pub(crate) fn set(&mut self, row: LeafRow)
-        ensures { self.new ≡ row }
+    /// Sets the number at a place of the row.
+    pub(crate) fn set(&mut self, at: usize, number: u32)
+        requires { at < length (unwrap_or self.old []) }
+        ensures numbers { unwrap_or self.new [] ≡ set (unwrap_or self.old []) at number }
+        ensures some { IsSome self.old → IsSome self.new }
     {
-        *self = row;
+        match &mut self.kept {
+            Kept::Nothing => {}
+            Kept::Few(numbers) => numbers.set(at, number),
+            Kept::More(numbers) => numbers[at] = number,
+        }
     }
 
-    /// The leaves, and none where there is no document.
-    pub(crate) fn leaves(&self) -> &[Rc<Leaf>]
-        ensures { map rc_value result.now ≡ unwrap_or self.now [] }
+    /// The numbers, and none where there is no document.
+    pub(crate) fn numbers(&self) -> &[u32]
+        ensures { result.now ≡ unwrap_or self.now [] }
     {
         match &self.kept {
-            Kept::Nothing | Kept::None => &[],
-            Kept::One(one) => one.as_slice(),
-            Kept::Two(two) => two.as_slice(),
-            Kept::More(leaves) => leaves.as_slice(),
+            Kept::Nothing => &[],
+            Kept::Few(numbers) => numbers.as_slice(),
+            Kept::More(numbers) => numbers.as_slice(),
         }
     }
 }

@@ -10,9 +10,12 @@
 mod change;
 mod columns;
 mod copies;
+mod few_numbers;
+mod hints;
 mod leaf_row;
+mod leaf_rows;
 mod numbers;
-mod shared;
+mod pool;
 mod table;
 
 pub use change::{LeafChange, PreparedLeaves};

@@ -1,6 +1,7 @@
 pub mod WordLemmas
 pub mod ListLemmas
 pub mod RowLemmas
+pub mod GatherLemmas
 pub mod FreshLemmas
 pub mod PrefixLemmas
 pub mod TightLemmas

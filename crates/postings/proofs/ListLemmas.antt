@@ -46,14 +46,25 @@ pub has_dedup : (xs : List ℕ) (q : ℕ) → has (dedup eqb xs) q ≡ has xs q
 has_dedup [] q = refl
 has_dedup (x ∷ xs) q = has_from x xs q
 
-pub has_push : (xs : List ℕ) (x q : ℕ) → has (xs ++ x ∷ []) q ≡ (x == q || has xs q)
-has_push [] x q = refl
-has_push (y ∷ ys) x q = ap (λ b. y == q || b) (has_push ys x q) ∙ turn (y == q) (x == q) (has ys q)
+pub has_append : (xs ys : List ℕ) (q : ℕ) → has (xs ++ ys) q ≡ (has ys q || has xs q)
+has_append [] ys q = by (has ys q)
+  where
+    by : (b : Bool) → b ≡ (b || false)
+    by true = refl
+    by false = refl
+has_append (x ∷ xs) ys q = ap (λ b. x == q || b) (has_append xs ys q) ∙ turn (x == q) (has ys q) (has xs q)
   where
     turn : (a b c : Bool) → (a || (b || c)) ≡ (b || (a || c))
     turn true true c = refl
     turn true false c = refl
     turn false b c = refl
+
+pub has_push : (xs : List ℕ) (x q : ℕ) → has (xs ++ x ∷ []) q ≡ (x == q || has xs q)
+has_push xs x q = has_append xs (x ∷ []) q ∙ by (x == q) (has xs q)
+  where
+    by : (a b : Bool) → ((a || false) || b) ≡ (a || b)
+    by true b = refl
+    by false b = refl
 
 above_filter : (p : ℕ → Bool) (x : ℕ) (xs : List ℕ) → AreAbove x xs → AreAbove x (filter p xs)
 above_filter p x [] h = tt

@@ -16,7 +16,7 @@ use Rattle.postings.specs.declared.change.Side.{Side}
 use Rattle.postings.specs.declared.change.Side.TheVariants.{Goes, Comes}
 use Rattle.postings.specs.declared.change.WordChange.{WordChange}
 use Rattle.postings.specs.Dictionary.{Lists, word_cmp, value_at, entries_of, pages_at}
-use Rattle.postings.specs.Changes.{ChangeView, is_side, side_of, side_at, named, IsRowOf, IsChangeOf}
+use Rattle.postings.specs.Changes.{ChangeView, is_side, side_of, side_at, named, names, gathered, IsRowOf, IsChangeOf}
 use Rattle.postings.specs.Documents.{Document, stands_in, AreNarrow}
 use Rattle.postings.proofs.WordLemmas.{Written, same_word, by_word, itself, turned, bytes_itself, bytes_apart, written_here, written_other}
 
@@ -98,7 +98,7 @@ words_dropped {X} (r ∷ rs) left x h = (all rs h.0, words_dropped rs left x h.1
     all (q ∷ qs) a = (a.0, all qs a.1)
 
 -- no row behind has the word
-absent_behind : {X : Type 0} (word : List ℕ) (rows : List (List ℕ × X)) → AllByRecursion (λ y. word_cmp word y ≡ Less) (keys_of rows) → value_at word rows ≡ None
+pub absent_behind : {X : Type 0} (word : List ℕ) (rows : List (List ℕ × X)) → AllByRecursion (λ y. word_cmp word y ≡ Less) (keys_of rows) → value_at word rows ≡ None
 absent_behind word [] h = refl
 absent_behind word (r ∷ rs) h = cond-false _ _ _ (ap is_eq h.0) ∙ absent_behind word rs h.1
 
@@ -178,42 +178,37 @@ ok_both (Ok x) p q f = f p q
 ok_both (Err e) p q f = tt
 
 -- one document more that goes, or that comes
-pub one_more_goes : (old new : ChangeView) (d : Document) → ((s : Side) (word : List ℕ) (entry : ℕ) → named s word entry new.words
-    ≡ ((is_side Goes s && stands_in word entry d.id d.places) || named s word entry old.words)) → (gone come : List Document) → IsChangeOf old gone come → IsChangeOf new (d ∷ gone) come
+pub one_more_goes : (old new : ChangeView) (d : Document) → ((s : Side) (word : List ℕ) (entry : ℕ) → gathered s word entry new.words
+    ≡ ((is_side Goes s && stands_in word entry d.id d.places) || gathered s word entry old.words)) → (gone come : List Document) → IsChangeOf old gone come → IsChangeOf new (d ∷ gone) come
 one_more_goes old new d more gone come was = record {
   goes = λ word entry. more Goes word entry ∙ ap (λ b. stands_in word entry d.id d.places || b) (was.goes word entry);
   comes = λ word entry. more Comes word entry ∙ was.comes word entry;
   narrow = was.narrow;
 }
 
-pub one_more_comes : (old new : ChangeView) (d : Document) → ((s : Side) (word : List ℕ) (entry : ℕ) → named s word entry new.words
-    ≡ ((is_side Comes s && stands_in word entry d.id d.places) || named s word entry old.words)) → AreNarrow d.places → (gone come : List Document) → IsChangeOf old gone come → IsChangeOf new gone (d ∷ come)
+pub one_more_comes : (old new : ChangeView) (d : Document) → ((s : Side) (word : List ℕ) (entry : ℕ) → gathered s word entry new.words
+    ≡ ((is_side Comes s && stands_in word entry d.id d.places) || gathered s word entry old.words)) → AreNarrow d.places → (gone come : List Document) → IsChangeOf old gone come → IsChangeOf new gone (d ∷ come)
 one_more_comes old new d more narrow gone come was = record {
   goes = λ word entry. more Goes word entry ∙ was.goes word entry;
   comes = λ word entry. more Comes word entry ∙ ap (λ b. stands_in word entry d.id d.places || b) (was.comes word entry);
   narrow = (narrow, was.narrow);
 }
 
--- what is named after one more entry
-pub named_more : (side : Side) (word : List ℕ) (entry : ℕ) (old : Option WordChange) (new : WordChange) (m n : List (List ℕ × WordChange))
-    → value_at word m ≡ old → Written word (Some new) m n
-    → ((s : Side) (e : ℕ) → has (side_of s new) e ≡ ((is_side side s && (entry == e)) || has (side_at s old) e))
-    → (s : Side) (w : List ℕ) (e : ℕ) → named s w e n ≡ ((is_side side s && (bytes_eq word w && (entry == e))) || named s w e m)
-named_more side word entry old new m n was written more s w e =
-    by_word word (λ w. named s w e n ≡ ((is_side side s && (bytes_eq word w && (entry == e))) || named s w e m)) here there w
+-- what is named after the entries of one more row of a word
+pub named_more : (row : List ℕ × WordChange) (old : Option WordChange) (new : WordChange) (m n : List (List ℕ × WordChange))
+    → value_at row.0 m ≡ old → Written row.0 (Some new) m n
+    → ((s : Side) (e : ℕ) → has (side_of s new) e ≡ (has (side_of s row.1) e || has (side_at s old) e))
+    → (s : Side) (w : List ℕ) (e : ℕ) → named s w e n ≡ (names s w e row || named s w e m)
+named_more row old new m n was written more s w e =
+    by_word row.0 (λ w. named s w e n ≡ (names s w e row || named s w e m)) here there w
   where
-    none_more : (a c x : Bool) → x ≡ ((a && (false && c)) || x)
-    none_more true c x = refl
-    none_more false c x = refl
+    here : named s row.0 e n ≡ (names s row.0 e row || named s row.0 e m)
+    here = ap (λ o. has (side_at s o) e) (written_here row.0 (Some new) m n written) ∙ more s e
+        ∙ ap₂ (λ b o. (b && has (side_of s row.1) e) || has (side_at s o) e) (sym (bytes_itself row.0)) (sym was)
 
-    here : named s word e n ≡ ((is_side side s && (bytes_eq word word && (entry == e))) || named s word e m)
-    here = ap (λ o. has (side_at s o) e) (written_here word (Some new) m n written) ∙ more s e
-        ∙ ap₂ (λ b o. (is_side side s && (b && (entry == e))) || has (side_at s o) e) (sym (bytes_itself word)) (sym was)
-
-    there : (w : List ℕ) → is_eq (word_cmp word w) ≡ false → named s w e n ≡ ((is_side side s && (bytes_eq word w && (entry == e))) || named s w e m)
-    there w apart = ap (λ o. has (side_at s o) e) (written_other word (Some new) m n written w apart)
-        ∙ none_more (is_side side s) (entry == e) (named s w e m)
-        ∙ ap (λ b. (is_side side s && (b && (entry == e))) || named s w e m) (sym (bytes_apart word w apart))
+    there : (w : List ℕ) → is_eq (word_cmp row.0 w) ≡ false → named s w e n ≡ (names s w e row || named s w e m)
+    there w apart = ap (λ o. has (side_at s o) e) (written_other row.0 (Some new) m n written w apart)
+        ∙ ap (λ b. (b && has (side_of s row.1) e) || named s w e m) (sym (bytes_apart row.0 w apart))
 
 -- the lists after the changes of some rows
 abbrev pub Told : Lists → List (List ℕ × WordChange) → Lists → List ℕ → ℕ → Type 0

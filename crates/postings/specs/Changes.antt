@@ -1,8 +1,9 @@
 -- What a change of documents makes words lose and gain.
 use Rattle.std.specs.Prelude.{◌≡◌, ℕ, ◌+◌, ◌<◌, Bool, true, false, not, ◌&&◌, List, [], length, Option, None, Some}
-use Rattle.std.specs.List.{All}
+use Rattle.std.specs.List.{All, list_any}
 use Rattle.std.specs.List.Sorted.{IsStrictlySortedBy}
 use Rattle.std.specs.Map.{keys_of}
+use Rattle.std.specs.Str.{bytes_eq}
 use Rattle.sorted_pages.specs.Entries.{has, IsIncreasing}
 use Rattle.postings.specs.declared.change.WordChange.{WordChange}
 use Rattle.postings.specs.declared.change.Side.{Side}
@@ -29,14 +30,22 @@ abbrev pub side_at : Side → Option WordChange → List ℕ
 side_at side None = []
 side_at side (Some change) = side_of side change
 
--- whether the entry is named on this side of the word's change
+-- whether the entry is named on this side of the word's change, where each word stands in one row
 abbrev pub named : Side → List ℕ → ℕ → List (List ℕ × WordChange) → Bool
 named side word entry rows = has (side_at side (value_at word rows)) entry
 
+-- whether a row names the entry on this side of the word's change
+abbrev pub names : Side → List ℕ → ℕ → (List ℕ × WordChange) → Bool
+names side word entry row = bytes_eq row.0 word && has (side_of side row.1) entry
+
+-- whether one of the rows does, where a word may stand in several
+abbrev pub gathered : Side → List ℕ → ℕ → List (List ℕ × WordChange) → Bool
+gathered side word entry rows = list_any (names side word entry) rows
+
 -- what goes are the places of some documents, and what comes those of others
 pub record IsChangeOf (change : ChangeView) (gone come : List Document) : Type 0 where
-  pub goes : (word : List ℕ) (entry : ℕ) → named Goes word entry change.words ≡ stands word entry gone
-  pub comes : (word : List ℕ) (entry : ℕ) → named Comes word entry change.words ≡ stands word entry come
+  pub goes : (word : List ℕ) (entry : ℕ) → gathered Goes word entry change.words ≡ stands word entry gone
+  pub comes : (word : List ℕ) (entry : ℕ) → gathered Comes word entry change.words ≡ stands word entry come
   pub narrow : AllNarrow come
 
 -- the same, without what goes and comes

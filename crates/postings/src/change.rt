@@ -1,15 +1,14 @@
-ghost use Rattle.std.specs.Prelude.{◌≡◌, ℕ, List, [], ◌∷◌, ◌==◌, ◌&&◌, ◌||◌, IfOk, OnOk};
-ghost use Rattle.std.specs.Str.{bytes_eq};
+ghost use Rattle.std.specs.Prelude.{◌≡◌, ℕ, List, [], ◌∷◌, ◌==◌, ◌&&◌, ◌||◌, OnOk};
 ghost use Rattle.sorted_pages.specs.Entries.{has};
 ghost use Rattle.search_base.specs.declared.document.Place.{Place as PlaceData};
 ghost use Rattle.postings.specs.Documents.{Document, AreNarrow, is_place, stands_in};
 ghost use Rattle.postings.specs.declared.change.Side.{Side as SideData};
-ghost use Rattle.postings.specs.Changes.{is_side, side_of, named, IsChangeOf};
+ghost use Rattle.postings.specs.Changes.{is_side, side_of, gathered, IsChangeOf};
 
 use crate::entry::entry_of;
+use crate::gathered::Gathered;
 use search_base::{DocId, NoMemory, Place, Word};
 use std::alloc::Global;
-use std::collections::BTreeMap;
 use std::marker::Model;
 
 // Whether an entry goes or comes.
@@ -26,14 +25,11 @@ pub(crate) struct WordChange {
     pub(crate) come: Vec<u64>,
 }
 
-// What each word loses and gains.
-pub(crate) type WordChanges = BTreeMap<Word, WordChange>;
-
 /// Whole documents that go, and others that come. One that is replaced goes and comes, and the places that it has
 /// before and after stay.
 #[derive(Drop)]
 pub struct Change {
-    pub(crate) words: WordChanges,
+    pub(crate) gathered: Gathered,
 }
 
 impl Model for Change {
@@ -41,7 +37,7 @@ impl Model for Change {
 
     ghost Value = { ChangeView };
 
-    ghost view = { λ change. record { words = change.words.entries } };
+    ghost view = { λ change. record { words = change.gathered.rows.items } };
 }
 
 /// A change whose memory was taken. Each of its words has a place that goes or comes, and none that does both.
@@ -68,7 +64,7 @@ impl Change {
         ensures { IsChangeOf result [] [] }
     {
         Change {
-            words: BTreeMap::new(alloc),
+            gathered: Gathered::new(alloc),
         }
     }
 
@@ -77,7 +73,7 @@ impl Change {
         ensures { OnOk result ((gone come : List Document) → IsChangeOf self.old gone come
             → IsChangeOf self.new (record { id = id.0; places = places.now } ∷ gone) come) }
     {
-        name_places(alloc, &mut self.words, Side::Goes, id, places)
+        name_places(alloc, &mut self.gathered, Side::Goes, id, places)
     }
 
     /// A document comes, with these places. After a refusal the change is of no use.
@@ -85,65 +81,31 @@ impl Change {
         ensures { OnOk result ((gone come : List Document) → IsChangeOf self.old gone come
             → IsChangeOf self.new gone (record { id = id.0; places = places.now } ∷ come)) }
     {
-        name_places(alloc, &mut self.words, Side::Comes, id, places)
+        name_places(alloc, &mut self.gathered, Side::Comes, id, places)
     }
 }
 
 // Names the places of a document.
 fn name_places(
     alloc: Global,
-    words: &mut WordChanges,
+    words: &mut Gathered,
     side: Side,
     id: DocId,
     places: &[Place],
 ) -> Result<(), NoMemory>
-    ensures named { OnOk result ((s : SideData) (word : List ℕ) (entry : ℕ) → named s word entry words.new.entries
-        ≡ ((is_side side s && stands_in word entry id.0 places.now) || named s word entry words.old.entries)) }
+    ensures named { OnOk result ((s : SideData) (word : List ℕ) (entry : ℕ) → gathered s word entry words.new.rows.items
+        ≡ ((is_side side s && stands_in word entry id.0 places.now) || gathered s word entry words.old.rows.items)) }
     ensures narrow { OnOk result (AreNarrow places.now) }
 {
     for place in places {
         let entry = entry_of(id, place);
-        name_entry(alloc, words, side, &place.word, entry)?;
+        words.name(alloc, side, &place.word, entry)?;
     }
     Ok(())
-}
-
-// Names an entry of a word.
-fn name_entry(
-    alloc: Global,
-    words: &mut WordChanges,
-    side: Side,
-    word: &Word,
-    entry: u64,
-) -> Result<(), NoMemory>
-    ensures { OnOk result ((s : SideData) (w : List ℕ) (e : ℕ) → named s w e words.new.entries
-        ≡ ((is_side side s && (bytes_eq word.now w && (entry == e))) || named s w e words.old.entries)) }
-{
-    match words.get_mut(word) {
-        Some(change) => {
-            add_entry(change, side, entry)?;
-            return Ok(());
-        }
-        None => {}
-    }
-    let mut change = WordChange {
-        gone: Vec::new(alloc),
-        come: Vec::new(alloc),
-    };
-    add_entry(&mut change, side, entry)?;
-    words.insert(copy_word(word)?, change)?;
-    Ok(())
-}
-
-// The same word.
-pub(crate) fn copy_word(word: &Word) -> Result<Word, NoMemory>
-    ensures { IfOk result (λ copy. copy ≡ word.now) }
-{
-    Ok(word.clone()?)
 }
 
 // Adds an entry to one side of a word's change.
-fn add_entry(change: &mut WordChange, side: Side, entry: u64) -> Result<(), NoMemory>
+pub(crate) fn add_entry(change: &mut WordChange, side: Side, entry: u64) -> Result<(), NoMemory>
     ensures { OnOk result ((s : SideData) (e : ℕ) → has (side_of s change.new) e
         ≡ ((is_side side s && (entry == e)) || has (side_of s change.old) e)) }
 {

@@ -9,7 +9,8 @@ ghost use Rattle.postings.specs.Dictionary.{HasSameLists, HasSameOthers, IsTight
 ghost use Rattle.postings.specs.Changes.{named, AreSettled};
 ghost use Rattle.postings.specs.declared.change.Side.TheVariants.{Goes, Comes};
 
-use crate::change::{WordChange, copy_word};
+use crate::change::WordChange;
+use crate::gathered::copy_word;
 use crate::hints::Hints;
 use crate::slots::{
     Slot, change_at, clear_at, free_number, is_empty_at, is_word_at, put_at, reserve_at, slot_at,
@@ -100,7 +101,7 @@ fn add_word(alloc: Global, lists: &mut Dictionary, word: &Word) -> Result<u32, N
     let number = free_number(&mut lists.slots, &mut lists.free)?;
     match lists.numbers.insert(key, number) {
         Ok(_) => {
-            lists.hints.keep(word, number);
+            let _is_kept = lists.hints.keep(word, number);
             put_at(&mut lists.slots, number, slot);
             Ok(number)
         }

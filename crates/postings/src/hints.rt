@@ -1,3 +1,4 @@
+use crate::change::WordChange;
 use crate::slots::Slot;
 use search_base::{NoMemory, Word};
 use std::alloc::Global;
@@ -50,15 +51,15 @@ impl Hints {
         None
     }
 
-    // Keeps the number of a word, where there is a place for it. Takes no memory.
-    pub(crate) fn keep(&mut self, word: &Word, number: u32) {
+    // Keeps the number of a word, and tells whether no other went for it. Takes no memory.
+    pub(crate) fn keep(&mut self, word: &Word, number: u32) -> bool {
         if number >= NUMBER {
-            return;
+            return false;
         }
         let hash = hash_of(word);
         let row = row_of(hash, self.places.len());
         let told = tag_of(hash) | number;
-        put(self.places.as_mut_slice(), row, hash, told);
+        put(self.places.as_mut_slice(), row, hash, told)
     }
 
     // Makes the table longer where there are more words than it has places for, with the words of these slots.
@@ -66,16 +67,31 @@ impl Hints {
         if slots.len() < self.places.len() / 4 * 3 {
             return Ok(());
         }
-        let len = slots.len().saturating_mul(2).max(ROW);
-        self.places = nothing(alloc, len)?;
+        self.places = places_for(alloc, slots.len())?;
         let mut number: u32 = 0;
         for slot in slots {
             if let Some(slot) = slot {
-                self.keep(&slot.word, number);
+                let _kept = self.keep(&slot.word, number);
             }
             number = number.saturating_add(1);
         }
         Ok(())
+    }
+
+    // A table for so many words, with those of these rows, whose numbers are their places here.
+    pub(crate) fn of_rows(
+        alloc: Global,
+        rows: &[(Word, WordChange)],
+        words: usize,
+    ) -> Result<Hints, NoMemory> {
+        let places = places_for(alloc, words)?;
+        let mut hints = Hints { places };
+        let mut number: u32 = 0;
+        for row in rows {
+            let _kept = hints.keep(&row.0, number);
+            number = number.saturating_add(1);
+        }
+        Ok(hints)
     }
 }
 
@@ -90,23 +106,24 @@ fn row_of(hash: u64, places: usize) -> usize {
     (hash as usize % rows) * ROW
 }
 
-// Puts what a place is to hold into a row: where nothing stands, or else in place of something.
-fn put(places: &mut [u32], row: usize, hash: u64, told: u32) {
+// Puts what a place is to hold into a row: where nothing stands, or else in place of something. Tells which.
+fn put(places: &mut [u32], row: usize, hash: u64, told: u32) -> bool {
     for at in row..row.saturating_add(ROW) {
         if at < places.len() && places[at] == NOTHING {
             places[at] = told;
-            return;
+            return true;
         }
     }
     let at = row.saturating_add((hash >> 24) as usize % ROW);
     if at < places.len() {
         places[at] = told;
     }
+    false
 }
 
-// So many places that hold nothing.
-fn nothing(alloc: Global, len: usize) -> Result<Vec<u32>, NoMemory> {
+// Places for so many words, twice as many as they are, that hold nothing.
+fn places_for(alloc: Global, words: usize) -> Result<Vec<u32>, NoMemory> {
     let mut places = Vec::new(alloc);
-    places.resize(len, NOTHING)?;
+    places.resize(words.saturating_mul(2).max(ROW), NOTHING)?;
     Ok(places)
 }

@@ -136,7 +136,7 @@ impl Postings {
             → MatchResult result (λ prepared. IsTight prepared.words self.new.lists)
             (λ _. IsTight none self.new.lists) }
     {
-        let words = settle(alloc, change.words)?;
+        let words = settle(alloc, change.gathered.by_word(alloc)?)?;
         let rows = words.as_slice();
         self.last = last_in(rows, self.last);
         let mut numbers = Vec::new(alloc);

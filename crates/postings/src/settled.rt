@@ -2,7 +2,8 @@ ghost use Rattle.std.specs.Prelude.{◌≡◌, ℕ, ◌+◌, ◌↔◌, length, 
 ghost use Rattle.sorted_pages.specs.Entries.{has, IsIncreasing, difference};
 ghost use Rattle.postings.specs.Changes.{IsRowOf, AreSettled, AreSettledOf};
 
-use crate::change::{WordChange, WordChanges};
+use crate::change::WordChange;
+use crate::joined::WordChanges;
 use search_base::{NoMemory, Word};
 use sorted_pages::{changes_are_on_members, is_increasing};
 use std::alloc::Global;

@@ -250,7 +250,14 @@ fn the_one_number_of_each_document(rt: HostRuntime) {
 fn the_leaves_of_a_document(rt: HostRuntime) {
     let alloc = rt.alloc();
     let table = table_after(&rt, alloc, 3);
+    let mut copies = Vec::new(alloc);
     for (id, len) in [(0, 1), (1, 0), (2, 2), (3, 3), (5, 0), (7, 2), (5_000, 0)] {
-        check(&rt, table.leaves(DocId(id)).len() == len, "leaves");
+        let mut found: usize = 0;
+        for path in [PRICE, TAG, YEAR] {
+            let copied = table.copy_under(DocId(id), PathId(path), &mut copies);
+            copied.expect(&rt, "memory");
+            found = found.saturating_add(copies.len());
+        }
+        check(&rt, found == len, "leaves");
     }
 }

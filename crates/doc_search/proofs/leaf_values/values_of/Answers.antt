@@ -11,6 +11,6 @@ pub returns : goal.returns
 returns c =
     let documents = c.args.documents.now.documents in
     let id = c.args.id.0 in
-    IfOk-weaker c.values_among.result _ _ (λ values same. same
-    ∙ ap (λ leaves. map (λ (leaf : Leaf). leaf.value) (leaves_under c.args.path.0 leaves))
-    (c.leaves.ensures ∙ leaves_kept c.leaves-table.result.now (map faceted documents) c.leaves-table.ensures id ∙ sym (leaves_same documents id))) c.values_among.ensures
+    IfOk-weaker c.values_in.result _ _ (λ values same. same
+    ∙ ap (map (λ (leaf : Leaf). leaf.value)) (c.in_ok-copy_under.ensures
+    ∙ ap (leaves_under c.args.path.0) (leaves_kept c.leaves.result.now (map faceted documents) c.leaves.ensures id ∙ sym (leaves_same documents id)))) c.values_in.ensures

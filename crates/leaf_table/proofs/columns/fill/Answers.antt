@@ -10,9 +10,9 @@ use mir.Val.{SFits}
 pub loop-path-preserved : goal.loop-path-preserved
 loop-path-preserved c =
     let fits : SFits w64 c.told-cell.result = search rules in
-    let rows = c.args.rows.now in
-    let length_is : c.len-in-loop-path.result ≡ length c.loop-path.column.items = c.len-in-loop-path.ensures ∙ c.loop-path.column.ok.0 in
+    let rows = c.args.rows.now.rows in
+    let length_is : c.len-in-loop-path-3.result ≡ length c.loop-path.column.items = c.len-in-loop-path-3.ensures ∙ c.loop-path.column.ok.0 in
     subst (λ items. IsColumn c.args.path.0 items rows) (sym c.in_ok-push.ensures.items)
     (subst (λ cell. IsColumn c.args.path.0 (c.loop-path.column.items ++ cell ∷ []) rows) (sym (to_z-of_z w64 c.told-cell.result fits))
     (cell_pushed c.args.path.0 c.loop-path.column.items rows c.told-cell.result c.loop-path.invariant
-    (subst (λ leaves. Tells c.told-cell.result (leaves_under c.args.path.0 leaves)) (c.leaves_of.ensures ∙ ap (λ n. leaves_in n rows) length_is) c.told-cell.ensures)))
+    (subst (λ leaves. Tells c.told-cell.result (leaves_under c.args.path.0 leaves)) (ap (λ n. leaves_in n rows) length_is) c.told-cell.ensures)))

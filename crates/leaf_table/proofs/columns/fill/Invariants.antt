@@ -3,7 +3,7 @@ use Rattle.leaf_table.specs.Columns.{IsColumn}
 use Rattle.leaf_table.proofs.columns.fill.Given as goal
 
 abbrev pub invariant-loop-path : goal.invariant-loop-path
-invariant-loop-path l = IsColumn l.path.0 l.column.items l.rows
+invariant-loop-path l = IsColumn l.path.0 l.column.items l.rows.rows
 
 abbrev pub decreases-loop-path : goal.decreases-loop-path
-decreases-loop-path l = length l.rows - vec_len l.column
+decreases-loop-path l = length l.rows.rows - vec_len l.column

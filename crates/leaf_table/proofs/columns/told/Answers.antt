@@ -1,23 +1,25 @@
-use Rattle.std.proofs.Common.{◌≡◌, ◌<◌, map, length, get_or, rc_value, rules, sym, ◌∙◌}
+use Rattle.std.proofs.Common.{refl, sym, subst, rules}
 use Rattle.std.proofs.lemmas.Int.{to_z-of_z}
-use Rattle.leaf_table.proofs.ColumnLemmas.{item_within, item_is, told_more, told_still}
-use Rattle.leaf_table.proofs.columns.told.Goals.{then-eq, else-eq}
+use Rattle.leaf_table.specs.Columns.{Tells}
+use Rattle.leaf_table.proofs.RowLemmas.{under_some, under_none}
+use Rattle.leaf_table.proofs.columns.told.Goals.{in-Some, in_default}
 use Rattle.leaf_table.proofs.columns.told.Goals as goal
 use mir.Syntax.{w64}
-use mir.Val.{SFits}
+use mir.Val.{SFits, to_z}
 
-pub loop-leaf-preserved : goal.loop-leaf-preserved
-loop-leaf-preserved c =
-    let leaves = map rc_value c.args.leaves.now in
-    let leaf = c.as_ref-leaf.result.now in
-    let i = c.loop-leaf.leaf-index in
-    let within : i < length leaves = item_within rc_value c.args.leaves.now i c.leaf-item.result leaf c.loop-leaf-test.true c.leaf-item.is c.as_ref-leaf.ensures in
-    let is : leaf ≡ get_or leaves i leaf = item_is rc_value c.args.leaves.now i c.leaf-item.result leaf c.loop-leaf-test.true c.leaf-item.is c.as_ref-leaf.ensures in
-    elim c.if-eq.branch [
-      | then-eq w ↦
+pub loop-number-preserved : goal.loop-number-preserved
+loop-number-preserved c =
+    let leaves = c.args.leaves.now in
+    let numbers = c.args.numbers.now in
+    let path = c.args.path.0 in
+    let i = c.loop-number.number-index in
+    let within = c.loop-number-test.true in
+    elim c.match-leaf_under.branch [
+      | in-Some w ↦
           let fits : SFits w64 w.with_value-cell.result = search rules in
           rw w.cell-is (rw (to_z-of_z w64 w.with_value-cell.result fits)
-          (told_more c.args.path.0 leaves i leaf within is _ _ (sym c.eq.ensures ∙ w.if-eq.true) w.with_value-cell.ensures c.loop-leaf.invariant))
-      | else-eq w ↦
-          rw w.cell-is (told_still c.args.path.0 leaves i leaf within is _ (sym c.eq.ensures ∙ w.if-eq.false) c.loop-leaf.invariant)
+          (subst (Tells w.with_value-cell.result) (sym (under_some leaves numbers i 0 within path w.in-Some.leaf.now w.in-Some.ensures))
+          (w.with_value-cell.ensures _ w.in-Some.leaf.now refl c.loop-number.invariant)))
+      | in_default w ↦
+          rw w.cell-is (subst (Tells (to_z w64 c.loop-number.cell-bits)) (sym (under_none leaves numbers i 0 within path w.in_default.ensures)) c.loop-number.invariant)
     ]

@@ -11,7 +11,7 @@ use mir.Val.{SFits, to_z, of_z}
 
 pub returns-then-cell-gt-OTHER : goal.returns-then-cell-gt-OTHER
 returns-then-cell-gt-OTHER c =
-    let leaves = leaves_in c.args.id.0 c.args.rows.now in
+    let leaves = leaves_in c.args.id.0 c.args.rows.now.rows in
     let range = c.args.range.now in
     let told : Tells c.cell_of-cell.result (leaves_under range.path.0 leaves)
     = subst (λ cell. Tells cell (leaves_under range.path.0 leaves)) (sym c.cell_of-cell.ensures) (c.requires c.args.id.0) in
@@ -25,7 +25,7 @@ returns-then-cell-gt-OTHER c =
 
 pub returns-then-cell-lt-OTHER : goal.returns-then-cell-lt-OTHER
 returns-then-cell-lt-OTHER c =
-    let leaves = leaves_in c.args.id.0 c.args.rows.now in
+    let leaves = leaves_in c.args.id.0 c.args.rows.now.rows in
     let range = c.args.range.now in
     let told : Tells c.cell_of-cell.result (leaves_under range.path.0 leaves)
     = subst (λ cell. Tells cell (leaves_under range.path.0 leaves)) (sym c.cell_of-cell.ensures) (c.requires c.args.id.0) in

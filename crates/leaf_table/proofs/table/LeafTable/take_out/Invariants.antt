@@ -7,7 +7,8 @@ use Rattle.leaf_table.proofs.table.LeafTable.take_out.Given as goal
 abbrev pub invariant-loop-id : goal.invariant-loop-id
 invariant-loop-id l =
     record {
-      each : (id : ℕ) → kept_in id l.self-inside.rows.items ≡ left_at id (reverse (numbers (take l.id-index l.gone))) (kept_in id l.initial.self-inside.rows.items);
-      rows : length l.self-inside.rows.items ≡ length l.initial.self-inside.rows.items;
-      columns : AreColumns l.self-inside.columns.items l.self-inside.rows.items;
+      each : (id : ℕ) → kept_in id l.self-inside.rows.rows ≡ left_at id (reverse (numbers (take l.id-index l.gone))) (kept_in id l.initial.self-inside.rows.rows);
+      rows : length l.self-inside.rows.rows ≡ length l.initial.self-inside.rows.rows;
+      room : l.self-inside.rows.room ≡ l.initial.self-inside.rows.room;
+      columns : AreColumns l.self-inside.columns.items l.self-inside.rows.rows;
     }

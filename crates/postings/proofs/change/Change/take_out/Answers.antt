@@ -7,7 +7,7 @@ use Rattle.postings.proofs.change.Change.take_out.Goals as goal
 pub returns : goal.returns
 returns c =
     let d : Document = record { id = c.args.id.0; places = c.args.places.now } in
-    let old : ChangeView = record { words = c.self.inside.words.entries } in
-    let new : ChangeView = record { words = c.name_places.new.words.entries } in
+    let old : ChangeView = record { words = c.self.inside.gathered.rows.items } in
+    let new : ChangeView = record { words = c.name_places.new.words.rows.items } in
     ok_both c.name_places.result c.name_places.ensures.named c.name_places.ensures.narrow
     (λ named narrow gone come was. one_more_goes old new d named gone come (subst (λ v. IsChangeOf v gone come) (sym c.self.view_is) was))

@@ -1,4 +1,5 @@
 use Rattle.std.proofs.Common.{not, ◌&&◌, ap₂, subst, sym, ◌∙◌}
+use Rattle.postings.specs.declared.change.Side.TheVariants.{Goes, Comes}
 use Rattle.postings.specs.Changes.{IsChangeOf}
 use Rattle.postings.specs.Dictionary.{lists_of, IsTight, none}
 use Rattle.postings.proofs.TightLemmas.{tight_but}
@@ -7,10 +8,11 @@ use Rattle.postings.proofs.postings.Postings.prepare.Goals as goal
 pub returns-in-Ok-clause-made : goal.returns-in-Ok-clause-made
 returns-in-Ok-clause-made c = λ gone come change.
     let same = c.in_ok-words.ensures.same in
+    let one = c.in_ok-by_word.ensures in
     let named = subst (λ v. IsChangeOf v gone come) (sym c.change.view_is) change in
     record {
-      goes = λ word entry. same.goes word entry ∙ ap₂ (λ a b. a && not b) (named.goes word entry) (named.comes word entry);
-      comes = λ word entry. same.comes word entry ∙ ap₂ (λ a b. a && not b) (named.comes word entry) (named.goes word entry);
+      goes = λ word entry. same.goes word entry ∙ ap₂ (λ a b. a && not b) (one Goes word entry ∙ named.goes word entry) (one Comes word entry ∙ named.comes word entry);
+      comes = λ word entry. same.comes word entry ∙ ap₂ (λ a b. a && not b) (one Comes word entry ∙ named.comes word entry) (one Goes word entry ∙ named.goes word entry);
       narrow = named.narrow;
     }
 
