@@ -4,7 +4,8 @@
 //! spelled, and that damage is told by the place where the first bad field begins.
 //! Contracts see a `Change` through `change_view`, and bytes as lists of numbers; what reads a field answers, by `Gives` of
 //! specs/Answers.antt, what specs/Fields.antt reads there, unless memory ran out.
-//! Stands on `search_base` for words, on `doc_values` for changes and documents, and on `serde_json` for JSON.
+//! Stands on `search_base` for words, on `document_changes` for changes, on `doc_values` for documents, and on
+//! `serde_json` for JSON.
 #![tactic(auto)]
 
 mod change;

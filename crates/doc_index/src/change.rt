@@ -21,7 +21,7 @@ use std::alloc::Global;
 
 /// Takes the memory for documents that come, under these internal ids and in place of the stored ones of their external
 /// ids, which were read. The paths are those of the registry once the documents are stored, each used as `uses` says.
-/// Each answer of the index stays as it was, and after a refusal no room is left behind.
+/// Each answer of the index stays as it was, and after a refusal no room is left behind but that of the leaves.
 pub(crate) fn prepare_put(
     alloc: Global,
     store: &DocStore,

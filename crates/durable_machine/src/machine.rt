@@ -1,4 +1,4 @@
-ghost use Rattle.std.specs.Prelude.{◌≡◌, ◌≢◌, ◌⊎◌, ◌+◌, ◌-◌, ◌<◌, ◌≤◌, ◌^◌, ◌↔◌, ℕ, List, [], length, Bool, IsTrue, true, false, Option, None, Some, Ok, Err, IfErr, IfOk, OnOk, OnErr};
+ghost use Rattle.std.specs.Prelude.{◌≡◌, ◌≢◌, ◌⊎◌, ◌+◌, ◌-◌, ◌<◌, ◌≤◌, ◌^◌, ℕ, List, [], length, Bool, true, false, Option, None, Some, Ok, Err, IfErr, IfOk, OnOk, OnErr};
 ghost use Rattle.outside_io.specs.Disks.{Contents, fresh};
 ghost use Rattle.outside_io.specs.Faults.{Rose};
 ghost use Rattle.http_wire.specs.Sent.{IsSentAs};
@@ -204,20 +204,6 @@ impl DurableMachine {
     {
         self.machine.settle(alloc, fetches)?;
         Ok(())
-    }
-
-    /// How many tasks were accepted.
-    pub fn accepted(&self) -> u64
-        ensures { result ≡ accepted self.now.machine }
-    {
-        self.machine.accepted()
-    }
-
-    /// Whether a checkpoint is due.
-    pub fn due(&self) -> bool
-        ensures { IsTrue result ↔ IsDue self.now.journal }
-    {
-        self.journal.due()
     }
 
     // Answers a change: takes all memory for its task, makes room, and accepts it.

@@ -8,7 +8,8 @@
 //! greatest, so that `next_sort` comes to the next entry in one walk over the keys, and `sort_docs` gives the documents
 //! of an entry. It stands at the key of each text as which it is counted too, and at that of its first spelling, where
 //! this is another. `first_value` and `entry_of` tell what leaves are sorted by, without an index. The crate stands on
-//! `search_base`, `doc_sets`, `sorted_pages`, `postings`, `facet_counts`, for what is counted as one, and `facet_keys`.
+//! `search_base`, `doc_sets`, `sorted_pages`, `posting_list`, `postings`, `facet_counts`, for what is counted as one,
+//! and `facet_keys`.
 #![tactic(auto)]
 
 mod change;

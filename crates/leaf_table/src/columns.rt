@@ -7,7 +7,7 @@ ghost use Rattle.leaf_table.specs.Columns.{Tells, IsColumn, AreColumns, cell_in,
 
 use crate::change::Row;
 use crate::leaf_rows::LeafRows;
-use crate::pool::leaf_under;
+use crate::pool::{leaf_at, leaf_under};
 use search_base::{DocId, FacetValue, Leaf, NoMemory, PathId};
 use std::alloc::Global;
 
@@ -147,7 +147,7 @@ pub(crate) fn widen(
     Ok(())
 }
 
-// Counts one number more under a path, and tells how many came there.
+// Counts one number more under a path, and tells how many there are.
 fn counted(counts: &mut Vec<usize>, path: PathId) -> Result<usize, NoMemory> {
     let at = usize::from(path.0);
     while counts.len() <= at {
@@ -155,6 +155,20 @@ fn counted(counts: &mut Vec<usize>, path: PathId) -> Result<usize, NoMemory> {
     }
     counts[at] = counts[at].saturating_add(1);
     Ok(counts[at])
+}
+
+// Takes the numbers among some leaves off the counts of their paths.
+pub(crate) fn uncount(counts: &mut [usize], leaves: &[Option<Leaf>], numbers: &[u32]) {
+    for number in numbers {
+        if let Some(leaf) = leaf_at(leaves, *number) {
+            if let FacetValue::Number(_) = &leaf.value {
+                let at = usize::from(leaf.path.0);
+                if at < counts.len() {
+                    counts[at] = counts[at].saturating_sub(1);
+                }
+            }
+        }
+    }
 }
 
 // Makes the column of a path long enough, where there is memory.

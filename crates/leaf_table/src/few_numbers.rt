@@ -3,9 +3,9 @@ ghost use Rattle.std.specs.Prelude.{◌≡◌, ◌<◌, ◌≤◌, length, set};
 use std::marker::Model;
 
 /// How many numbers stand in place at most.
-pub(crate) const FEW: usize = 5;
+pub(crate) const FEW: usize = 4;
 
-/// At most five numbers, which lie in the value itself.
+/// At most four numbers, which lie in the value itself.
 #[derive(Drop)]
 pub(crate) struct FewNumbers {
     len: u8,
@@ -19,13 +19,13 @@ impl Model for FewNumbers {
 
     ghost view = { λ few. take few.len few.numbers };
 
-    ghost invariant = { λ few. few.len ≤ 5 };
+    ghost invariant = { λ few. few.len ≤ 4 };
 }
 
 impl FewNumbers {
     /// So many numbers, which are to be set.
     pub(crate) fn of_len(len: usize) -> FewNumbers
-        requires { len ≤ 5 }
+        requires { len ≤ 4 }
         ensures { length result ≡ len }
     {
         FewNumbers {

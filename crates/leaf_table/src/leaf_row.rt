@@ -37,7 +37,7 @@ impl LeafRow {
         }
     }
 
-    /// A row of so many numbers, which are to be set. Memory is taken for more than five.
+    /// A row of so many numbers, which are to be set. Memory is taken for more than four.
     pub(crate) fn of_len(alloc: Global, len: usize) -> Result<LeafRow, NoMemory>
         ensures some { IfOk result (λ row. IsSome row) }
         ensures len { IfOk result (λ row. length (unwrap_or row []) ≡ len) }

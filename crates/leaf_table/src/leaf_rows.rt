@@ -8,7 +8,7 @@ ghost use Rattle.leaf_table.specs.Rows.{leaf_in, leaves_named, room_of};
 ghost use Rattle.leaf_table.specs.Tables.{row_at};
 
 use crate::change::PreparedRow;
-use crate::columns::{make_room, told};
+use crate::columns::{make_room, told, uncount};
 use crate::copies::copy_under;
 use crate::leaf_row::LeafRow;
 use crate::numbers::{NumberRange, some_inside};
@@ -75,6 +75,12 @@ impl LeafRows {
         ensures room { OnOk result (leaves ≤ self.new.room) }
     {
         self.pool.reserve(alloc, leaves)
+    }
+
+    /// Takes the numbers of a document off the counts of their paths.
+    pub(crate) fn uncount(&self, at: usize, counts: &mut [usize]) {
+        let numbers = numbers_at(self.rows.as_slice(), at);
+        uncount(counts, self.pool.leaves.as_slice(), numbers);
     }
 
     /// Empties the row of an id.

@@ -29,7 +29,7 @@ pub struct LeafTable {
     gone: usize,
     // For each path, by its number, what each document has there, by its internal id.
     columns: Vec<Vec<i64>>,
-    // For each path how many numbers came.
+    // For each path how many numbers there are, and how many came with changes that found no memory.
     counts: Vec<usize>,
 }
 
@@ -71,7 +71,8 @@ impl LeafTable {
     }
 
     /// The documents of the universe that have a number from `low` to `high` under the path, both ends among them. Goes
-    /// over the universe once, and looks only at the leaves of those that have several there, or no number of 64 bits.
+    /// over the universe once. Looks only at the leaves of those that have several there, or one that is no number of
+    /// 64 bits above the two least, and of those behind the end of the path's column: of all where it has none.
     pub fn between(
         &self,
         alloc: Global,
@@ -90,8 +91,8 @@ impl LeafTable {
 
     /// Each document of the universe with the number that is its only leaf under the path, in the order of the
     /// universe. None where a document of the universe has no leaf there, or several, or one that is no number of 64
-    /// bits and not one of its two least; none too where so few documents have a number there that it is not known
-    /// without looking at their leaves. Goes over the universe once, and stops at the first such document.
+    /// bits above the two least; none too where so few documents have a number there that it is not known without
+    /// looking at their leaves. Goes over the universe once, and stops at the first such document.
     pub fn numbers(
         &self,
         alloc: Global,
@@ -164,6 +165,7 @@ impl LeafTable {
         for id in gone {
             if (id.0 as usize) < self.rows.len() {
                 unset_leaves(self.columns.as_mut_slice(), *id);
+                self.rows.uncount(id.0 as usize, self.counts.as_mut_slice());
                 self.rows.take_out(*id);
             }
         }

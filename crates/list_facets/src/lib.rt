@@ -7,7 +7,7 @@
 //! most 1,024 documents match, they are counted one after the other by their own leaves, and no list is looked at. Where
 //! more do, no document is looked at: the list of each value is walked against the set, or the set against the list
 //! where it is much shorter, and no set is made of it. The crate stands on `search_base`, `doc_sets`, `sorted_pages`,
-//! `postings`, `facet_counts`, `facet_keys`, `facet_index` and `leaf_table`.
+//! `posting_list`, `postings`, `facet_counts`, `facet_keys`, `facet_index` and `leaf_table`.
 #![tactic(auto)]
 
 mod ends;

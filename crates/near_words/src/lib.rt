@@ -5,7 +5,8 @@
 //! lists once. `documents_by_pair_cost` finds the documents of a universe by it: each list is walked once, and sought by
 //! steps that double where the next document is far. `documents_by_prefix_cost` does the same for a right word that is a
 //! prefix, from its gathered places. Contracts say the cost by its definition over the places of
-//! documents. The crate stands on `search_base`, `doc_sets`, `sorted_pages`, `postings` and `posting_sets`.
+//! documents. The crate stands on `search_base`, `doc_sets`, `sorted_pages`, `posting_list`, `postings` and
+//! `posting_sets`.
 #![tactic(auto)]
 
 mod asked;

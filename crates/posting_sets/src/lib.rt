@@ -5,7 +5,7 @@
 //! (`PrefixPlaces`) and asked several questions. Each answer is exactly the documents of the universe
 //! of which the definition says so, whatever documents the lists stand for. Contracts see a walk as
 //! the list of the places that it has left. The crate stands on `search_base`, `doc_sets`,
-//! `sorted_pages` and `postings`, and keeps nothing between two calls.
+//! `sorted_pages`, `posting_list` and `postings`, and keeps nothing between two calls.
 #![tactic(auto)]
 
 mod by_number;

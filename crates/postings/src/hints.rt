@@ -4,8 +4,9 @@ use search_base::{NoMemory, Word};
 use std::alloc::Global;
 
 // Where the numbers of words are likely found: a table by a hash of the words. Nothing relies on what it says, since a
-// number is taken only where its word is the one that is asked for, and else the ordered map is asked. So words that are
-// chosen to meet in one place of the table cost no more than a look-up in that map.
+// number is taken only where its word is the one that is asked for. Else a dictionary asks its ordered map, and a
+// change that is gathered takes one more row. So words that are chosen to meet in one place of the table cost a
+// dictionary no more than a look-up in that map, and a change no more than a few rows each.
 #[derive(Drop)]
 pub(crate) struct Hints {
     // Rows of places, each of which holds a number below a tag of eight bits, or nothing.
@@ -51,7 +52,8 @@ impl Hints {
         None
     }
 
-    // Keeps the number of a word, and tells whether no other went for it. Takes no memory.
+    // Keeps the number of a word, unless it is too great, and tells whether it is kept and no other went for it. Takes
+    // no memory.
     pub(crate) fn keep(&mut self, word: &Word, number: u32) -> bool {
         if number >= NUMBER {
             return false;

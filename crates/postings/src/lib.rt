@@ -7,8 +7,9 @@
 //! `release` take none and cannot be refused. A place that goes and comes stays: where a document
 //! is replaced, only the words whose places differ are part of what is prepared. A word is looked up
 //! by a hash that is only a hint: a number is taken where its word is the one that is asked for, and
-//! else the ordered map of words is asked. A change finds its words so too, while it gathers them.
-//! Each list with its sets is one of `posting_list`.
+//! else the ordered map of words is asked. A change gathers its words by such hints too: a word whose
+//! hint was lost stands in several rows, which are joined. Each list with its sets is one of
+//! `posting_list`.
 //! Contracts see postings as lists by word, a change as what each word loses and gains. The crate
 //! stands on `search_base`, `sorted_pages` and `posting_list`.
 #![tactic(auto)]

@@ -1,4 +1,4 @@
-ghost use Rattle.std.specs.Prelude.{◌≡◌, ◌≢◌, ◌+◌, ◌-◌, ◌^◌, ◌<◌, ◌≤◌, ◌↔◌, [], IsTrue, nat_le, length, IfOk, OnOk, OnErr};
+ghost use Rattle.std.specs.Prelude.{◌≡◌, ◌≢◌, ◌+◌, ◌-◌, ◌^◌, ◌<◌, ◌≤◌, ◌↔◌, [], IsTrue, length, IfOk, OnOk, OnErr};
 ghost use Rattle.std.specs.List.{AllByRecursion};
 ghost use Rattle.std.specs.Option.{option_map};
 ghost use Rattle.task_queue.specs.Queue.{AreNumbered, found, shown, most_queued};
@@ -76,13 +76,6 @@ impl<C: Drop, W: Worker<C>> Queued<C, W> {
         ensures { result ≡ self.now.finished }
     {
         self.queue.finished()
-    }
-
-    /// Whether 16 tasks wait.
-    pub fn is_full(&self) -> bool
-        ensures { result ≡ nat_le most_queued (length self.now.queue) }
-    {
-        self.queue.full()
     }
 
     /// The tasks that wait, in order.

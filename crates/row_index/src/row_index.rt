@@ -98,7 +98,7 @@ impl RowIndex {
 
     /// Takes all memory that the change needs: in proportion to the change, a bit or an id for each document that
     /// stands, and an empty row of leaves for each id up to the greatest that comes. Each answer stays as it was,
-    /// whatever the result, and after a refusal no room is left behind but such rows.
+    /// whatever the result, and after a refusal no room is left behind but such rows and room for leaves.
     pub fn prepare(&mut self, alloc: Global, change: RowChange) -> Result<PreparedRows, NoMemory>
         ensures answers { AnswersAsBefore self.old self.new }
         ensures same { (documents : List IndexedDocument) → StandsFor self.old documents → StandsFor self.new documents }
@@ -158,8 +158,8 @@ impl RowIndex {
         self.ids = prepared.ids;
     }
 
-    /// Gives back the room of a prepared change that is not to be made, but for empty rows of leaves. Each answer stays
-    /// as it was. Takes no memory.
+    /// Gives back the room of a prepared change that is not to be made, but for empty rows of leaves and room for
+    /// leaves. Each answer stays as it was. Takes no memory.
     pub fn release(&mut self, prepared: PreparedRows)
         ensures answers { AnswersAsBefore self.old self.new }
         ensures same { (documents : List IndexedDocument) → StandsFor self.old documents → StandsFor self.new documents }

@@ -10,7 +10,7 @@
 //! index, on index_image and change_payloads for images and payloads, on request_calls, which reads a request into a
 //! call, on search_bodies for several searches in one body, on request_refusals for why a request is refused, on
 //! request_replies for what is shown of what was done, on multi_search for making several searches in one call, on
-//! doc_values for documents and changes, and on http_wire for requests and replies.
+//! doc_values for documents, on document_changes for changes, and on http_wire for requests and replies.
 #![tactic(auto)]
 
 mod asking;
